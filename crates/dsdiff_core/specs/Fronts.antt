@@ -1,4 +1,4 @@
--- Where the sound of a file stands, as the front of the file tells (DSDIFF 1.5).
+-- Where a file holds its sound, as the bytes before it say (DSDIFF 1.5). The front is these first bytes.
 use Rattle.std.specs.Prelude.{◌≡◌, ◌≤◌, ℕ, zero, suc, ◌+◌, ◌*◌, ◌/◌, ◌%◌, ◌-◌, not, List, [], ◌∷◌, filter, length, map, take, drop, slice_index, slice_range, Option, Some, None, Result, Ok, Err, nat_eq, nat_lt, if◌then◌else◌}
 use Rattle.byteorder.specs.Endian.{big_number}
 use Rattle.chunk_core.specs.declared.fault.ChunkFault.TheVariants.{DataCut}
@@ -28,16 +28,16 @@ use Rattle.dsdiff_core.specs.Steps.{walked}
 abbrev pub IsAccepted : List ℕ → Type 0
 IsAccepted file = (r : Content) × IsDsdiff file r
 
--- the size in the head at a place
+-- the size in the header at a place
 abbrev pub size_at : List ℕ → ℕ → ℕ
 size_at front at = big_number 8 (drop (at + 4) front)
 
--- the place behind chunks that follow each other from a place on, each with its pad
+-- the place after chunks that follow each other from a place on, each with its pad
 abbrev pub behind : ℕ → List Chunk → ℕ
 behind at [] = at
 behind at (c ∷ cs) = behind (at + width c) cs
 
--- the bytes hold the head of the sound: chunks of the form, of which none is a sound, lead up to it
+-- the bytes hold the header of the sound: chunks of the form, none of which is a sound, lead up to it
 pub record HoldsHead (front : List ℕ) : Type 0 where
   pub at : ℕ
   pub before : List Chunk
@@ -47,7 +47,8 @@ pub record HoldsHead (front : List ℕ) : Type 0 where
   pub id : take 4 (drop at front) ≡ DSD
   pub whole : at + 12 ≤ length front
 
--- the front of a file tells of this sound: a form, chunks of which none is a sound, the head of the sound, and what version and sound property say
+-- the front of a file describes this sound: it has a form, chunks none of which is a sound, the header of the sound,
+-- and what version and sound property say
 pub record TellsSound (front : List ℕ) (s : Sound) : Type 0 where
   -- the form begins
   pub form : take 4 front ≡ FRM8
@@ -67,7 +68,7 @@ pub record TellsSound (front : List ℕ) (s : Sound) : Type 0 where
   pub property : Chunk
   pub one_property : filter is_property before ≡ property ∷ []
   pub property_tells : TellsProperty property s.rate s.channels
-  -- the head of the sound, whose bytes end in the form, if not in the front: whole frames of them
+  -- the header of the sound, whose bytes end in the form, if not in the front: whole frames of them
   pub id : take 4 (drop at front) ≡ DSD
   pub whole_head : at + 12 ≤ length front
   pub in_form : at + size_at front at ≤ form_size front
@@ -80,7 +81,8 @@ pub record TellsSound (front : List ℕ) (s : Sound) : Type 0 where
 
 -- ---- the reading of a front in order
 
--- the place of the first head of a sound among chunks from a place on, in a form of this size and in at most so many steps; none where more bytes are wanted
+-- the place of the first header of a sound among chunks from a place on, in a form of this size and in at most n steps;
+-- none if more bytes are needed
 unfoldable pub seek_for : ℕ → ℕ → List ℕ → ℕ → Result (Option ℕ) DsdiffFault
 seek_for zero at front size = Ok None
 seek_for (suc steps) at front size =
@@ -91,7 +93,7 @@ seek_for (suc steps) at front size =
     else if nat_lt (length front) (at + 12 + size_at front at) then Ok None
     else seek_for steps (at + (12 + size_at front at + size_at front at % 2)) front size
 
--- the place of the head of the sound: there are no more chunks than bytes
+-- the place of the header of the sound: there are no more chunks than bytes
 unfoldable pub seek : List ℕ → Result (Option ℕ) DsdiffFault
 seek front = seek_for (length front) 16 front (form_size front)
 
@@ -103,20 +105,20 @@ form_of front =
     else if nat_lt (form_size front) 4 then Err FormCut
     else Ok tt
 
--- the place of the head of the sound that the front of a file leads to; none where more bytes are wanted
+-- the place of the header of the sound that the front of a file leads to; none if more bytes are needed
 unfoldable pub located : List ℕ → Result (Option ℕ) DsdiffFault
 located front = if nat_lt (length front) 16 then Ok None else do
   form ← form_of front
   seek front
 
--- the size is that of whole frames of so many channels, within the limit
+-- the size is that of whole frames of n channels, within the limit
 abbrev pub frames_of : ℕ → ℕ → Result (Unit {0}) DsdiffFault
 frames_of size number =
     if not (nat_eq (size % number) 0) then Err PartFrame
     else if nat_lt most_bits (8 * (size / number)) then Err TooLong
     else Ok tt
 
--- the sound of this rate, channel number and size whose head stands at a place
+-- the sound of this rate, channel number and size whose header is at a place
 abbrev pub sound_told : ℕ → ℕ → ℕ → ℕ → Sound
 sound_told rate number at size = record {
   rate = rate;
@@ -135,7 +137,7 @@ leading_of front at = do
   once ← once_each (top_kinds front) [] top
   Ok top
 
--- the sound whose head stands at a place, where the chunks before it tell what it is
+-- the sound whose header is at a place, if the chunks before it say what it is
 unfoldable pub sound_behind : List ℕ → ℕ → Result Sound DsdiffFault
 sound_behind front at = do
   top ← leading_of front at
@@ -143,38 +145,39 @@ sound_behind front at = do
   frames ← frames_of (size_at front at) (length told.ids)
   Ok (sound_told told.rate (length told.ids) at (size_at front at))
 
--- the sound that the front of a file leads to; none where more bytes are wanted
+-- the sound that the front of a file leads to; none if more bytes are needed
 abbrev pub sound_from : List ℕ → Option ℕ → Result (Option Sound) DsdiffFault
 sound_from front None = Ok None
 sound_from front (Some at) = sound_behind front at >>= λ s. Ok (Some s)
 
--- the same from the first byte on, in the order of the reading: the form begins, the head of the sound is found, the chunks before it tell what it is
+-- the same from the first byte on, in the order of reading: the form begins, the header of the sound is found, the
+-- chunks before it say what it is
 unfoldable pub sound_in : List ℕ → Result (Option Sound) DsdiffFault
 sound_in front = do
   place ← located front
   sound_from front place
 
--- what is told of the sound
+-- the result without the fault
 abbrev pub answer_of : Result (Option Sound) DsdiffFault → SoundAt
 answer_of (Ok (Some s)) = Found s
 answer_of (Ok None) = More
 answer_of (Err e) = Refused
 
--- what the front of a file tells of its sound
+-- what the front of a file says about its sound
 abbrev pub sound_at : List ℕ → SoundAt
 sound_at front = answer_of (sound_in front)
 
--- the front of a file tells of this sound, and ends where that starts
+-- the front of a file describes this sound, and ends where that starts
 pub record EndsAt (front : List ℕ) (s : Sound) : Type 0 where
   pub found : sound_at front ≡ Found s
   pub start : s.start ≡ length front
 
 -- ---- behind the sound
 
--- how many bytes of the form stand behind a sound of this size, of which the last may be missing
+-- the number of bytes of the form after a sound of this size, of which the last may be missing
 abbrev pub left_behind : List ℕ → ℕ → ℕ
 left_behind front size = 12 + form_size front - (length front + size)
 
--- the front of a file ends where a sound starts that it tells of
+-- the front of a file describes a sound, and ends where that starts
 abbrev pub EndsAtSound : List ℕ → Type 0
 EndsAtSound front = (s : Sound) × EndsAt front s

@@ -1,4 +1,4 @@
--- Files whose sound isn't held.
+-- Files whose sound isn't in memory.
 use Rattle.std.specs.Prelude.{◌≡◌, ◌≤◌, ◌<◌, ℕ, ◌+◌, ◌^◌, ◌⊎◌, true, List, [], ◌++◌, length, replicate}
 use Rattle.chunk_core.specs.declared.layout.Span.{Span}
 use Rattle.dsd_bits.specs.declared.marks.Place.{Place}
@@ -9,34 +9,35 @@ use Rattle.dsdiff_core.specs.Fronts.{IsAccepted}
 use Rattle.dsdiff_core.specs.Located.{EndsAtHead, sound_size}
 use Rattle.dsdiff_core.specs.Spans.{span_has}
 
--- the bytes of the file, zeros in place of those that aren't held
+-- the bytes of the file, with zeros in place of those that aren't in memory
 abbrev pub held : Held → List ℕ
 held f = f.front.now ++ (replicate f.hole 0 ++ f.back.now)
 
--- its front ends at the head of the sound, which isn't held, and it has fewer than 2^64 bytes
+-- its front ends after the header of the sound, which isn't in memory, and it has fewer than 2^64 bytes
 abbrev pub IsAround : Held → Type 0
 IsAround f = EndsAtHead f.front.now × (f.hole ≡ sound_size f.front.now) × (length f.front.now + f.hole + length f.back.now < 2 ^ 64)
 
--- the file is held whole, or around its sound
+-- the whole file is in memory, or the file without its sound
 abbrev pub IsHeld : Held → Type 0
 IsHeld f = ((f.hole ≡ 0) × (f.back.now ≡ [])) ⊎ IsAround f
 
--- the span's data are held
+-- the span's data are in memory
 pub record StandsIn (f : Held) (s : Span) : Type 0 where
   pub short : s.start + s.size < 2 ^ 64
   pub side : (s.start + s.size ≤ length f.front.now) ⊎ ((length f.front.now + f.hole ≤ s.start) × (s.start + s.size ≤ length f.front.now + f.hole + length f.back.now))
 
--- the span's data are held, or those of a sound in the file
+-- the span's data are in memory, or those of a sound in the file
 abbrev pub MayStand : Held → Span → Type 0
 MayStand f s = StandsIn f s ⊎ ((span_has DSD s ≡ true) × (s.start + s.size ≤ length (held f)))
 
--- the same of a place's chunks: a sound stands in the form alone
+-- the same for the chunks of a place: only the form has a sound
 abbrev pub StandsFor : Place → Held → Span → Type 0
 StandsFor Property f s = StandsIn f s
 StandsFor Master f s = StandsIn f s
 StandsFor Form f s = MayStand f s
 
--- the file is what is held of it around its sound, and these bytes of sound; where it is held whole, it holds no recording
+-- the file is the bytes in memory around its sound, and these bytes of sound; if all of it is in memory, it holds no
+-- recording
 pub record IsParted (file : List ℕ) (f : Held) (sound : List ℕ) : Type 0 where
   pub is_held : IsHeld f
   pub is : file ≡ f.front.now ++ (sound ++ f.back.now)

@@ -1,15 +1,15 @@
--- Where the sound of a file stands.
+-- Where a file holds its sound.
 use Rattle.std.specs.Prelude.{◌≡◌, ◌≤◌, ℕ, ◌+◌, ◌-◌, List, length, take, drop}
 use Rattle.dsd_bits.specs.Ids.{DSD}
 use Rattle.dsdiff_core.specs.Fields.{form_size}
 use Rattle.dsdiff_core.specs.Fronts.{HoldsHead, size_at}
 use Rattle.dsdiff_core.specs.Kinds.{FRM8}
 
--- the size of the sound whose head ends the front
+-- the size of the sound whose header ends the front
 abbrev pub sound_size : List ℕ → ℕ
 sound_size front = size_at front (length front - 12)
 
--- a form begins in the front, which ends with the head of the first sound of the form, whose bytes end in the form
+-- a form begins in the front, which ends with the header of the first sound of the form, whose bytes end in the form
 pub record EndsAtHead (front : List ℕ) : Type 0 where
   pub form : take 4 front ≡ FRM8
   pub kind : take 4 (drop 12 front) ≡ DSD

@@ -1,4 +1,4 @@
--- What the bytes around a sound tell beside its bits.
+-- What the bytes around a sound say about a file, besides its bits.
 use Rattle.std.specs.Prelude.{◌≡◌, ℕ, List, [], ◌++◌, length, replicate, Option, Some, None}
 use Rattle.dsd_bits.specs.declared.sound.Sound.{Sound}
 use Rattle.dsd_bits.specs.Contents.{Content}
@@ -6,7 +6,8 @@ use Rattle.dsd_bits.specs.Lacing.{unlaced_all}
 use Rattle.dsdiff_core.specs.Files.{IsDsdiff}
 use Rattle.dsdiff_core.specs.Fronts.{IsAccepted}
 
--- what front and back tell of a file beside its bits: that there is none, whatever its sound; or the recording of each such file, but for its channels, which have no bits here
+-- what front and back say about a file, besides its bits: it is not accepted, whatever its sound; or the recording of
+-- each such file, with empty channels in place of its own
 abbrev pub TellsOutline : List ℕ → Sound → List ℕ → Option Content → Type 0
 TellsOutline front s back None = (sound : List ℕ) → length sound ≡ s.size → IsAccepted (front ++ (sound ++ back)) → ⊥
 TellsOutline front s back (Some o) =

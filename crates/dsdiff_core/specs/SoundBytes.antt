@@ -12,7 +12,7 @@ abbrev pub with_sound : List ℕ → Result Content DsdiffFault → Result Conte
 with_sound sound (Ok r) = Ok (record r { channels = unlaced_all sound (length r.ids) })
 with_sound sound (Err e) = Err e
 
--- what a file tells beside the bits of its sound, or the first fault
+-- what a file holds besides the bits of its sound, or the first fault
 abbrev pub description_of : List ℕ → Result Described DsdiffFault
 description_of file = recording_of file >>= λ r. Ok (described r)
 
@@ -20,7 +20,7 @@ description_of file = recording_of file >>= λ r. Ok (described r)
 abbrev pub with_zeros : List ℕ → List ℕ → List ℕ
 with_zeros front back = front ++ (replicate (sound_size front) 0 ++ back)
 
--- other sound bytes, as many of them, change nothing of what is read but the channels
+-- replacing the sound bytes by as many others changes nothing of what is read but the channels
 abbrev pub SoundIsFree : Type 0
 SoundIsFree =
     (front sound other back : List ℕ) → EndsAtHead front → length sound ≡ sound_size front → length other ≡ sound_size front

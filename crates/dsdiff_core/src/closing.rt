@@ -1,4 +1,4 @@
-//! What the bytes around the sound of a file say of it.
+//! What the bytes around the sound of a file say about it.
 
 ghost use Rattle.std.specs.Prelude.{◌≡◌, ◌≤◌, ◌<◌, ◌+◌, ◌-◌, ◌++◌, ◌↔◌, List, ℕ, IfErr, IfOk, Err, Some, length, replicate, true};
 ghost use Rattle.std.specs.Result.{result_ok};
@@ -18,8 +18,8 @@ use chunk_core::{ChunkFault, Order, u64_at};
 use dsd_bits::{Description, Recording};
 use std::alloc::{AllocError, Global};
 
-/// How many bytes of the form stand behind the sound of a file that begins with `front`, which ends where the
-/// sound starts: its pad and the later chunks. The last of them may be missing, a last pad.
+/// How many bytes of the form follow the sound of a file that begins with `front`, which ends where the sound starts:
+/// its pad and the later chunks. The last of these bytes may be missing if it is a pad.
 ///
 /// It takes no memory.
 pub fn bytes_behind(front: &[u8]) -> u64
@@ -31,7 +31,7 @@ pub fn bytes_behind(front: &[u8]) -> u64
     size_at(front, 0) - at as u64 - size_at(front, at)
 }
 
-// The size in the head at a place.
+// The size in the header at a place.
 fn size_at(front: &[u8], at: usize) -> u64
     requires { at + 12 ≤ length front.now }
     ensures { result ≡ size_at front.now at }
@@ -39,11 +39,10 @@ fn size_at(front: &[u8], at: usize) -> u64
     u64_at(Order::Big, front, at + 4)
 }
 
-/// Whether a file is accepted that is `front`, which ends where the sound starts, so many zero bytes as the
-/// sound has, and `back`. Which bytes the sound has does not matter
-/// ([`crate::bytes_of_sound_do_not_matter`]).
+/// Whether a file is accepted that is `front`, which ends where the sound starts, then as many zero bytes as the sound
+/// has, then `back`. Which bytes the sound has does not matter ([`crate::bytes_of_sound_do_not_matter`]).
 ///
-/// It fails for want of memory alone.
+/// The only refusal is out of memory.
 pub fn closes(alloc: Global, front: &[u8], back: &[u8]) -> Result<bool, AllocError>
     requires { EndsAtSound front.now }
     ensures { (s : Sound) → EndsAt front.now s → IfOk result (λ b. (b ≡ true)
@@ -94,7 +93,7 @@ fn fault_told(front: &[u8], total: u64) -> DsdiffFault
     DsdiffFault::Chunk(ChunkFault::DataCut(front.len() - 12))
 }
 
-// What is described, where it is accepted.
+// What is described, if it is accepted.
 fn told_around(alloc: Global, front: &[u8], back: &[u8]) -> Result<Option<Description>, AllocError>
     requires { EndsAtHead front.now }
     ensures { IfOk result (λ o. o ≡ result_ok (description_of (with_zeros front.now back.now))) }

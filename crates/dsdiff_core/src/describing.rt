@@ -1,4 +1,4 @@
-//! What a file tells beside the bits of its sound.
+//! What a file holds besides the bits of its sound.
 
 ghost use Rattle.std.specs.Prelude.{◌≡◌, ◌++◌, List, ℕ, length};
 ghost use Rattle.dsdiff_core.specs.Held.{IsHeld, held};
@@ -18,11 +18,11 @@ use chunk_core::{Order, u64_at};
 use dsd_bits::{Description, Metadata, usual_layout};
 use std::alloc::Global;
 
-/// What a file tells beside the bits of its sound: `front` ends where the bytes of the sound start, and `back` is what
-/// stands behind them. The bytes between aren't asked for: whichever they are, as many as the head of the sound says,
-/// this is the description of the recording that [`crate::read`] finds, or the fault with which it refuses the file.
+/// What a file holds besides the bits of its sound. `front` ends where the bytes of the sound start, and `back` is what
+/// follows them. The bytes between aren't needed: whichever they are, as many as the header of the sound says, this is
+/// the description of the recording that [`crate::read`] returns, or the fault with which it refuses the file.
 ///
-/// `Memory` may come in place of any of them, and does where the file would have `2^64` bytes or more.
+/// `Memory` may come in place of any of them, and comes if the file would have `2^64` bytes or more.
 pub fn describe(alloc: Global, front: &[u8], back: &[u8]) -> Result<Description, DsdiffFault>
     requires { EndsAtHead front.now }
     ensures { (sound : List ℕ) → length sound ≡ sound_size front.now
@@ -50,7 +50,7 @@ pub(crate) fn describe_around(
     describe_held(alloc, Held { front, hole, back })
 }
 
-/// The same of a file as it is held.
+/// The same for a file as it is held.
 #[tactic(auto, unfolding(crate::specs::Reading::recording_of))]
 pub(crate) fn describe_held(alloc: Global, file: Held) -> Result<Description, DsdiffFault>
     requires { IsHeld file }

@@ -27,8 +27,8 @@ pub(crate) enum Place {
     Lost(DsdiffFault),
 }
 
-/// Where the head of the sound of a file stands, told by the front of the file alone; none where more bytes are wanted.
-/// A fault says that no file that begins so has a sound that can be read.
+/// The place of the header of a file's sound, from the first bytes of the file alone; none if more bytes are needed. A
+/// fault says that no file that begins like this has a sound that can be read.
 pub(crate) fn find_sound(front: &[u8]) -> Result<Option<usize>, DsdiffFault>
     ensures exact { located front.now ≡ result }
     ensures whole { IfOk result (λ x. IfSome x (λ at. (16 ≤ at) × (at + 12 ≤ length front.now))) }
@@ -44,7 +44,7 @@ pub(crate) fn find_sound(front: &[u8]) -> Result<Option<usize>, DsdiffFault>
     }
 }
 
-/// Refuses a front in which no form begins.
+/// Refuses first bytes in which no form begins.
 #[tactic(auto, unfolding(crate::specs::Fronts::form_of))]
 pub(crate) fn check_form(front: &[u8]) -> Result<(), DsdiffFault>
     requires { 16 ≤ length front.now }
@@ -87,7 +87,7 @@ pub(crate) fn find_head(front: &[u8], size: u64, from: usize) -> Place
     Place::Lost(DsdiffFault::NoSound)
 }
 
-/// The sound whose head stands at a place.
+/// The sound whose header is at a place.
 #[tactic(auto, unfolding(crate::specs::Fronts::sound_behind))]
 pub(crate) fn read_sound(alloc: Global, front: Held, at: usize) -> Result<Sound, DsdiffFault>
     requires from { 16 ≤ at }

@@ -1,4 +1,4 @@
-//! A file whose sound isn't held.
+//! A file whose sound isn't in memory.
 
 ghost use Rattle.std.specs.Prelude.{◌≡◌, ◌≤◌, ◌+◌, ◌<◌, ◌^◌, [], All, IfOk, length};
 ghost use Rattle.chunk_core.specs.Places.{span_chunk};
@@ -12,8 +12,8 @@ use crate::fault::DsdiffFault;
 use chunk_core::{ChunkFault, Span, walk, walk_at};
 use std::alloc::Global;
 
-/// A file of which the bytes of the sound aren't held: what stands before them, how many they are, and what stands
-/// behind them. Places are those of the whole file.
+/// A file without the bytes of its sound: what comes before them, how many they are, and what follows them. Places are
+/// those of the whole file.
 #[derive(Clone, Copy)]
 pub(crate) struct Held<'a> {
     pub(crate) front: &'a [u8],
@@ -21,7 +21,7 @@ pub(crate) struct Held<'a> {
     pub(crate) back: &'a [u8],
 }
 
-/// A file that is held whole.
+/// A file that is in memory as a whole.
 pub(crate) fn whole(file: &[u8]) -> Held
     ensures value { held result ≡ file.now }
     ensures is_held { IsHeld result }
@@ -73,7 +73,7 @@ pub(crate) fn walk_inside(
     walk_at(alloc, &data[start - span.start..], start)
 }
 
-/// The chunks of the form, which ends at a place.
+/// The chunks of the form, which ends at a given place.
 pub(crate) fn walk_form(alloc: Global, file: Held, end: usize) -> Result<Vec<Span>, DsdiffFault>
     requires held { IsHeld file }
     requires from { 16 ≤ end }
@@ -87,7 +87,7 @@ pub(crate) fn walk_form(alloc: Global, file: Held, end: usize) -> Result<Vec<Spa
     walk_around(alloc, file, end)
 }
 
-// The same around a sound that isn't held.
+// The same around a sound that isn't in memory.
 fn walk_around(alloc: Global, file: Held, end: usize) -> Result<Vec<Span>, DsdiffFault>
     requires around { IsAround file }
     requires end { end ≡ form_end (held file) }

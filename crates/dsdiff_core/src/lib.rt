@@ -1,51 +1,49 @@
 //! DSDIFF 1.5 files of uncompressed sound.
 //!
-//! A file is one form, `FRM8` of the type `DSD `: a list of chunks ([`chunk_core`]) with a version
-//! `FVER` in front, a property `PROP` of the sound (type `SND `) whose own chunks tell the rate (`FS  `),
-//! the channels and their IDs (`CHNL`) and the compression (`CMPR`), the sound bytes (`DSD `), and, each
-//! of them optional, edited masters (`DIIN`) with marks (`MARK`) and whatever other chunks there are.
-//! Numbers have the highest byte first.
+//! A file is one form, `FRM8` of the type `DSD `, which is a list of chunks ([`chunk_core`]). First comes a version
+//! `FVER`, then a property `PROP` of the sound (type `SND `), whose own chunks have the rate (`FS  `), the channels and
+//! their IDs (`CHNL`) and the compression (`CMPR`), and then the sound bytes (`DSD `). There may be edited masters
+//! (`DIIN`) with marks (`MARK`), and any other chunks. Numbers have the highest byte first.
 //!
-//! [`read`] takes a file to the recording that it holds ([`dsd_bits::Recording`]). It is lenient where
-//! usual writers differ: a chunk may be longer than its named fields, the last pad may be missing,
-//! bytes behind the form are ignored, and chunks that it does not know are kept as ID and bytes.
-//! Compressed sound, and more channels, samples or another rate than a recording has, are refused by
-//! name ([`DsdiffFault`]).
+//! [`read`] returns the recording that a file holds ([`dsd_bits::Recording`]). It is lenient where usual writers
+//! differ: a chunk may be longer than its named fields, the last pad may be missing, bytes after the form are ignored,
+//! and unknown chunks are kept as ID and bytes. Compressed sound, more channels or samples than a recording may have,
+//! and rates outside its limits are refused by name ([`DsdiffFault`]).
 //!
-//! [`write`] gives the bytes of the file that holds a recording, all of them or none, and [`place`] says
-//! where a mark is; [`mark_at`] makes the mark of a title that starts at a place. A recording whose
-//! channels end inside a byte has no file.
+//! [`write`] returns the bytes of the file that holds a recording, all of them or none. [`place`] says where a mark is,
+//! and [`mark_at`] makes the mark of a title that starts at a place. A recording whose channels end inside a byte has
+//! no file.
 //!
 //! A file can also be read and written around its sound, which is then never held: [`locate`] says where the
 //! sound starts, and goes on where it ended when more bytes came, [`outline`] gives the recording without bits by what stands before the sound and behind it, and
 //! [`write_head`] and [`write_tail`] give what the file of a recording has around its sound.
 //!
 //! The words of its contracts:
-//! - `IsDsdiff file r` (`specs/Files.antt`): the file holds the recording `r`. It is said in lists of
-//!   chunks, part by part, and nothing in it walks.
-//! - `recording_of file` (`specs/Reading.antt`): the reading in a fixed order, to the recording or the
-//!   first fault; its steps are `top_of` (`specs/Forms.antt`), `property_of` (`specs/Properties.antt`),
-//!   `sound_of` (`specs/Sounds.antt`) and `masters_of` (`specs/Masters.antt`).
-//! - `mark_in` (`specs/Marks.antt`) and `kept` (`specs/Others.antt`): what is made of a mark's chunk, and
-//!   which chunks are kept as they are.
-//! - `Gives` (`specs/Steps.antt`): what a function gives of a reading when memory may run out.
-//! - `dsdiff_text r` (`specs/Writing.antt`): the bytes of the file of a recording, if it has one. They are made
-//!   of lists of chunks: `property_chunks` in the sound's property, `master_chunks` in the edited master,
-//!   `form_chunks` in the form, each spelled by `spell`; `form_text` puts the head before them.
-//! - `head_text r size`, `tail_text r size` (`specs/Writing.antt`): its parts around a sound of so many bytes, which
-//!   don't ask for the channels.
-//! - `TellsOutline front s back` (`specs/Outlines.antt`): what the bytes around a sound tell of a file.
+//! - `IsDsdiff file r` (`specs/Files.antt`): the file holds the recording `r`. It is stated in lists of chunks, part by
+//!   part, without walking through the file.
+//! - `recording_of file` (`specs/Reading.antt`): reads in a fixed order, to the recording or the first fault. Its steps
+//!   are `top_of` (`specs/Forms.antt`), `property_of` (`specs/Properties.antt`), `sound_of` (`specs/Sounds.antt`) and
+//!   `masters_of` (`specs/Masters.antt`).
+//! - `mark_in` (`specs/Marks.antt`) and `kept` (`specs/Others.antt`): the mark in a chunk, and which chunks are kept as
+//!   they are.
+//! - `Gives` (`specs/Steps.antt`): what a function returns of a reading if memory may run out.
+//! - `dsdiff_text r` (`specs/Writing.antt`): the bytes of the file of a recording, if it has one. They are made from
+//!   lists of chunks: `property_chunks` in the sound's property, `master_chunks` in the edited master, `form_chunks` in
+//!   the form, each written by `spell`. `form_text` puts the header before them.
+//! - `head_text r size`, `tail_text r size` (`specs/Writing.antt`): the bytes before and after a sound of `size` bytes.
+//!   They don't depend on the channels.
+//! - `TellsOutline front s back` (`specs/Outlines.antt`): what the bytes around a sound say about a file.
 //! - `mark_bytes m` (`specs/MarkBytes.antt`): the bytes of a mark.
 //! - `place_of m rate` (`specs/MarkPlaces.antt`): the place of a mark, a whole number that may be below zero.
-//!   `title_mark place rate text` is the mark of a title, `IsAt m rate place` says where a mark is.
-//! - `as_told r` (`specs/ReadAgain.antt`): the recording without what a file does not tell, its layout and tag.
+//!   `title_mark place rate text` is the mark of a title, and `IsAt m rate place` says where a mark is.
+//! - `as_told r` (`specs/ReadAgain.antt`): the recording without what a file does not store, its layout and tag.
 //!
-//! What it promises: what is read is what the file holds; whatever recording a file holds is read; any
-//! other file is refused with the first fault of the stated order. `Memory` alone may come in place of
-//! each of these. A file holds one recording at most ([`one_recording`]).
-//! What is written is exactly `dsdiff_text`, [`WriteFault::NotWholeBytes`] comes exactly where there is none,
-//! and the file holds the recording as it is told. [`written_is_read_again`] carries the law behind that
-//! for a recording that is no value in memory, and [`written_in_parts`] that the file is its parts.
+//! What it promises: what is read is what the file holds. Any recording that a file holds is read. Any other file is
+//! refused with the first fault of the stated order. Only `Memory` may come in place of these. A file holds at most one
+//! recording ([`one_recording`]). What is written is exactly `dsdiff_text`, [`WriteFault::NotWholeBytes`] comes exactly
+//! if there is none, and the file holds the recording as a file stores it. [`written_is_read_again`] carries the law
+//! behind that, also for a recording that is not a value in memory, and [`written_in_parts`] the law that the file is
+//! its parts.
 //!
 //! ```text
 //! let recording = read(alloc, file)?;

@@ -17,27 +17,27 @@ use chunk_core::{Order, u64_at};
 use dsd_bits::Recording;
 use std::alloc::Global;
 
-/// The recording that a DSDIFF 1.5 file holds: its rate in hertz, a list of bits for each channel, the
-/// channels' IDs, the marks of every `DIIN`, and the chunks that are kept as they are: those of the
-/// sound property, then those of every `DIIN`, then those of the form, each in the order of the file.
-/// The layout is the usual one for so many channels, and the tag is empty.
+/// The recording that a DSDIFF 1.5 file holds: its rate in hertz, a list of bits for each channel, the channels' IDs,
+/// the marks of every `DIIN`, and the chunks that are kept as they are. These are those of the sound property, then
+/// those of every `DIIN`, then those of the form, each in the order of the file. The layout is the usual one for the
+/// number of channels, and the tag is empty.
 ///
-/// Refusals, in this order; the first that applies is answered:
-/// 1. `NotDsdiff`: fewer than 16 bytes, no `FRM8`, or another form than `DSD `.
-/// 2. `FormCut`: the form's size is below 4, or goes more than one byte past the file's end.
-/// 3. `Chunk`: the form is no list of chunks.
-/// 4. `NoVersion`, `BadVersion`: the first chunk is no `FVER` of 4 bytes or more; its first byte is not 1.
+/// Refusals; the first that applies, in this order:
+/// 1. `NotDsdiff`: fewer than 16 bytes, no `FRM8`, or a form of another type than `DSD `.
+/// 2. `FormCut`: the form's size is below 4, or the form extends past the file's end by more than one byte.
+/// 3. `Chunk`: the form is not a list of chunks.
+/// 4. `NoVersion`, `BadVersion`: the first chunk is not `FVER` with 4 bytes or more; its first byte is not 1.
 /// 5. `Twice`: the first chunk that is a second `FVER`, sound property or `DSD `.
 /// 6. `NoProperty`: no `PROP` whose data begin with `SND `.
-/// 7. `Chunk`, `Twice`: what is behind that is no list of chunks; a second `FS  `, `CHNL` or `CMPR`.
-/// 8. `NoRate`, `NoChannels`, `NoCompression`: one of these is not there or too short.
+/// 7. `Chunk`, `Twice`: what follows that in the property is not a list of chunks; a second `FS  `, `CHNL` or `CMPR`.
+/// 8. `NoRate`, `NoChannels`, `NoCompression`: one of these is missing or too short.
 /// 9. `Compressed`: the compression is another than `DSD `. Its name is not read.
 /// 10. `BadRate`, `BadChannelNumber`: not 1,000,000 to 50,000,000 hertz; not 1 to 6 channels.
-/// 11. `NoSound`, `SoundBeforeProperty`: no `DSD `; it stands before the sound property.
-/// 12. `PartFrame`, `TooLong`: the sound is no whole number of frames of one byte a channel; it has more
-///     than `2^36` bits a channel.
-/// 13. `Chunk`, `BadMark`, for each `DIIN` in turn: it is no list of chunks; a `MARK` of fewer than 22
-///     bytes, or fewer than 22 and the size of its text.
+/// 11. `NoSound`, `SoundBeforeProperty`: no `DSD `; it comes before the sound property.
+/// 12. `PartFrame`, `TooLong`: the sound is not a whole number of frames of one byte a channel; it has more than `2^36`
+///   bits a channel.
+/// 13. `Chunk`, `BadMark`, for each `DIIN` in turn: it is not a list of chunks; a `MARK` has fewer than 22 bytes, or
+///   fewer than 22 and the size of its text.
 ///
 /// `Memory` may come in place of any of them.
 pub fn read(alloc: Global, file: &[u8]) -> Result<Recording, DsdiffFault>
@@ -51,7 +51,7 @@ pub fn read(alloc: Global, file: &[u8]) -> Result<Recording, DsdiffFault>
     read_in_order(alloc, file)
 }
 
-// The same, by the order of refusals alone.
+// The same, in the order of refusals alone.
 fn read_in_order(alloc: Global, file: &[u8]) -> Result<Recording, DsdiffFault>
     ensures { Gives (λ r. r) result (recording_of file.now) }
 {
@@ -62,7 +62,7 @@ fn read_in_order(alloc: Global, file: &[u8]) -> Result<Recording, DsdiffFault>
     Ok(Recording::of(description, channels))
 }
 
-// The file around its sound, and the bytes of that. Where no sound is found, the file is held whole, and it is refused.
+// The file around its sound, and the bytes of that. If no sound is found, the whole file is kept, and it is refused.
 fn part(file: &[u8]) -> (Held, &[u8])
     ensures { IsParted file.now result.0 result.1.now }
 {
@@ -73,7 +73,7 @@ fn part(file: &[u8]) -> (Held, &[u8])
     }
 }
 
-// The same by the place of the head of the sound.
+// The same, by the place of the header of the sound.
 fn part_at(file: &[u8], at: usize) -> (Held, &[u8])
     requires located { located file.now ≡ Ok (Some at) }
     requires inside { (16 ≤ at) × (at + 12 ≤ length file.now) }

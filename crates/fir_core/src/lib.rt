@@ -1,13 +1,12 @@
 //! Whole-number decimation of one-bit sound.
 //!
-//! A [`Taps`] holds a finite impulse response filter and how its sums become samples. [`decimate`]
-//! answers the samples of a channel, [`sample`] one of them, [`sum_at`] the sum before rounding.
+//! A [`Taps`] holds a finite impulse response filter and how its sums become samples. [`decimate`] returns the samples
+//! of a channel, [`sample`] one of them, [`sum_at`] the sum before rounding.
 //!
-//! The words of its contracts, all over whole numbers without bounds: `conv h bits n` is the
-//! convolution of taps with the signal of stored bits (1 counts +1, 0 counts -1, nothing outside),
-//! `rounded` and `round_clip` say how a sum is rounded and clipped, `samples` lists the samples of a
-//! decimator. What the code returns is these values for every input: no sum overflows, since the
-//! absolute values of the taps add up to at most `2^30`.
+//! The words of its contracts, all over whole numbers without bounds: `conv h bits n` is the convolution of taps with
+//! the signal of stored bits (1 counts +1, 0 counts -1, nothing outside). `rounded` and `round_clip` say how a sum is
+//! rounded and clipped, and `samples` lists the samples of a decimator. What the code returns is these values for every
+//! input: no sum overflows, because the absolute values of the taps add up to at most `2^30`.
 //!
 //! A law for whoever plays from a place on: [`rest_is_played`], samples of a channel's rest are those of the whole.
 //!

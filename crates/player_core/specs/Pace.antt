@@ -1,4 +1,4 @@
--- How far what is written may lag behind what was read.
+-- How far what is written may lag what was read.
 use Rattle.std.specs.Prelude.{◌≡◌, ℕ, ◌+◌, ◌-◌, ◌*◌, ◌/◌, ◌<◌, ◌≤◌, List, [], ◌++◌, length, Option, IfSome, Err}
 use Rattle.std.specs.Io.KnownBytes.{Appends}
 use Rattle.dsd_bits.specs.declared.sound.Sound.{Sound}
@@ -13,27 +13,30 @@ use Rattle.chunk_core.specs.declared.outlet.Outlet.{Outlet}
 use Rattle.sound_core.specs.Faults.{IsBeforeWriting, StopsReading, failed_writes}
 use Rattle.sound_core.specs.declared.fault.StreamFault.{StreamFault}
 
--- bit i of every channel stands in the first n bytes of the sound
+-- the first n bytes of the sound hold bit i of every channel
 abbrev pub StandsIn : Sound → ℕ → ℕ → Type 0
 StandsIn s n i = (c : ℕ) → c < s.channels → place_in s.interleaving s.channels c (i / 8) < n
 
--- so many first bytes of a WAVE file hold its header, and each frame j whose place stands in the first n bytes of the sound
+-- the first `size` bytes of a WAVE file hold its header, and each frame j whose place is in the first n bytes of the
+-- sound
 pub record HoldsFrames (d : Decimator) (s : Sound) (n size : ℕ) : Type 0 where
   pub header : header_size s.channels d.width ≤ size
   pub frames : (j : ℕ) → StandsIn s n (j * d.factor + d.delay) → header_size s.channels d.width + (j + 1) * block_align s.channels d.width ≤ size
 
--- of these bytes a front was written that holds them
+-- a prefix of these bytes was written that holds them
 abbrev pub WritesFrames : Decimator → Sound → ℕ → List ℕ → Option (List ℕ) → Option (List ℕ) → Type 0
 WritesFrames d s n bytes held_old held_new = (front : List ℕ) × (back : List ℕ) × (bytes ≡ front ++ back) × Appends held_old held_new front × HoldsFrames d s n (length front)
 
--- where more than 131,072 bytes of the sound of a file that is played were given, what was written lags behind by no more of them: it holds the header, and each frame whose place stands in those before
+-- if more than 131,072 bytes of the sound of a file that can be played were read, what was written lags by at most that
+-- many: it holds the header, and each frame whose place is in the bytes before
 abbrev pub KeepsUp : Option (List ℕ) → Decimator → List ℕ → ℕ → Option (List ℕ) → Option (List ℕ) → Type 0
 KeepsUp left_old d front given held_old held_new = IfSome left_old (λ left. (bytes : List ℕ) (s : Sound) → PlaysBy d (front ++ left) bytes → TellsSound (front ++ left) s → 131072 < sound_given s given
     → WritesFrames d s (sound_given s given - 131072) bytes held_old held_new)
 
 -- ---- stages
 
--- why a file is not played to its end: a fault stands, and of what it plays a front was written, which keeps up with the reading
+-- why a file is not played to its end: a fault applies, and a prefix of what it plays was written, which keeps up with
+-- the reading
 pub record PlayFails {W : Type 0} (held : W → Option (List ℕ)) (left : Option (List ℕ)) (d : Decimator) (given : ℕ) (old new : Outlet W) (f : StreamFault) : Type 0 where
   pub fault : IfSome left (λ file. Stands d file f)
   pub unwritten : IsBeforeWriting f → outlet_writer new ≡ outlet_writer old

@@ -18,11 +18,11 @@ abbrev pub PutsRest : Player → Option (List ℕ) → Option (List ℕ) → Typ
 PutsRest old held_old held_new = (more : List ℕ) × Appends held_old held_new more
     × ((before : List ℕ) → IsFed old before → all_bytes (filter_of old) (sound_of old) before ≡ due_bytes (filter_of old) (sound_of old) before ++ more)
 
--- of the frames of the whole sound, a front was written of those that were not due after some bytes
+-- a prefix was written of those frames of the whole sound that were not due after some bytes
 abbrev pub PutsFront : Decimator → Sound → List ℕ → List ℕ → Option (List ℕ) → Option (List ℕ) → Type 0
 PutsFront d s before whole held_old held_new = (more : List ℕ) × (all_bytes d s whole ≡ due_bytes d s before ++ more) × AppendsFront held_old held_new more
 
--- whatever the sound is whose front the player was fed, with these bytes behind it
+-- P holds of every sound that begins with what the player was fed and then these bytes
 abbrev pub PutsFrontOf : Player → List ℕ → Option (List ℕ) → Option (List ℕ) → Type 0
 PutsFrontOf p bytes held_old held_new = (before rest : List ℕ) → IsFed p before → length (before ++ (bytes ++ rest)) ≡ (sound_of p).size
     → PutsFront (filter_of p) (sound_of p) before (before ++ (bytes ++ rest)) held_old held_new

@@ -1,4 +1,4 @@
--- What a `Player` stands for.
+-- What a `Player` means.
 use Rattle.std.specs.Prelude.{◌≡◌, ℕ, ◌+◌, ◌-◌, ◌*◌, ◌/◌, ◌%◌, ◌<◌, ◌≤◌, ℤ, List, [], ◌++◌, map, length, drop, slice_index_or}
 use Rattle.std.specs.Int.{div_ceil}
 use Rattle.std.specs.List.{range_with_len}
@@ -22,22 +22,22 @@ filter_of p = p.taps.now
 abbrev pub sound_of : Player → Sound
 sound_of p = p.sound
 
--- how many of the sound's bytes it was fed
+-- the number of the sound's bytes that it was fed
 abbrev pub fed_of : Player → ℕ
 fed_of p = p.fed
 
--- the stream of a channel of the sound, after so many of its bytes
+-- the stream of a channel of the sound, after `fed` of its bytes
 pub record IsChannel (d : Decimator) (count fed : ℕ) (t : Stream) : Type 0 where
   pub ready : IsStream t
   pub filter : t.taps ≡ d
   pub bits : t.count ≡ count
   pub bytes : t.fed ≡ fed
 
--- streams of all channels, each after so many bytes
+-- streams of all channels, each after `fed` bytes
 abbrev pub AreChannels : Decimator → ℕ → ℕ → List Stream → Type 0
 AreChannels d count fed streams = (c : ℕ) (t : Stream) → c < length streams → IsChannel d count fed (slice_index_or streams c t)
 
--- streams that can take so many bytes more
+-- streams that can take n more bytes
 abbrev pub AreReady : ℕ → List Stream → Type 0
 AreReady number streams = (c : ℕ) (t : Stream) → c < length streams → IsStream (slice_index_or streams c t) × ((slice_index_or streams c t).fed + number ≤ div_ceil (slice_index_or streams c t).count 8)
 
@@ -59,7 +59,7 @@ pub record IsFed (p : Player) (bytes : List ℕ) : Type 0 where
   pub held : p.held.items ≡ drop (length bytes / group_size p.sound.interleaving p.sound.channels * group_size p.sound.interleaving p.sound.channels) bytes
   pub each : AllFit p.sound p.streams.items bytes
 
--- what each player keeps to: a stream for each channel, after some sound bytes
+-- what holds of each player: it has a stream for each channel, after some sound bytes
 pub record IsPlayer (p : Player) : Type 0 where
   pub sound : IsSound p.sound
   pub whole : p.sound.interleaving ≡ Bytes → p.sound.count % 8 ≡ 0
@@ -68,23 +68,25 @@ pub record IsPlayer (p : Player) : Type 0 where
   pub each : AreChannels p.taps.now p.sound.count (bytes_heard p.sound p.fed) p.streams.items
   pub history : (bytes : List ℕ) × IsFed p bytes
 
--- streams that fit whole groups of sound bytes, of which each channel has so many bytes, fit so many more behind them, and gave the samples that are due then and not before
+-- streams that fit whole groups of sound bytes, which are `fed` bytes of each channel, fit `number` more after them,
+-- and returned the samples that are due then and not before
 abbrev pub FeedAll : Decimator → Sound → ℕ → ℕ → List Stream → List Stream → List ℕ → List ℤ → Type 0
 FeedAll d s fed number old new groups tile = (front : List ℕ) (k : ℕ) → length front ≡ k * group_size s.interleaving s.channels
     → bytes_heard s (length front) ≡ fed → bytes_heard s (length (front ++ groups)) ≡ fed + number
     → AllFit s old front → AllFit s new (front ++ groups) × (tile ≡ tile_of d (channels_heard s (front ++ groups)) (frames_due d s (length front)) (frames_due d s (length (front ++ groups)) - frames_due d s (length front)))
 
--- streams that fit all sound bytes gave the rest of their samples
+-- streams that fit all sound bytes returned the rest of their samples
 abbrev pub FinishAll : Decimator → Sound → List Stream → List ℤ → Type 0
 FinishAll d s streams tile = (bytes : List ℕ) → AreChannels d s.count (bytes_heard s (length bytes)) streams → AllFit s streams bytes
     → tile ≡ tile_of d (map (channel_whole s bytes) (range_with_len 0 s.channels)) (frames_due d s (length bytes)) (div_ceil s.count d.factor - frames_due d s (length bytes))
 
--- after whatever sound bytes the player was fed, it was fed these, and gave the bytes that were due then and not before
+-- after whatever sound bytes the player was fed, it was fed these, and returned the bytes that were due then and not
+-- before
 abbrev pub FeedsPlayer : Player → Player → List ℕ → List ℕ → List ℕ → Type 0
 FeedsPlayer old new bytes given_old given_new = (more : List ℕ) × (given_new ≡ given_old ++ more)
     × ((before : List ℕ) → IsFed old before → IsFed new (before ++ bytes) × (due_bytes old.taps.now old.sound (before ++ bytes) ≡ due_bytes old.taps.now old.sound before ++ more))
 
--- after all sound bytes, the player gave the rest of the frames' bytes
+-- after all sound bytes, the player returned the rest of the frames' bytes
 abbrev pub FinishesPlayer : Player → List ℕ → List ℕ → Type 0
 FinishesPlayer old given_old given_new = (more : List ℕ) × (given_new ≡ given_old ++ more)
     × ((before : List ℕ) → IsFed old before → all_bytes old.taps.now old.sound before ≡ due_bytes old.taps.now old.sound before ++ more)

@@ -1,4 +1,4 @@
--- What is played of a reader's file, and which faults stand.
+-- What is played of a reader's file, and which faults apply.
 use Rattle.std.specs.Prelude.{◌≡◌, ◌≢◌, ℕ, ◌%◌, ◌≤◌, ◌^◌, List, ◌++◌, length, Option, Some, IfSome, ⊤}
 use Rattle.std.specs.Io.KnownBytes.{Appends}
 use Rattle.chunk_core.specs.Outlets.{AppendsFront}
@@ -23,7 +23,7 @@ pub record PlaysBy (d : Decimator) (file bytes : List ℕ) : Type 0 where
   pub rate_divided : recording.rate % d.factor ≡ 0
   pub text : wave_text (pcm recording d) ≡ Some bytes
 
--- the front of the file tells of a sound whose rate the factor does not divide
+-- the front of the file describes a sound whose rate the factor does not divide
 pub record IsNotDivided (d : Decimator) (file : List ℕ) : Type 0 where
   pub front : List ℕ
   pub rest : List ℕ
@@ -32,7 +32,7 @@ pub record IsNotDivided (d : Decimator) (file : List ℕ) : Type 0 where
   pub tells : TellsSound front sound
   pub not_divided : sound.rate % d.factor ≢ 0
 
--- the front of the file tells of a sound whose rate the factor divides, and the sizes of its WAVE file do not fit
+-- the front of the file describes a sound whose rate the factor divides, and the sizes of its WAVE file do not fit
 pub record IsTooLarge (d : Decimator) (file : List ℕ) : Type 0 where
   pub front : List ℕ
   pub rest : List ℕ
@@ -42,7 +42,7 @@ pub record IsTooLarge (d : Decimator) (file : List ℕ) : Type 0 where
   pub divided : sound.rate % d.factor ≡ 0
   pub large : 2 ^ 32 ≤ riff_size sound.channels d.width (total_frames d sound)
 
--- this fault stands; a device, the number of reads and memory know nothing of the file
+-- this fault applies; a device, the number of reads and memory don't depend on the file
 abbrev pub Stands : Decimator → List ℕ → StreamFault → Type 0
 Stands d file FileRefused = IsRefused file
 Stands d file RateNotDivided = IsNotDivided d file
@@ -54,18 +54,18 @@ Stands d file Memory = ⊤
 
 -- ---- whatever it is that says what a file plays
 
--- whatever file stands there, so many bytes were written, those that it plays
+-- n bytes were written, and are what the reader's file plays, if it is known
 abbrev pub PlaysFile : Option (List ℕ) → (List ℕ → List ℕ → Type 0) → Option (List ℕ) → Option (List ℕ) → ℕ → Type 0
 PlaysFile left Plays held_old held_new n = IfSome left (λ file. (bytes : List ℕ) × Plays file bytes × (n ≡ length bytes) × Appends held_old held_new bytes)
 
--- a reader that does not tell its bytes gave some, and what they play was written
+-- the reader returned some bytes, and what they play was written; this also holds if its bytes aren't known
 abbrev pub PlaysGiven : {R : Type 0} → (R → Option (List ℕ)) → Inlet R → Inlet R → (List ℕ → List ℕ → Type 0) → Option (List ℕ) → Option (List ℕ) → ℕ → Type 0
 PlaysGiven left old new Plays held_old held_new n = (read : List ℕ) × (bytes : List ℕ) × Reads left old new read × Plays read bytes × (n ≡ length bytes) × Appends held_old held_new bytes
 
--- whatever it plays, a front of that was written
+-- a prefix of whatever the file plays was written
 abbrev pub WritesFront : Option (List ℕ) → (List ℕ → List ℕ → Type 0) → Option (List ℕ) → Option (List ℕ) → Type 0
 WritesFront left Plays held_old held_new = IfSome left (λ file. (bytes : List ℕ) → Plays file bytes → AppendsFront held_old held_new bytes)
 
--- a file that is played is refused for memory, a device or the number of reads alone
+-- a file that can be played is refused only for memory, a device or the number of reads
 abbrev pub OnlyFromOutside : Option (List ℕ) → Decimator → StreamFault → Type 0
 OnlyFromOutside left_old d f = IfSome left_old (λ file. (bytes : List ℕ) → PlaysBy d file bytes → IsFromOutside f)

@@ -1,4 +1,4 @@
--- What plays a sound to an outlet while its file is read.
+-- The sink that plays a sound to an outlet while its file is read.
 use Rattle.std.specs.Prelude.{◌≡◌, ℕ, ◌+◌, ◌-◌, ◌%◌, ◌<◌, ◌≤◌, ◌^◌, List, ◌++◌, length, Option, Some, Err}
 use Rattle.std.specs.Io.KnownBytes.{Appends}
 use Rattle.chunk_core.specs.Outlets.{AppendsFront, outlet_failures, outlet_writer}
@@ -13,7 +13,8 @@ use Rattle.sound_core.specs.declared.fault.StreamFault.{StreamFault}
 use Rattle.player_core.specs.Wave.{IsOpeningFault, header_of}
 use Rattle.player_core.specs.declared.sink.PlayingSink.{PlayingSink}
 
--- after these bytes of a sound, which the factor divides and whose sizes fit, the player was fed them; the header was written, and the frames that are due
+-- after these bytes of a sound whose rate the factor divides and whose sizes fit, the player was fed them; the header
+-- was written, and the frames that are due
 pub record IsPlaying {W : Type 0} (held : W → Option (List ℕ)) (first now : PlayingSink W) (s : Sound) (bytes : List ℕ) : Type 0 where
   pub same : now.outlet.ghost_name ≡ first.outlet.ghost_name
   pub taps : now.taps ≡ first.taps
@@ -30,7 +31,8 @@ pub record IsPlaying {W : Type 0} (held : W → Option (List ℕ)) (first now : 
   pub ready : outlet_failures first.outlet.now < 2 ^ 64 - 1
   pub failures : outlet_failures now.outlet.now ≡ outlet_failures first.outlet.now
 
--- it was refused for this fault, which stands; of what a sound plays that begins with these bytes a front was written, and nothing where the fault comes before that
+-- it was refused for this fault, which applies; a prefix of what any sound plays that begins with these bytes was
+-- written, and nothing if the fault comes before that
 pub record RefusesPlaying {W : Type 0} (held : W → Option (List ℕ)) (first now : PlayingSink W) (s : Sound) (came : List ℕ) (f : StreamFault) : Type 0 where
   pub same : now.outlet.ghost_name ≡ first.outlet.ghost_name
   pub fault : IsOpeningFault first.taps.now s f

@@ -1,13 +1,14 @@
 //! From sound to the frames of a RIFF WAVE file, in memory or from a reader to a writer.
 //!
-//! [`wave_spec`] is what the file tells. [`wave_of`] makes the file of a recording, tile by tile. A [`Player`] takes the
-//! bytes of a sound piece by piece, as they stand in a DSDIFF 1.5 or DSF 1.01 file, and gives the bytes of each frame once
-//! its place has come: of the sound it holds a part of one group of blocks, and what each channel's filter still reads.
+//! [`wave_spec`] is what the file says. [`wave_of`] returns the file of a recording, made tile by tile. A [`Player`]
+//! takes the bytes of a sound piece by piece, as a DSDIFF 1.5 or DSF 1.01 file holds them, and returns the bytes of
+//! each frame as soon as its place has come. Of the sound it holds a part of one group of blocks, and what each
+//! channel's filter still reads.
 //!
-//! [`play`] reads a file part by part and writes its WAVE file. `sound_core` reads the file, and a sink takes its sound
-//! from there (`sink.rt`): it writes the frames piece by piece (`pieces.rt`), and what stands around them (`wave.rt`). It
-//! holds at most one block of 65,536 bytes of the sound, what a player holds, what stands before the sound, and what a
-//! DSDIFF form has behind it, or the tag of a DSF file.
+//! [`play`] reads a file part by part and writes its WAVE file. `sound_core` reads the file and passes its sound to a
+//! sink (`sink.rt`), which writes the frames piece by piece (`pieces.rt`) and the bytes around them (`wave.rt`). It
+//! holds at most one block of 65,536 bytes of the sound, what a player holds, the bytes before the sound, and those
+//! that follow it in a DSDIFF form, or the tag of a DSF file.
 //!
 //! A [`PartPlayer`] gives some of the frames, from any on: it is fed the sound from a place on before which no tap of its
 //! first frame reads, and drops what it gives before that frame and after its last. [`play_part`] plays a part of a file,
@@ -15,20 +16,20 @@
 //!
 //! The words of the contracts:
 //!
-//! - `frames d channels` are the samples of channels, frame by frame, `tile_of` some of them channel by channel
+//! - `frames d channels` is the samples of channels, frame by frame, `tile_of` some of them channel by channel
 //!   (`specs/Frames.antt`), and `pcm` what is played of a recording (`specs/Samples.antt`).
-//! - A group is for each channel in turn as many of its bytes as the form puts side by side; `channel_byte` is
-//!   where a channel's byte stands in groups (`specs/Groups.antt`).
-//! - `due_bytes d s bytes` are the bytes of the frames that are due after some sound bytes, those whose place is
-//!   among the bits that stand in whole groups of them; `all_bytes` those of all frames (`specs/Due.antt`).
-//! - `IsFed p bytes` says that a player was fed these bytes, `FeedsPlayer` what the next ones give, and
-//!   `FinishesPlayer` what is left (`specs/PlayerView.antt`).
+//! - A group is for each channel in turn its neighbouring bytes in the form. `channel_byte` is where groups hold a
+//!   channel's byte (`specs/Groups.antt`).
+//! - `due_bytes d s bytes` is the bytes of the frames that are due after some sound bytes: those whose place is among
+//!   the bits in the whole groups of them. `all_bytes` is the bytes of all frames (`specs/Due.antt`).
+//! - `IsFed p bytes` says that a player was fed these bytes, `FeedsPlayer` what the next ones add, and `FinishesPlayer`
+//!   what is left (`specs/PlayerView.antt`).
 //! - `file_around d s bytes` is a header, these bytes and a pad, `IsPlayed` what is played of a recording in a file
 //!   (`specs/Laws.antt`).
-//! - `PlaysBy d file bytes` says that these bytes are the WAVE text of the file's recording by this decimator,
-//!   `Stands d file fault` that a fault stands (`specs/Playing.antt`).
-//! - `KeepsUp left d front given old new` says that what was written lags behind what was given by at most 131,072
-//!   bytes of the sound (`specs/Pace.antt`).
+//! - `PlaysBy d file bytes` says that these bytes are the WAVE text of the file's recording by this decimator, `Stands
+//!   d file fault` that a fault applies (`specs/Playing.antt`).
+//! - `KeepsUp left d front given old new` says that what was written lags what was read by at most 131,072 bytes of the
+//!   sound (`specs/Pace.antt`).
 //! - `IsPlaying held first now s bytes` says what the sink has written after these bytes of a sound (`specs/Sinks.antt`).
 //!
 //! - `part_bytes d s bytes start stop` are the bytes of frames `start` to `stop - 1`, a slice of those of all frames
@@ -36,19 +37,20 @@
 //!   fed these bytes from its start on (`specs/PartView.antt`), and `PlaysPart d start stop file bytes` that these bytes
 //!   are the WAVE text of the part of a file's recording (`specs/PartPlaying.antt`).
 //!
-//! What it promises: whatever bytes a player was fed before, what [`Player::feed`] appends makes of the bytes
-//! that were due those that are due now, and what [`Player::finish`] appends makes of them those of all frames.
-//! So the pieces' sizes change nothing. Of [`play`], Ok means that exactly the bytes that the reader's file plays were
-//! written, however its reads are cut; a fault stands that is named; and a file that is played is refused only for memory,
-//! a device or the number of reads, after a front of its WAVE file, which keeps up with the reading where that stops.
+//! What it promises: whatever bytes a player was fed before, what [`Player::feed`] appends turns the bytes that were
+//! due into those that are due now, and what [`Player::finish`] appends turns them into those of all frames. So the
+//! sizes of the pieces change nothing. For [`play`], Ok means that exactly the bytes that the reader's file plays were
+//! written, however its reads are cut. A fault that is returned applies. A file that can be played is refused only for
+//! memory, a device or the number of reads, after a prefix of its WAVE file, which keeps up with the reading if that
+//! stops.
 //!
 //! Laws of parts: [`parts_meet`], parts that meet are one part; [`whole_is_a_part`]; [`part_has_its_frames`], a part has
 //! the bytes of its frames; and [`part_is_played`], its WAVE text is a header of its own, these bytes, and the pad.
 //!
-//! Laws for whoever writes the file in parts: [`sound_is_played`], the WAVE text of a recording in a file is the header,
-//! the bytes of all frames of its sound, and the pad; [`frames_fill_the_data`] and [`file_has_its_size`], their numbers;
-//! [`nothing_is_due_at_first`]; and [`frames_of_a_front_come_first`], what is due after a front of the sound is a front of
-//! all.
+//! Laws for those who write the file in parts: [`sound_is_played`], the WAVE text of a recording in a file is the
+//! header, the bytes of all frames of its sound, and the pad; [`frames_fill_the_data`] and [`file_has_its_size`], their
+//! sizes; [`nothing_is_due_at_first`]; and [`frames_of_a_front_come_first`], what is due after a prefix of the sound is
+//! a prefix of all.
 //!
 //! ```text
 //! let mut player = Player::new(alloc, &taps, sound)?;

@@ -11,7 +11,7 @@ use chunk_core::Outlet;
 use sound_core::{StreamFault, put};
 use std::io::Write;
 
-/// Writes the frames that are due after a piece of the sound, and were not before.
+/// Writes the frames that are due after a piece of the sound and were not before.
 pub(crate) fn put_due<W: Write>(
     player: &mut Player<'_>,
     piece: &[u8],

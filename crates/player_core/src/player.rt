@@ -38,8 +38,8 @@ impl<'a> Player<'a> {
     ghost use Rattle.dsd_bits.specs.Sounds.{IsSound};
     ghost use Rattle.player_core.specs.PlayerView.{FeedsPlayer, FinishesPlayer, IsFed, IsPlayer};
 
-    /// The player before the first byte of a sound: 1 to 6 channels of the same number of bits, whole bytes where
-    /// they stand in frames. It is refused only for want of memory.
+    /// The player before the first byte of a sound: 1 to 6 channels of the same number of bits, whole bytes if they are
+    /// in frames. The only refusal is out of memory.
     pub fn new(alloc: Global, taps: &'a Taps, sound: Sound) -> Result<Player<'a>, AllocError>
         requires sound { IsSound sound }
         requires whole { sound.interleaving ≡ Interleaving.Bytes → sound.count % 8 ≡ 0 }
@@ -59,8 +59,8 @@ impl<'a> Player<'a> {
         })
     }
 
-    /// Takes the next bytes of the sound, and appends the bytes of each frame whose place lies among the bits
-    /// that came so far and that was not given yet. After `AllocError` the player is of no further use.
+    /// Takes the next bytes of the sound, and appends the bytes of each frame whose place is among the bits so far and
+    /// that was not returned yet. After `AllocError` the player is of no further use.
     pub fn feed(&mut self, bytes: &[u8], out: &mut Vec<u8>) -> Result<(), AllocError>
         requires ready { IsPlayer self.old }
         requires few { self.old.fed + length bytes.now ≤ self.old.sound.size }
@@ -131,7 +131,7 @@ fn streams_of(alloc: Global, taps: &Taps, sound: &Sound) -> Result<Vec<Stream>, 
     Ok(streams)
 }
 
-// Appends the bytes of the frames of samples that are given channel by channel.
+// Appends the bytes of the frames of samples that come channel by channel.
 fn push_tile(out: &mut Vec<u8>, width: u32, tile: &[i32], channels: usize) -> Result<(), AllocError>
     requires channels { 1 ≤ channels }
     requires width { IsWidth width }
@@ -146,8 +146,8 @@ fn push_tile(out: &mut Vec<u8>, width: u32, tile: &[i32], channels: usize) -> Re
     push_frames(out, width, tile, frames)
 }
 
-// Feeds each stream its channel's first bytes in whole groups of sound bytes. The samples that become due take the
-// place of what `tile` held, channel by channel.
+// Feeds each stream its channel's first bytes in whole groups of sound bytes. The samples that become due replace what
+// `tile` held, channel by channel.
 fn feed_all(
     streams: &mut [Stream],
     own: &mut Vec<u8>,
@@ -178,7 +178,7 @@ fn feed_all(
     Ok(())
 }
 
-// The first bytes of a channel of so many, in whole groups of sound bytes.
+// The first bytes of a channel in whole groups of sound bytes.
 #[derive(Clone, Copy)]
 struct Part {
     channels: usize,
@@ -218,7 +218,7 @@ fn feed_one(
     stream.feed(own.as_slice(), tile)
 }
 
-// Gives the rest of each stream's samples. They take the place of what `tile` held, channel by channel.
+// Returns the rest of each stream's samples. They replace what `tile` held, channel by channel.
 fn finish_all(streams: &mut [Stream], tile: &mut Vec<i32>) -> Result<(), AllocError>
     requires ready { AreWhole streams.old }
     ensures { OnOk result ((d : Decimator) (s : Sound) → length streams.old ≡ s.channels

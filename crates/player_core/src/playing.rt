@@ -1,4 +1,4 @@
-//! The way of a file's bytes, from a reader to the frames at a writer.
+//! From a reader of a file to a writer of its frames.
 
 ghost use Rattle.std.specs.Prelude.{◌≡◌, ◌+◌, ◌-◌, ◌<◌, ◌≤◌, ◌^◌, [], IfErr, IfOk, IfSome, IsErrOf, OnErr, OnOk};
 ghost use Rattle.chunk_core.specs.Inlets.{inlet_failures, inlet_given, inlet_reader, inlet_reads};
@@ -16,7 +16,7 @@ use sound_core::{StreamFault, read_into};
 use std::alloc::Global;
 use std::io::{Read, Write};
 
-/// Plays a reader's file to a writer: the number of bytes of the WAVE file that was written.
+/// Plays a reader's file to a writer, and returns the number of bytes of the WAVE file that was written.
 pub fn play<R: Read, W: Write>(
     alloc: Global,
     taps: &Taps,
@@ -30,24 +30,24 @@ pub fn play<R: Read, W: Write>(
     // What the reader's file plays was written, however its reads are cut.
     ensures ok { IfOk result (PlaysFile (R.remaining (inlet_reader inlet.old)) (PlaysBy taps.now)
         (W.contents (outlet_writer outlet.old)) (W.contents (outlet_writer outlet.new))) }
-    // The same of what was read, where the reader doesn't tell its bytes.
+    // The same of the bytes that were read, if the reader's bytes aren't known.
     ensures any_reader { IfOk result (PlaysGiven R.remaining inlet.old inlet.new (PlaysBy taps.now)
         (W.contents (outlet_writer outlet.old)) (W.contents (outlet_writer outlet.new))) }
-    // A fault of the file stands; what is played is refused from outside alone, and a front of it was written.
+    // A fault of the file applies; a file that can be played is refused only from outside, and a prefix of its WAVE
+    // file was written.
     ensures fault { IfErr result (λ f. IfSome (R.remaining (inlet_reader inlet.old)) (λ file. Stands taps.now file f)) }
     ensures cause { IfErr result (OnlyFromOutside (R.remaining (inlet_reader inlet.old)) taps.now) }
-    // Of a sound that isn't played nothing is written.
+    // Nothing is written for a sound that can't be played.
     ensures unwritten { IfErr result (λ f. IsBeforeWriting f → outlet_writer outlet.new ≡ outlet_writer outlet.old) }
     ensures front { OnErr result (WritesFront (R.remaining (inlet_reader inlet.old)) (PlaysBy taps.now)
         (W.contents (outlet_writer outlet.old)) (W.contents (outlet_writer outlet.new))) }
-    // Where the reading stops, what was written lags behind by at most 131,072 bytes of the one sound that the
-    // file tells of.
+    // If the reading stops, what was written lags by at most 131,072 bytes of the one sound that the file describes.
     ensures keeps_up { IfErr result (λ f. StopsReading f
         → KeepsUp (R.remaining (inlet_reader inlet.old)) taps.now [] (inlet_given inlet.new - inlet_given inlet.old)
         (W.contents (outlet_writer outlet.old)) (W.contents (outlet_writer outlet.new))) }
     ensures read_failed { inlet_failures inlet.new ≡ inlet_failures inlet.old + failed_reads result }
     ensures write_failed { outlet_failures outlet.new ≡ outlet_failures outlet.old + failed_writes result }
-    // Whatever is answered, there were at most 2^40 reads.
+    // Whatever is returned, there were at most 2^40 reads.
     ensures reads { inlet_reads inlet.new ≤ inlet_reads inlet.old + 2 ^ 40 }
     ensures turn_limit { IsErrOf result StreamFault.TurnLimit → inlet_reads inlet.new ≡ inlet_reads inlet.old + 2 ^ 40 }
 {
@@ -58,7 +58,7 @@ pub fn play<R: Read, W: Write>(
     play_file(alloc, inlet, &mut sink)
 }
 
-// Plays a reader's file by a sink that didn't begin.
+// Plays a reader's file with a sink that has not begun.
 fn play_file<R: Read, W: Write>(
     alloc: Global,
     inlet: &mut Inlet<R>,

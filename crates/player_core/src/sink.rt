@@ -1,4 +1,4 @@
-//! What plays a sound while its file is read.
+//! A sink that plays a sound while its file is read.
 
 ghost use Rattle.std.specs.Prelude.{◌≡◌, ◌-◌, ◌<◌, ◌^◌, List, ℕ, IfErr, OnOk, Some, length};
 ghost use Rattle.player_core.specs.Sinks.{FinishesPlaying, IsPlaying, RefusesPlaying};
@@ -15,14 +15,14 @@ use sound_core::{SoundPart, SoundSink, StreamFault};
 use std::alloc::Global;
 use std::io::Write;
 
-/// What plays a sound to an outlet: its header, and each frame when it is due. All of it is lent.
+/// A sink that plays a sound to an outlet: its header, and each frame when it is due. All of it is borrowed.
 #[derive(Drop)]
 pub(crate) struct PlayingSink<'a, 't, W> {
     /// The filter.
     pub(crate) taps: &'t Taps,
     /// Where the bytes go.
     pub(crate) outlet: &'a mut Outlet<W>,
-    /// What plays the sound, once that is known.
+    /// The player of the sound, once that is known.
     pub(crate) player: &'a mut Option<Player<'t>>,
     /// What is written next.
     pub(crate) out: &'a mut Vec<u8>,
@@ -31,7 +31,7 @@ pub(crate) struct PlayingSink<'a, 't, W> {
 impl<'a, 't, W> PlayingSink<'a, 't, W> {
     ghost use Rattle.std.specs.Prelude.{◌≡◌};
 
-    /// What plays a sound by this filter, before any.
+    /// A sink for this filter, before any sound.
     pub(crate) fn new(
         taps: &'t Taps,
         outlet: &'a mut Outlet<W>,
@@ -84,7 +84,7 @@ fn put_in<T: Drop>(place: &mut Option<T>, value: T)
     *place = Some(value);
 }
 
-/// Writes what is left to write once the whole sound came: the rest of the frames, and the pad.
+/// Writes what is left to write after the whole sound came: the rest of the frames, and the pad.
 ///
 /// Refusals: `WriteFailed`, `Memory`.
 pub(crate) fn finish<W: Write>(

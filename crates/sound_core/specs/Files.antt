@@ -1,4 +1,4 @@
--- The files that are played: what they hold, and what their fronts tell.
+-- The files that are read: what they hold, and what their first bytes say. The front is these first bytes.
 use Rattle.std.specs.Prelude.{◌≡◌, ℕ, ◌+◌, ◌%◌, ◌≤◌, ◌⊎◌, List, ◌++◌, length, Option, IfSome, ⊤}
 use Rattle.dsd_bits.specs.declared.blocks.BitOrder.{BitOrder}
 use Rattle.dsd_bits.specs.declared.interleaving.Interleaving.{Interleaving}
@@ -21,11 +21,11 @@ HoldsRecording file r = IsDsdiff file r ⊎ ((order : BitOrder) × IsDsf file r 
 abbrev pub IsAccepted : List ℕ → Type 0
 IsAccepted file = (r : Content) × HoldsRecording file r
 
--- the file holds none
+-- the file holds no recording
 abbrev pub IsRefused : List ℕ → Type 0
 IsRefused file = (r : Content) → HoldsRecording file r → ⊥
 
--- the front of a DSDIFF file, or of a DSF file where the sound stands in blocks, tells of this sound in its format's words
+-- the front of a DSDIFF file, or of a DSF file if the sound is in blocks, describes this sound in its format's words
 abbrev pub LeadsTo : Interleaving → List ℕ → Sound → Type 0
 LeadsTo Bytes front s = dsdiff.TellsSound front s
 LeadsTo (Blocks order) front s = dsf.TellsSound front s
@@ -35,7 +35,8 @@ pub record EndsAt (head : List ℕ) (s : Sound) : Type 0 where
   pub leads : LeadsTo s.interleaving head s
   pub start : s.start ≡ length head
 
--- the front of a file tells of this sound: it stands behind it or in it, and every recording of a file that begins so has it
+-- the front of a file describes this sound, which starts in it or at its end, and every recording of a file that begins
+-- like this has it
 pub record TellsSound (front : List ℕ) (s : Sound) : Type 0 where
   pub leads : LeadsTo s.interleaving front s
   pub is_sound : IsSound s
@@ -43,15 +44,15 @@ pub record TellsSound (front : List ℕ) (s : Sound) : Type 0 where
   pub within : s.start ≤ length front
   pub has : (rest : List ℕ) (r : Content) → HoldsRecording (front ++ rest) r → HasSound (front ++ rest) r s
 
--- bytes that stand before the sound of every accepted file that begins with them
+-- bytes that come before the sound of every accepted file that begins with them
 abbrev pub IsBeforeSound : List ℕ → Type 0
 IsBeforeSound front = (rest : List ℕ) (s : Sound) → IsAccepted (front ++ rest) → TellsSound (front ++ rest) s → length front ≤ s.start
 
--- no byte of the sound was given
+-- no byte of the sound was read
 abbrev pub GivesNone : Option (List ℕ) → ℕ → ℕ → Type 0
 GivesNone left_old given_old given_new = IfSome left_old (λ file. (s : Sound) → IsAccepted file → TellsSound file s → given_new ≤ given_old + s.start)
 
--- a fault of reading the front of a file: the file that the reader has holds no recording, or one of reading
+-- a fault of reading the front of a file: the reader's file holds no recording, or a fault of reading
 abbrev pub IsFrontFault : Option (List ℕ) → StreamFault → Type 0
 IsFrontFault left_old FileRefused = IfSome left_old IsRefused
 IsFrontFault left_old ReadFailed = ⊤

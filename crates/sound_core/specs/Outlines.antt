@@ -1,4 +1,4 @@
--- What a file holds beside its sound, and where that stands.
+-- What a file holds besides its sound, and where that is.
 use Rattle.std.specs.Prelude.{◌≡◌, ◌≢◌, ◌⊎◌, ℕ, ◌+◌, ◌%◌, ◌<◌, Bool, true, List, [], ◌++◌, drop, length, nat_lt, replicate, take, Option, Some, IfSome, ⊤}
 use Rattle.std.specs.Io.KnownBytes.{IsAtEnd}
 use Rattle.chunk_core.specs.Inlets.{inlet_reader}
@@ -19,7 +19,7 @@ use Rattle.sound_core.specs.declared.fault.StreamFault.TheVariants.{FileRefused,
 use Rattle.sound_core.specs.declared.outline.Behind.{Behind}
 use Rattle.sound_core.specs.declared.outline.Outline.{Outline}
 
--- the bytes around a sound, and what they tell
+-- the bytes around a sound, and what they say
 pub record Surroundings : Type 0 where
   pub sound : Sound
   pub head : List ℕ
@@ -28,7 +28,7 @@ pub record Surroundings : Type 0 where
   pub ends : Bool
   pub recording : Content
 
--- those of an outline in memory
+-- the surroundings of an outline in memory
 abbrev pub around_of : Outline → Surroundings
 around_of o = record {
   sound = o.sound;
@@ -39,16 +39,18 @@ around_of o = record {
   recording = o.recording;
 }
 
--- the file holds this recording: a DSDIFF file where the sound stands in frames, or a DSF file whose blocks have their bits in this order
+-- the file holds this recording: a DSDIFF file if the sound is in frames, or a DSF file whose blocks have their bits in
+-- this order
 abbrev pub HoldsIn : Interleaving → List ℕ → Content → Type 0
 HoldsIn Bytes file r = IsDsdiff file r
 HoldsIn (Blocks order) file r = IsDsf file r order
 
--- the recording with the channels that stand in these sound bytes
+-- the recording with the channels in these sound bytes
 abbrev pub with_sound : Content → Sound → List ℕ → Content
 with_sound r s bytes = record r { channels = sound_channels s.interleaving s.channels s.count bytes }
 
--- the file is these sound bytes in their surroundings: the head, the sound, a gap whose bytes do not matter, what was kept behind it, and whatever follows where the file need not end there
+-- the file is these sound bytes in their surroundings: the head, the sound, a gap whose bytes do not matter, what was
+-- kept after it, and any further bytes if the file need not end there
 pub record StandsIn (o : Surroundings) (file sound : List ℕ) : Type 0 where
   pub gap : List ℕ
   pub rest : List ℕ
@@ -78,7 +80,7 @@ AreAround o file = (sound : List ℕ) × StandsIn o file sound
 
 -- ---- stages
 
--- behind a sound, all was read to the tag's place, which is 0 for none, and the tag was kept, with nothing behind it
+-- after a sound, all was read up to the tag's place, which is 0 for none, and the tag was kept, with nothing after it
 pub record ReadsTag {R : Type 0} (left : R → Option (List ℕ)) (old new : Inlet R) (place stop : ℕ) (back_old back_new : List ℕ) (gap : ℕ) : Type 0 where
   pub passed : List ℕ
   pub read : List ℕ
@@ -89,7 +91,7 @@ pub record ReadsTag {R : Type 0} (left : R → Option (List ℕ)) (old new : Inl
   pub none : place ≡ 0 → back_new ≡ []
   pub at_place : place ≢ 0 → stop + gap ≡ place
 
--- a fault of this: the tag would stand before the sound's end or behind the file's, or one of reading
+-- a fault of this: the tag would come before the sound's end or after the file's, or a fault of reading
 abbrev pub IsTagFault : Option (List ℕ) → ℕ → ℕ → List ℕ → StreamFault → Type 0
 IsTagFault left_old place stop back FileRefused = IfSome left_old (λ left. (place ≢ 0) × ((place < stop) ⊎ (stop + length (back ++ left) < place)))
 IsTagFault left_old place stop back ReadFailed = ⊤
@@ -97,11 +99,12 @@ IsTagFault left_old place stop back TurnLimit = ⊤
 IsTagFault left_old place stop back Memory = ⊤
 IsTagFault left_old place stop back _ = ⊥
 
--- those of a sound with this head and these bytes behind it
+-- the surroundings of a sound with this head and these bytes after it
 abbrev pub with_ends : Sound → List ℕ → List ℕ → Behind → Surroundings
 with_ends s head back b = record { sound = s; head = head; gap = b.gap; back = back; ends = b.ends; recording = b.recording }
 
--- behind a head and a sound, of which some bytes were read, the rest of a file was read as far as it matters: its surroundings are known, whichever bytes the sound has
+-- after a head and a sound, and some bytes that were read before, the rest of a file was read as far as it matters: its
+-- surroundings are known, whichever bytes the sound has
 pub record Surrounds {R : Type 0} (left : R → Option (List ℕ)) (old new : Inlet R) (back : List ℕ) (o : Surroundings) : Type 0 where
   pub read : List ℕ
   pub reads : Reads left old new read
@@ -109,7 +112,7 @@ pub record Surrounds {R : Type 0} (left : R → Option (List ℕ)) (old new : In
   pub given : (sound : List ℕ) → length sound ≡ o.sound.size → StandsIn o (o.head ++ (sound ++ (back ++ read))) sound
   pub stands : (sound rest : List ℕ) → length sound ≡ o.sound.size → left (inlet_reader new) ≡ Some rest → StandsIn o (o.head ++ (sound ++ (back ++ (read ++ rest)))) sound
 
--- a fault of this: no file that goes on so is accepted, whichever bytes the sound has, or one of reading
+-- a fault of this: no file that continues like this is accepted, whichever bytes the sound has, or a fault of reading
 abbrev pub IsRestFault : Option (List ℕ) → Sound → List ℕ → List ℕ → StreamFault → Type 0
 IsRestFault left_old s head back FileRefused = IfSome left_old (λ left. (sound : List ℕ) → length sound ≡ s.size → IsRefused (head ++ (sound ++ (back ++ left))))
 IsRestFault left_old s head back ReadFailed = ⊤
@@ -119,15 +122,16 @@ IsRestFault left_old s head back _ = ⊥
 
 -- ---- the whole file
 
--- whatever file stands there, it is some sound in the surroundings, and they tell what it holds
+-- the surroundings describe what a file holds, and the reader's file, if it is known, is some sound in them
 abbrev pub SurroundsFile : Option (List ℕ) → Surroundings → Type 0
 SurroundsFile left_old o = AreTold o × IfSome left_old (AreAround o)
 
--- a reader that does not tell its bytes gave some, as many as were counted, which are some sound in the surroundings
+-- the reader returned some bytes, as many as were counted, which are some sound in the surroundings; this also holds if
+-- its bytes aren't known
 abbrev pub SurroundsGiven : {R : Type 0} → (R → Option (List ℕ)) → Inlet R → Inlet R → Surroundings → Type 0
 SurroundsGiven left old new o = (read : List ℕ) × Reads left old new read × AreAround o read
 
--- a fault of this: the file holds no recording, or one of reading
+-- a fault of this: the file holds no recording, or a fault of reading
 abbrev pub IsOutlineFault : Option (List ℕ) → StreamFault → Type 0
 IsOutlineFault left_old FileRefused = IfSome left_old IsRefused
 IsOutlineFault left_old ReadFailed = ⊤

@@ -1,4 +1,4 @@
--- A reader of a file: what it keeps to, and how far it goes.
+-- A reader of a file: what holds of it, and how far it goes.
 use Rattle.std.specs.Prelude.{◌≡◌, ℕ, ◌+◌, ◌-◌, ◌<◌, ◌≤◌, ◌^◌, List, [], ◌++◌, length, take, Option, IfSome, Result, IsErrOf, ⊤}
 use Rattle.std.specs.Io.KnownBytes.{IsAtEnd}
 use Rattle.chunk_core.specs.Inlets.{inlet_failures, inlet_given, inlet_reader, inlet_reads}
@@ -9,7 +9,8 @@ use Rattle.sound_core.specs.declared.fault.StreamFault.{StreamFault}
 use Rattle.sound_core.specs.declared.fault.StreamFault.TheVariants.{FileRefused, ReadFailed, TurnLimit, Memory}
 use Rattle.sound_core.specs.declared.reader.SoundReader.{SoundReader}
 
--- a reader that may read on: one more failure can be counted, no count comes to its end, and it has a block to read into
+-- a reader that may read on: one more failure can be counted, no counter reaches its end, and it has a block to read
+-- into
 pub record IsReading {R : Type 0} (r : SoundReader R) : Type 0 where
   pub ready : inlet_failures r.inlet.now < 2 ^ 64 - 1
   pub budget : HasBudget r.limit r.inlet.now
@@ -27,13 +28,13 @@ pub record IsSame {R : Type 0} (old new : SoundReader R) : Type 0 where
   pub given : new.given ≡ old.given
   pub limit : new.limit ≡ old.limit
 
--- what was counted where this was answered: a failure where a read failed, and no more reads than its limit
+-- what was counted with this result: a failure if a read failed, and no more reads than the limit
 pub record Counts {R X : Type 0} (old new : SoundReader R) (r : Result X StreamFault) : Type 0 where
   pub failures : inlet_failures new.inlet.now ≡ inlet_failures old.inlet.now + failed_reads r
   pub turns : IsErrOf r TurnLimit → inlet_reads new.inlet.now ≡ old.limit
   pub most : inlet_reads new.inlet.now ≤ old.limit
 
--- one read to the places from `filled` up to `size` of a block gave so many bytes, none only at the end
+-- one read to the places from `filled` up to `size` of a block returned n bytes, none only at the end
 pub record PullsTo {R : Type 0} (left : R → Option (List ℕ)) (old new : Inlet R) (filled size : ℕ) (block_old block_new : List ℕ) (n : ℕ) : Type 0 where
   pub read : List ℕ
   pub reads : Reads left old new read
@@ -42,7 +43,7 @@ pub record PullsTo {R : Type 0} (left : R → Option (List ℕ)) (old new : Inle
   pub front : take (filled + n) block_new ≡ take filled block_old ++ read
   pub end : n ≡ 0 → IsAtEnd (left (inlet_reader new))
 
--- so many bytes were passed: of those ahead and those that were read, the first; the others are ahead
+-- n bytes were passed: the first of the buffered bytes and those that were read; the others are buffered
 pub record Passes {R : Type 0} (left : R → Option (List ℕ)) (old new : Inlet R) (n : ℕ) (ahead_old ahead_new : List ℕ) : Type 0 where
   pub passed : List ℕ
   pub read : List ℕ
@@ -50,7 +51,7 @@ pub record Passes {R : Type 0} (left : R → Option (List ℕ)) (old new : Inlet
   pub parts : ahead_old ++ read ≡ passed ++ ahead_new
   pub long : length passed ≡ n
 
--- so many bytes were passed, and are the first of a block
+-- n bytes were passed, and are the first of a block
 pub record Fills {R : Type 0} (left : R → Option (List ℕ)) (old new : Inlet R) (n : ℕ) (ahead_old ahead_new block : List ℕ) : Type 0 where
   pub passes : Passes left old new n ahead_old ahead_new
   pub first : take n block ≡ passes.passed
@@ -62,7 +63,7 @@ pub record FallsShort {R : Type 0} (left : R → Option (List ℕ)) (old new : I
   pub few : length (ahead ++ read) < n
   pub at_end : IsAtEnd (left (inlet_reader new))
 
--- a fault of this: there are fewer, or one of reading
+-- a fault of this: there are fewer, or a fault of reading
 abbrev pub IsPassFault : Option (List ℕ) → ℕ → List ℕ → StreamFault → Type 0
 IsPassFault left_old n ahead FileRefused = IfSome left_old (λ left. length (ahead ++ left) < n)
 IsPassFault left_old n ahead ReadFailed = ⊤

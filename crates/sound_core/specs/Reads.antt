@@ -1,10 +1,10 @@
--- What was read of a reader whose reads are counted.
+-- What was read from a reader whose reads are counted.
 use Rattle.std.specs.Prelude.{◌≡◌, ℕ, ◌+◌, ◌-◌, ◌*◌, ◌<◌, ◌≤◌, ◌^◌, ◌⊎◌, List, ◌++◌, length, Option, IfSome}
 use Rattle.std.specs.Io.KnownBytes.{Consumes, IsAtEnd}
 use Rattle.chunk_core.specs.Inlets.{inlet_given, inlet_reader, inlet_reads}
 use Rattle.chunk_core.specs.declared.inlet.Inlet.{Inlet}
 
--- up to so many reads of a block each, no count comes to its end
+-- up to `limit` reads of a block each, no counter reaches its end
 pub record HasBudget {R : Type 0} (limit : ℕ) (inlet : Inlet R) : Type 0 where
   pub reads : inlet_reads inlet ≤ limit
   pub given : inlet_given inlet + 65536 * (limit - inlet_reads inlet) < 2 ^ 64
@@ -15,12 +15,12 @@ pub record Reads {R : Type 0} (left : R → Option (List ℕ)) (old new : Inlet 
   pub consumed : Consumes (left (inlet_reader old)) (left (inlet_reader new)) bytes
   pub given : inlet_given new ≡ inlet_given old + length bytes
 
--- these bytes were read of those that are left, and counted
+-- these bytes were read from those that are left, and counted
 pub record GivesBytes (left_old : Option (List ℕ)) (given_old given_new : ℕ) (read : List ℕ) : Type 0 where
   pub begins : IfSome left_old (λ left. (rest : List ℕ) × (left ≡ read ++ rest))
   pub given : given_new ≡ given_old + length read
 
--- what was read was appended, until there were so many bytes or the reader was at its end
+-- what was read was appended, until there were `wanted` bytes or the reader was at its end
 pub record ReadsUntil {R : Type 0} (left : R → Option (List ℕ)) (old new : Inlet R) (bytes_old bytes_new : List ℕ) (wanted : ℕ) : Type 0 where
   pub bytes : List ℕ
   pub reads : Reads left old new bytes

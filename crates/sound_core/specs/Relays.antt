@@ -1,4 +1,4 @@
--- What is written of a file whose outline is known, and which faults stand.
+-- What is written of a file whose outline is known, and which faults apply.
 use Rattle.std.specs.Prelude.{◌≡◌, ℕ, ◌+◌, ◌-◌, ◌%◌, ◌<◌, ◌^◌, List, ◌++◌, length, Option, IfSome, Err, ⊤}
 use Rattle.std.specs.Io.KnownBytes.{Appends}
 use Rattle.chunk_core.specs.declared.inlet.Inlet.{Inlet}
@@ -16,23 +16,24 @@ use Rattle.sound_core.specs.declared.fault.StreamFault.TheVariants.{FileRefused,
 use Rattle.sound_core.specs.declared.relaying.Target.{Target}
 use Rattle.sound_core.specs.declared.relaying_sink.RelayingSink.{RelayingSink}
 
--- the sound bytes of a sound, interleaved otherwise
+-- the bytes of a sound, re-interleaved
 abbrev pub relaced_sound : Sound → Interleaving → List ℕ → List ℕ
 relaced_sound s to sound = relaced s.interleaving to s.channels s.count sound
 
--- what is written of a file with this sound: a head, the sound interleaved otherwise, a tail
+-- what is written of a file with this sound: a head, the sound re-interleaved, a tail
 abbrev pub relayed : Target → Sound → List ℕ → List ℕ
 relayed target s sound = target.head.now ++ (relaced_sound s target.interleaving sound ++ target.tail.now)
 
--- whatever file stands there, it is some sound in the outline, and what is made of that sound was written
+-- the reader's file, if it is known, is some sound in the outline, and what is made of that sound was written
 abbrev pub Relays : Option (List ℕ) → Target → Surroundings → Option (List ℕ) → Option (List ℕ) → Type 0
 Relays left target o held_old held_new = IfSome left (λ file. (sound : List ℕ) × StandsIn o file sound × Appends held_old held_new (relayed target o.sound sound))
 
--- a reader that does not tell its bytes gave some, as many as were counted, which are some sound in the outline, and what is made of that sound was written
+-- the reader returned some bytes, as many as were counted, which are some sound in the outline, and what is made of
+-- that sound was written; this also holds if its bytes aren't known
 abbrev pub RelaysGiven : {R : Type 0} → (R → Option (List ℕ)) → Inlet R → Inlet R → Target → Surroundings → Option (List ℕ) → Option (List ℕ) → Type 0
 RelaysGiven left old new target o held_old held_new = (read : List ℕ) × (sound : List ℕ) × Reads left old new read × StandsIn o read sound × Appends held_old held_new (relayed target o.sound sound)
 
--- known bytes grow by a prefix of these, and after a failed write not by all of them
+-- bytes, if they are known, grew by a prefix of these, and after a failed write not by all of them
 abbrev pub AppendsUntil : Option (List ℕ) → Option (List ℕ) → List ℕ → StreamFault → Type 0
 AppendsUntil held_old held_new all fault = (front : List ℕ) × (back : List ℕ) × (all ≡ front ++ back) × (fault ≡ WriteFailed → 0 < length back) × Appends held_old held_new front
 

@@ -14,7 +14,7 @@ use Rattle.sound_core.specs.declared.fault.StreamFault.{StreamFault}
 use Rattle.sound_core.specs.declared.fault.StreamFault.TheVariants.{FileRefused}
 use Rattle.sound_core.specs.declared.part.SoundPart.{SoundPart}
 
--- these bytes of a sound came, those of so many bits of each channel: whole groups of blocks, or all
+-- these bytes of a sound came, `done` bits of each channel: whole groups of blocks, or all of it
 pub record IsFed (s : Sound) (done : ℕ) (bytes : List ℕ) : Type 0 where
   pub is_sound : IsSound s
   pub whole : s.interleaving ≡ Bytes → s.count % 8 ≡ 0
@@ -22,7 +22,7 @@ pub record IsFed (s : Sound) (done : ℕ) (bytes : List ℕ) : Type 0 where
   pub groups : done < s.count → done % 32768 ≡ 0
   pub size : length bytes ≡ sound_size s.interleaving s.channels done
 
--- how many bytes of the sound stand among so many first bytes of its file
+-- how many bytes of the sound the first n bytes of its file hold
 abbrev pub sound_given : Sound → ℕ → ℕ
 sound_given s given = min (given - s.start) s.size
 
@@ -31,16 +31,18 @@ sound_given s given = min (given - s.start) s.size
 abbrev pub IsTakenOf : (Sound → ℕ → List ℕ → Type 0) → Surroundings → List ℕ → Type 0
 IsTakenOf has o file = (sound : List ℕ) × StandsIn o file sound × has o.sound o.sound.count sound
 
--- whatever file stands there, it is some sound in the surroundings, they tell what it holds, and the sink has the bytes of that sound
+-- the surroundings describe what a file holds; the reader's file, if it is known, is some sound in them, and the sink
+-- has the bytes of that sound
 abbrev pub TakesFile : (Sound → ℕ → List ℕ → Type 0) → Option (List ℕ) → Surroundings → Type 0
 TakesFile has left o = AreTold o × IfSome left (IsTakenOf has o)
 
--- a reader that does not tell its bytes gave some, which are some sound in the surroundings, and the sink has its bytes
+-- the reader returned some bytes, which are some sound in the surroundings, and the sink has its bytes; this also holds
+-- if the reader's bytes aren't known
 abbrev pub TakesGiven : {R : Type 0} → (Sound → ℕ → List ℕ → Type 0) → (R → Option (List ℕ)) → Inlet R → Inlet R → Surroundings → Type 0
 TakesGiven has left old new o = (read : List ℕ) × Reads left old new read × IsTakenOf has o read
 
 -- ---- what is so where it was not
--- the file tells of this sound, whose bytes begin with these
+-- the file describes this sound, whose bytes begin with these
 pub record BeginsSound (s : Sound) (came file : List ℕ) : Type 0 where
   pub front : List ℕ
   pub rest : List ℕ
@@ -49,13 +51,14 @@ pub record BeginsSound (s : Sound) (came file : List ℕ) : Type 0 where
   pub more : List ℕ
   pub sound_is : drop s.start front ++ rest ≡ came ++ more
 
--- no byte of the sound came to the sink, which is as it was
+-- no byte of the sound came to the sink, which is unchanged
 pub record NoneCame {S : Type 0} (left : Option (List ℕ)) (given_old given_new : ℕ) (old new : S) (f : StreamFault) : Type 0 where
   pub same : new ≡ old
   pub fault : IsOutlineFault left f
   pub none : StopsReading f → GivesNone left given_old given_new
 
--- the sink has the bytes that came, and the reading ended behind them; where it stopped for a device, at most 65,536 bytes of the sound more were given
+-- the sink has the bytes that came, and the reading ended after them; if it stopped for a device, at most 65,536
+-- further bytes of the sound were read
 pub record ReadingEnds {S : Type 0} (left : Option (List ℕ)) (given : ℕ) (has : S → S → Sound → ℕ → List ℕ → Type 0) (old new : S) (s : Sound) (came : List ℕ) (f : StreamFault) : Type 0 where
   pub done : ℕ
   pub fed : IsFed s done came
@@ -86,30 +89,30 @@ pub record TakesPart {R S : Type 0} (left : R → Option (List ℕ)) (has : S �
   pub passes : Passes left i j (sound_size part.sound.interleaving part.sound.channels part.bits) ahead_old ahead_new
   pub taken : (first : S) (before : List ℕ) → IsFed part.sound part.done before → has first old part.sound part.done before → has first new part.sound (part.done + part.bits) (before ++ passes.passed)
 
--- they were read, and the sink refused them
+-- the bytes of a part of a sound were read, and the sink refused them
 pub record RefusesPart {R S : Type 0} (left : R → Option (List ℕ)) (has : S → S → Sound → ℕ → List ℕ → Type 0) (refused : S → S → Sound → List ℕ → StreamFault → Type 0) (i j : Inlet R) (old new : S) (part : SoundPart) (ahead_old ahead_new : List ℕ) (f : StreamFault) : Type 0 where
   pub passes : Passes left i j (sound_size part.sound.interleaving part.sound.channels part.bits) ahead_old ahead_new
   pub own : IsSinkFault f
   pub refuses : (first : S) (before : List ℕ) → IsFed part.sound part.done before → has first old part.sound part.done before → refused first new part.sound (before ++ passes.passed) f
 
--- so many bytes were not read to their end; the sink is as it was
+-- n bytes were not read to their end; the sink is unchanged
 pub record StopsBefore {R S : Type 0} (left : R → Option (List ℕ)) (i j : Inlet R) (old new : S) (n : ℕ) (ahead : List ℕ) (f : StreamFault) : Type 0 where
   pub same : new ≡ old
   pub fault : IsPassFault (left (inlet_reader i)) n ahead f
   pub pace : StopsReading f → inlet_given j + length ahead ≤ inlet_given i + n
 
--- a part was not taken, for one of both
+-- a part was not taken, for one of these two reasons
 abbrev pub StopsPart : {R S : Type 0} → (R → Option (List ℕ)) → (S → S → Sound → ℕ → List ℕ → Type 0) → (S → S → Sound → List ℕ → StreamFault → Type 0) → Inlet R → Inlet R → S → S → SoundPart → List ℕ → List ℕ → StreamFault → Type 0
 StopsPart left has refused i j old new part ahead_old ahead_new f = StopsBefore left i j old new (sound_size part.sound.interleaving part.sound.channels part.bits) ahead_old f
     ⊎ RefusesPart left has refused i j old new part ahead_old ahead_new f
 
--- the first bytes of a sound were read, those of so many bits of each channel, and taken
+-- the first bytes of a sound were read, which are `bits` bits of each channel, and taken
 pub record TakesSome {R S : Type 0} (left : R → Option (List ℕ)) (has : S → S → Sound → ℕ → List ℕ → Type 0) (s : Sound) (i j : Inlet R) (old new : S) (bits : ℕ) (ahead_old ahead_new : List ℕ) : Type 0 where
   pub passes : Passes left i j (sound_size s.interleaving s.channels bits) ahead_old ahead_new
   pub fed : IsFed s bits passes.passed
   pub taken : has old new s bits passes.passed
 
--- the reading ended in the sound, behind what the sink has
+-- the reading ended in the sound, after what the sink has
 pub record EndsInSound {R S : Type 0} (left : R → Option (List ℕ)) (has : S → S → Sound → ℕ → List ℕ → Type 0) (s : Sound) (i j : Inlet R) (old new : S) (came ahead : List ℕ) (f : StreamFault) : Type 0 where
   pub done : ℕ
   pub fed : IsFed s done came

@@ -1,4 +1,4 @@
-//! The front of a file, up to its sound.
+//! The header of a file, up to its sound.
 
 ghost use Rattle.std.specs.Prelude.{◌≡◌, ◌+◌, ◌-◌, ◌<◌, ◌≤◌, ◌^◌, ◌++◌, List, ℕ, IfErr, IfOk, IfSome, OnOk, Err, length};
 ghost use Rattle.chunk_core.specs.Inlets.{inlet_given, inlet_reader};
@@ -22,7 +22,7 @@ use form_core::{ReadFault, read_any};
 use std::alloc::{AllocError, Global};
 use std::io::Read;
 
-/// What the front of a file tells of its sound, whichever its format.
+/// What the first bytes of a file say about its sound, in either format.
 #[derive(Clone, Copy)]
 pub(crate) enum Told {
     /// The sound.

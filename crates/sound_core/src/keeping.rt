@@ -17,20 +17,20 @@ use dsd_bits::{BitRange, Bits};
 use std::alloc::Global;
 use std::io::Read;
 
-/// A file without its sound, and stretches of that.
+/// A file without its sound, and stretches of the sound.
 #[derive(Drop)]
 pub struct Kept {
-    /// What stands around the sound, and what it tells.
+    /// The bytes before and after the sound, and what they say.
     pub outline: Outline,
-    /// For each range that was asked for the bits of each channel there.
+    /// For each requested range the bits of each channel there.
     pub stretches: Vec<Vec<Bits>>,
 }
 
-/// Reads a file once, as [`crate::read_outline`] does, and keeps of its sound the bits of each channel in each of these
-/// ranges, which may stand in any order and overlap. Where a range reaches behind the sound's end, what there is of it
-/// is kept. Beside that, at most three blocks of 65,536 bytes of the sound are held at a time, and the channels of one.
+/// Reads a file once, as [`crate::read_outline`] does, and keeps the bits of each channel of its sound in each of these
+/// ranges. They may be in any order and overlap. Of a range that extends past the sound's end, what there is of it is
+/// kept. Besides that, at most three blocks of 65,536 bytes of the sound are held at a time, and the channels of one.
 ///
-/// The inlet counts fewer than `2^63` reads and bytes at entry.
+/// At entry the inlet must have counted fewer than `2^63` reads and bytes.
 ///
 /// Refusals: those of [`crate::read_outline`].
 pub fn read_stretches<R: Read>(
@@ -41,17 +41,17 @@ pub fn read_stretches<R: Read>(
     requires inlet_ready { inlet_failures inlet.old < 2 ^ 64 - 1 }
     requires reads_low { inlet_reads inlet.old < 2 ^ 63 }
     requires given_low { inlet_given inlet.old < 2 ^ 63 }
-    // The reader's file is some sound in the outline, and these are the stretches of its channels.
+    // The reader's file is the outline with some sound, and these are the stretches of its channels.
     ensures ok { IfOk result (λ k. KeepsFile (R.remaining (inlet_reader inlet.old)) (around_of k.outline) ranges.now
         (stretches_in k)) }
-    // The same of what was read, where the reader doesn't tell its bytes.
+    // The same of the bytes that were read, if the reader's bytes aren't known.
     ensures any_reader { IfOk result (λ k. KeepsGiven R.remaining inlet.old inlet.new (around_of k.outline) ranges.now
         (stretches_in k)) }
     // The first fault of what was read, and of the reader's file.
     ensures named { IfErr result (λ u. IfRefused u (NamesFault R.remaining inlet.old inlet.new)) }
     ensures fault { IfErr result (λ u. IsOutlineFault (R.remaining (inlet_reader inlet.old)) (plain u)) }
     ensures read_failed { inlet_failures inlet.new ≡ inlet_failures inlet.old + failed_reads (map_err plain result) }
-    // Whatever is answered, there were at most 2^40 reads.
+    // Whatever is returned, there were at most 2^40 reads.
     ensures reads { inlet_reads inlet.new ≤ inlet_reads inlet.old + 2 ^ 40 }
     ensures turn_limit { IfErr result (λ u. plain u ≡ StreamFault.TurnLimit
         → inlet_reads inlet.new ≡ inlet_reads inlet.old + 2 ^ 40) }

@@ -1,35 +1,36 @@
-//! Reading a DSDIFF 1.5 or DSF 1.01 file from a reader, a block at a time: what stands around its sound, and the sound
-//! itself, which whoever wants it takes piece by piece.
+//! Reads a DSDIFF 1.5 or DSF 1.01 file from a reader, a block at a time: the bytes around its sound, and the sound
+//! itself, which a sink takes piece by piece.
 //!
-//! [`read_outline`] reads a file once and tells all of it but the bits of its sound: an [`Outline`], by which the file
-//! can be read again and written in another form while it is read. Of the sound it holds one block of 65,536 bytes; what
-//! stands before the sound is held whole, and so is what a DSDIFF form has behind it, or the tag of a DSF file.
-//! [`read_into`] does so too, and has a [`SoundSink`] take the sound (`sink.rt`), a [`SoundPart`] of at most 65,536 bytes
-//! at a time (`part.rt`): there is one loop over a sound (`taking.rt`), whatever is made of it. [`read_stretches`] keeps
-//! the bits of each channel in the ranges that it is given, by a sink (`keeper.rt`); the sink of [`read_outline`] keeps
-//! nothing (`nothing.rt`).
+//! [`read_outline`] reads a file once and returns all of it but the bits of its sound: an [`Outline`], with which the
+//! file can be read again and written in another form at the same time. Of the sound it holds one block of 65,536
+//! bytes. The bytes before the sound are held whole, and so are those that follow it in a DSDIFF form, or the tag of a
+//! DSF file. [`read_into`] does the same, and a [`SoundSink`] takes the sound (`sink.rt`), a [`SoundPart`] of at most
+//! 65,536 bytes at a time (`part.rt`). There is one loop over a sound (`taking.rt`), whatever is made of it.
+//! [`read_stretches`] keeps the bits of each channel in given ranges, with a sink (`keeper.rt`). The sink of
+//! [`read_outline`] keeps nothing (`nothing.rt`).
 //!
 //! [`relay`] reads a file whose outline is known once more, and hands its sound on in another interleaving
 //! (`relaying.rt`): it writes a head, then the sound, by a sink (`relaying_sink.rt`), then a tail. Of the sound it holds
 //! whole groups of the channels' blocks, at most 65,536 bytes, and what is made of them. A file whose outline is another
 //! one now is refused; which bytes its sound has isn't compared with anything.
 //!
-//! A reader has the inlet, a block to read into, the limit of its reads and what was read ahead (`reader.rt`). It is led up
-//! to the sound (`front.rt`), and then behind it (`outline.rt`). A sink that writes does so by [`put`].
+//! A reader has the inlet, a block to read into, the limit of its reads and the buffered bytes (`reader.rt`). It is
+//! read up to the sound (`front.rt`), and then after it (`outline.rt`). A sink that writes uses [`put`].
 //!
 //! The words of the contracts:
 //!
-//! - `HoldsRecording file r` says that the file is a DSDIFF or a DSF file that holds this recording, `TellsSound front
-//!   s` that the front of a file tells of this sound (`specs/Files.antt`), in the words of its format: the chunks that
-//!   lead up to it, or the fields. A file that holds a recording tells of one ([`accepted_files_tell_one_sound`]).
-//! - `Reads left old new bytes` says that an inlet gave these bytes and counted them (`specs/Reads.antt`), `IsReading
-//!   reader` that a reader may read on (`specs/Readers.antt`).
+//! - `HoldsRecording file r` says that the file is a DSDIFF or a DSF file that holds this recording. `TellsSound front
+//!   s` says that the first bytes of a file describe this sound (`specs/Files.antt`), in the words of its format: the
+//!   chunks that lead up to it, or the fields. A file that holds a recording describes exactly one
+//!   ([`accepted_files_tell_one_sound`]).
+//! - `Reads left old new bytes` says that an inlet returned these bytes and counted them (`specs/Reads.antt`),
+//!   `IsReading reader` that a reader may read on (`specs/Readers.antt`).
 //! - `StandsIn around file sound` says that a file is these sound bytes in their surroundings, `AreTold around` that
-//!   every such file holds what the surroundings tell, with the channels of its sound, and `SurroundsFile left around`
-//!   both of a reader's file (`specs/Outlines.antt`).
-//! - `IsFed s done bytes` says that these bytes of a sound came, those of so many bits of each channel, and `TakesFile has
-//!   left around` that a reader's file is some sound in these surroundings, of whose bytes this holds, `StopsTaking` why it
-//!   isn't taken to its end, and what the sink is then (`specs/Sinks.antt`).
+//!   every such file holds what the surroundings describe, with the channels of its sound, and `SurroundsFile left
+//!   around` that both hold for a reader's file (`specs/Outlines.antt`).
+//! - `IsFed s done bytes` says that these bytes of a sound came, which are `done` bits of each channel. `TakesFile has
+//!   left around` says that a reader's file is some sound in these surroundings, and that `has` holds of its bytes.
+//!   `StopsTaking` says why it isn't taken to its end, and what the sink is then (`specs/Sinks.antt`).
 //! - `KeepsFile left around ranges kept` says that a reader's file is some sound in these surroundings, and which stretches
 //!   of its channels were kept (`specs/Keeping.antt`).
 //!
@@ -38,8 +39,8 @@
 //!   sound; `RelaysFront left target outline old new fault` that a prefix of it was written, if the file is one, and after
 //!   a failed write not all of it (`specs/Relays.antt`).
 //!
-//! What it promises: Ok means that the reader's file is some sound in the outline, however its reads are cut, and that
-//! every such file holds what the outline tells; a file that is refused holds no recording.
+//! What it promises: Ok means that the reader's file is the outline with some sound, however its reads are cut, and
+//! that every such file holds what the outline describes. A file that is refused holds no recording.
 //!
 //! ```text
 //! let mut inlet = Inlet::new(file);

@@ -1,4 +1,4 @@
-//! What a file holds beside its sound, read in one pass.
+//! What a file holds besides its sound, read in one pass.
 
 ghost use Rattle.std.specs.Prelude.{◌≡◌, ◌+◌, ◌-◌, ◌%◌, ◌<◌, ◌≤◌, ◌^◌, ◌++◌, IfErr, IfOk, length, true};
 ghost use Rattle.chunk_core.specs.Inlets.{inlet_failures, inlet_given, inlet_reader, inlet_reads};
@@ -21,30 +21,31 @@ use form_core::ReadFault;
 use std::alloc::Global;
 use std::io::Read;
 
-/// A file without its sound: what stands around it, and what it tells.
+/// A file without its sound: the bytes around it, and what they say.
 ///
-/// The file is `head`, the bytes of the sound, `gap` bytes that don't matter, `back`, and whatever follows where it
-/// need not end there.
+/// The file is `head`, the bytes of the sound, `gap` bytes that don't matter, `back`, and any further bytes if it need
+/// not end there.
 #[derive(Drop)]
 pub struct Outline {
-    /// What the sound is, and where it stands.
+    /// What the sound is, and where it is.
     pub sound: Sound,
     /// The bytes before the sound.
     pub head: Vec<u8>,
     /// How many bytes between the sound and `back` don't matter: those before the tag of a DSF file.
     pub gap: u64,
-    /// The bytes behind it: what a DSDIFF form has behind its sound, or the tag of a DSF file.
+    /// The bytes after it: what follows the sound in a DSDIFF form, or the tag of a DSF file.
     pub back: Vec<u8>,
-    /// Whether the file ends behind `back`: bytes behind a whole DSDIFF form don't matter.
+    /// Whether the file ends after `back`: bytes after a whole DSDIFF form don't matter.
     pub ends: bool,
-    /// The recording that it holds, with channels of no bits.
+    /// The recording that it holds, with empty channels.
     pub recording: Recording,
 }
 
-/// Reads a file to its end, or to that of a DSDIFF form, and tells all of it but the bits of its sound. What stands
-/// before the sound is held, and what is kept behind it, of the sound one block of 65,536 bytes at a time.
+/// Reads a file to its end, or to that of a DSDIFF form, and returns all of it but the bits of its sound. The bytes
+/// before the sound are held, and those that are kept after it. Of the sound one block of 65,536 bytes is held at a
+/// time.
 ///
-/// The inlet counts fewer than `2^63` reads and bytes at entry.
+/// At entry the inlet must have counted fewer than `2^63` reads and bytes.
 ///
 /// Refusals: `Refused` with the fault that [`form_core::read_any`] answers, for bytes that are neither a DSDIFF nor a DSF
 /// file that holds a recording; `Stream` with `FileRefused` for those of them whose first fault one reading doesn't tell,
@@ -53,15 +54,15 @@ pub fn read_outline<R: Read>(alloc: Global, inlet: &mut Inlet<R>) -> Result<Outl
     requires inlet_ready { inlet_failures inlet.old < 2 ^ 64 - 1 }
     requires reads_low { inlet_reads inlet.old < 2 ^ 63 }
     requires given_low { inlet_given inlet.old < 2 ^ 63 }
-    // The reader's file is some sound in the outline, and every such file holds what the outline tells.
+    // The reader's file is the outline with some sound, and every such file holds what the outline describes.
     ensures ok { IfOk result (λ o. SurroundsFile (R.remaining (inlet_reader inlet.old)) (around_of o)) }
-    // The same of what was read, as many bytes as were counted, where the reader doesn't tell its bytes.
+    // The same of the bytes that were read, as many as were counted, if the reader's bytes aren't known.
     ensures any_reader { IfOk result (λ o. SurroundsGiven R.remaining inlet.old inlet.new (around_of o)) }
     // The first fault of what was read, and of the reader's file.
     ensures named { IfErr result (λ u. IfRefused u (NamesFault R.remaining inlet.old inlet.new)) }
     ensures fault { IfErr result (λ u. IsOutlineFault (R.remaining (inlet_reader inlet.old)) (plain u)) }
     ensures read_failed { inlet_failures inlet.new ≡ inlet_failures inlet.old + failed_reads (map_err plain result) }
-    // Whatever is answered, there were at most 2^40 reads.
+    // Whatever is returned, there were at most 2^40 reads.
     ensures reads { inlet_reads inlet.new ≤ inlet_reads inlet.old + 2 ^ 40 }
     ensures turn_limit { IfErr result (λ u. plain u ≡ StreamFault.TurnLimit
         → inlet_reads inlet.new ≡ inlet_reads inlet.old + 2 ^ 40) }
@@ -69,10 +70,10 @@ pub fn read_outline<R: Read>(alloc: Global, inlet: &mut Inlet<R>) -> Result<Outl
     read_named(alloc, inlet, &mut Nothing {})
 }
 
-/// Reads the rest of a file behind its sound, as far as it matters: what is told of the whole file, which begins with
-/// this head.
+/// Reads the rest of a file after its sound, as far as it matters, and returns what the whole file says, which begins
+/// with this head.
 ///
-/// Refusals: `FileRefused` where no file that goes on so holds a recording; those of reading.
+/// Refusals: `FileRefused` if no file that continues like this holds a recording; those of reading.
 pub(crate) fn read_rest<R: Read>(
     alloc: Global,
     sound: Sound,
@@ -106,18 +107,18 @@ pub(crate) fn read_rest<R: Read>(
     })
 }
 
-// What was found behind a sound.
+// What was found after a sound.
 #[derive(Drop)]
 struct Behind {
-    // How many bytes stand between the sound and what was kept.
+    // How many bytes are between the sound and what was kept.
     gap: u64,
-    // Whether the file ends behind what was kept.
+    // Whether the file ends after what was kept.
     ends: bool,
-    // The recording, with channels of no bits.
+    // The recording, with empty channels.
     recording: Recording,
 }
 
-// Reads the rest of a file that begins with this head: what is kept behind the sound is ahead then.
+// Reads the rest of a file that begins with this head. Then what is kept after the sound is buffered.
 fn read_behind<R: Read>(
     alloc: Global,
     sound: &Sound,
@@ -146,7 +147,7 @@ fn read_behind<R: Read>(
     }
 }
 
-// The same of a DSF file: its tag is kept.
+// The same for a DSF file: its tag is kept.
 fn behind_blocks<R: Read>(
     alloc: Global,
     sound: &Sound,
@@ -189,7 +190,7 @@ fn behind_blocks<R: Read>(
     })
 }
 
-// The same of a DSDIFF form: all of it is kept.
+// The same for a DSDIFF form: all of it is kept.
 fn behind_frames<R: Read>(
     alloc: Global,
     sound: &Sound,
@@ -240,8 +241,8 @@ fn is_memory(fault: DsdiffFault) -> bool
     }
 }
 
-// Reads a DSF file to its end, and keeps its tag, which stands at this place, 0 for none. The sound ends at `stop`. It
-// answers how many bytes stand between the sound and the tag.
+// Reads a DSF file to its end, and keeps its tag, which is at this place, 0 for none. The sound ends at `stop`. Returns
+// how many bytes are between the sound and the tag.
 fn read_tag<R: Read>(
     place: u64,
     stop: u64,

@@ -1,4 +1,4 @@
-//! A file that is read: a block at a time, and in no more reads than one call may ask for.
+//! A file that is read a block at a time, and in a limited number of reads.
 
 ghost use Rattle.std.specs.Prelude.{◌≡◌, ◌+◌, ◌-◌, ◌<◌, ◌≤◌, ◌^◌, ◌++◌, [], List, ℕ, IfErr, IfOk, MatchResult, OnErr, OnOk, drop, false, length, take, true};
 ghost use Rattle.std.specs.Io.KnownBytes.{IsAtEnd};
@@ -15,19 +15,19 @@ use std::alloc::{AllocError, Global};
 use std::io::Read;
 use std::mem;
 
-// How many bytes one read asks for.
+// How many bytes one read may return.
 const BLOCK: usize = 65_536;
 
 /// A block of 65,536 zeros, for bytes to be read into.
 ///
-/// Refusal: want of memory.
+/// Refusal: out of memory.
 pub(crate) fn new_block(alloc: Global) -> Result<Vec<u8>, AllocError>
     ensures { IfOk result (λ block. length block.items ≡ 65536) }
 {
     vec![in alloc; 0u8; BLOCK]
 }
 
-// Puts these bytes to the front of a block.
+// Puts these bytes at the start of a block.
 fn put_front(block: &mut Vec<u8>, bytes: &[u8])
     requires { length bytes.now ≤ length block.old.items }
     ensures long { length block.new.items ≡ length block.old.items }
@@ -63,18 +63,18 @@ fn pull_part<R: Read>(
     inlet.pull_behind(front, filled)
 }
 
-/// A file that is read from an inlet. That is lent, and so is the memory that is read into.
+/// A file that is read from an inlet. The inlet is borrowed, and so is the memory that is read into.
 #[derive(Drop)]
 pub(crate) struct SoundReader<'a, R> {
     /// What is read.
     pub(crate) inlet: &'a mut Inlet<R>,
-    /// How many bytes the inlet counted before the file's first.
+    /// How many bytes the inlet had counted before the file's first.
     pub(crate) given: u64,
     /// How many reads the inlet may count.
     pub(crate) limit: u64,
-    /// What one read gives.
+    /// What one read returns.
     pub(crate) block: &'a mut Vec<u8>,
-    /// The bytes that were read, and not yet taken or passed.
+    /// The buffered bytes: those that were read, and not yet taken or passed.
     pub(crate) ahead: &'a mut Vec<u8>,
     /// The first fault of a file that was refused, where it is known.
     pub(crate) cause: Option<ReadFault>,
@@ -83,7 +83,7 @@ pub(crate) struct SoundReader<'a, R> {
 impl<'a, R: Read> SoundReader<'a, R> {
     /// A reader before the first byte of a file, of at most `2^40` reads.
     ///
-    /// The inlet counts fewer than `2^63` reads and bytes, `block` is one of [`new_block`], and `ahead` is empty.
+    /// The inlet has counted fewer than `2^63` reads and bytes, `block` is one of [`new_block`], and `ahead` is empty.
     pub(crate) fn new(
         inlet: &'a mut Inlet<R>,
         block: &'a mut Vec<u8>,
@@ -111,9 +111,10 @@ impl<'a, R: Read> SoundReader<'a, R> {
         }
     }
 
-    /// One read to the places from `filled` up to `size` of the block: how many bytes it gave, none only at the end.
+    /// One read to the places from `filled` up to `size` of the block. Returns how many bytes came; none only at the
+    /// end.
     ///
-    /// Refusals: `TurnLimit` where the inlet counts `limit` reads; `ReadFailed`.
+    /// Refusals: `TurnLimit` if the inlet has counted `limit` reads; `ReadFailed`.
     fn pull_behind(&mut self, filled: usize, size: usize) -> Result<usize, StreamFault>
         requires reading { IsReading self.old }
         requires room { filled < size }
@@ -166,7 +167,7 @@ impl<'a, R: Read> SoundReader<'a, R> {
         Ok(true)
     }
 
-    // Moves the first so many bytes ahead, or as many as there are, to the front of the block: how many.
+    // Moves the first `count` buffered bytes, or as many as there are, to the start of the block. Returns how many.
     fn move_ahead(&mut self, size: usize) -> usize
         requires reading { IsReading self.old }
         requires fits { size ≤ 65536 }
@@ -184,9 +185,9 @@ impl<'a, R: Read> SoundReader<'a, R> {
         count
     }
 
-    /// One read, whose bytes are appended to those ahead: how many it gave, none only at the end.
+    /// One read, whose bytes are appended to the buffered ones. Returns how many came; none only at the end.
     ///
-    /// Refusals: as of [`SoundReader::pull_behind`]; `Memory`.
+    /// Refusals: as for [`SoundReader::pull_behind`]; `Memory`.
     pub(crate) fn read_more(&mut self) -> Result<usize, StreamFault>
         requires reading { IsReading self.old }
         ensures same { IsSame self.old self.new }
@@ -206,9 +207,9 @@ impl<'a, R: Read> SoundReader<'a, R> {
         Ok(count)
     }
 
-    /// Reads until there are so many bytes ahead, or the file is at its end.
+    /// Reads until that many bytes are buffered, or the file ends.
     ///
-    /// Refusals: as of [`SoundReader::read_more`].
+    /// Refusals: as for [`SoundReader::read_more`].
     pub(crate) fn read_until(&mut self, wanted: u64) -> Result<(), StreamFault>
         requires reading { IsReading self.old }
         ensures same { IsSame self.old self.new }
@@ -229,7 +230,7 @@ impl<'a, R: Read> SoundReader<'a, R> {
 
     /// Reads to the file's end, and keeps nothing.
     ///
-    /// Refusals: as of [`SoundReader::pull_behind`].
+    /// Refusals: as for [`SoundReader::pull_behind`].
     pub(crate) fn read_to_end(&mut self) -> Result<(), StreamFault>
         requires reading { IsReading self.old }
         ensures same { IsSame self.old self.new }
@@ -248,7 +249,7 @@ impl<'a, R: Read> SoundReader<'a, R> {
 
     /// Reads to the file's end.
     ///
-    /// Refusals: as of [`SoundReader::read_more`].
+    /// Refusals: as for [`SoundReader::read_more`].
     pub(crate) fn read_all(&mut self) -> Result<(), StreamFault>
         requires reading { IsReading self.old }
         ensures same { IsSame self.old self.new }
@@ -265,7 +266,7 @@ impl<'a, R: Read> SoundReader<'a, R> {
         }
     }
 
-    /// Takes the first so many bytes ahead out.
+    /// Takes out the first `count` buffered bytes.
     ///
     /// Refusal: `Memory`.
     pub(crate) fn take_head(&mut self, alloc: Global, size: usize) -> Result<Vec<u8>, StreamFault>
@@ -283,7 +284,7 @@ impl<'a, R: Read> SoundReader<'a, R> {
         Ok(mem::replace(&mut *self.ahead, rest))
     }
 
-    /// Takes all bytes ahead out.
+    /// Takes out all buffered bytes.
     pub(crate) fn take_ahead(&mut self, alloc: Global) -> Vec<u8>
         ensures same { IsSame self.old self.new }
         ensures untouched { self.new.inlet.now ≡ self.old.inlet.now }
@@ -294,7 +295,7 @@ impl<'a, R: Read> SoundReader<'a, R> {
         mem::replace(&mut *self.ahead, Vec::new(alloc))
     }
 
-    /// Drops the first so many bytes ahead.
+    /// Drops the first `count` buffered bytes.
     pub(crate) fn drop_ahead(&mut self, size: usize)
         requires within { size ≤ length self.old.ahead.now.items }
         ensures same { IsSame self.old self.new }
@@ -308,9 +309,9 @@ impl<'a, R: Read> SoundReader<'a, R> {
         self.ahead.truncate(left);
     }
 
-    /// Passes so many bytes: those ahead first, and then what is read; none of them is kept.
+    /// Passes `count` bytes: first those buffered, then what is read. None of them is kept.
     ///
-    /// Refusals: `FileRefused` where the file ends before; those of [`SoundReader::read_more`].
+    /// Refusals: `FileRefused` if the file ends before; those of [`SoundReader::read_more`].
     pub(crate) fn pass(&mut self, wanted: u64) -> Result<(), StreamFault>
         requires reading { IsReading self.old }
         ensures same { IsSame self.old self.new }

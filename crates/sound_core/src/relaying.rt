@@ -1,4 +1,4 @@
-//! A file of a known outline, its sound handed on in another interleaving.
+//! A file of a known outline, its sound re-interleaved.
 
 ghost use Rattle.std.specs.Prelude.{◌≡◌, ◌↔◌, ◌⊎◌, ◌+◌, ◌%◌, ◌-◌, ◌<◌, ◌≤◌, ◌^◌, IfErr, IsErrOf, IsTrue, OnOk};
 ghost use Rattle.chunk_core.specs.Inlets.{inlet_failures, inlet_given, inlet_reader, inlet_reads};
@@ -20,14 +20,14 @@ use std::io::{Read, Write};
 // How many reads and bytes an inlet may have counted.
 const MOST_COUNTED: u64 = 0x8000_0000_0000_0000;
 
-/// What is written around a sound, and how it is interleaved between.
+/// What is written around a sound, and how the sound between is interleaved.
 #[derive(Clone, Copy)]
 pub struct Target<'a> {
     /// How the sound between is interleaved.
     pub interleaving: Interleaving,
     /// The bytes before the sound.
     pub head: &'a [u8],
-    /// The bytes behind it.
+    /// The bytes after it.
     pub tail: &'a [u8],
 }
 
@@ -48,13 +48,13 @@ pub fn relay<R: Read, W: Write>(
     requires whole { target.now.interleaving ≡ Interleaving.Bytes → outline.now.sound.count % 8 ≡ 0 }
     requires inlet_ready { inlet_failures inlet.old < 2 ^ 64 - 1 }
     requires outlet_ready { outlet_failures outlet.old < 2 ^ 64 - 1 }
-    // The reader's file is some sound in the outline, and what is made of it was written.
+    // The reader's file is the outline with some sound, and what is made of it was written.
     ensures ok { OnOk result (Relays (R.remaining (inlet_reader inlet.old)) target.now (around_of outline.now)
         (W.contents (outlet_writer outlet.old)) (W.contents (outlet_writer outlet.new))) }
-    // The same of what was read, as many bytes as were counted, where the reader doesn't tell its bytes.
+    // The same of the bytes that were read, as many as were counted, if the reader's bytes aren't known.
     ensures any_reader { OnOk result (RelaysGiven R.remaining inlet.old inlet.new target.now (around_of outline.now)
         (W.contents (outlet_writer outlet.old)) (W.contents (outlet_writer outlet.new))) }
-    // Of what is refused a prefix was written, and after `WriteFailed` not all of it.
+    // After a refusal a prefix was written, and after `WriteFailed` not all of it.
     ensures front { IfErr result (RelaysFront (R.remaining (inlet_reader inlet.old)) target.now (around_of outline.now)
         (W.contents (outlet_writer outlet.old)) (W.contents (outlet_writer outlet.new))) }
     ensures fault { IfErr result (IsRelayFault (R.remaining (inlet_reader inlet.old)) (around_of outline.now)) }

@@ -12,18 +12,18 @@ use crate::part::SoundPart;
 use dsd_bits::Sound;
 use std::alloc::Global;
 
-/// What takes a sound while its file is read once, a few groups of blocks after the other.
+/// A sink that takes a sound while its file is read once, a few groups of blocks after the other.
 pub trait SoundSink {
-    /// It can begin with a sound.
+    /// The sink can begin with a sound.
     ghost ready: { Self → Type 0 };
 
-    /// What the first became, after these bytes of a sound, those of so many bits of each channel.
+    /// What the first sink became after these bytes of a sound, which are `done` bits of each channel.
     ghost has: { Self → Self → Sound → ℕ → List ℕ → Type 0 };
 
-    /// What the first became, after it refused a sound that begins with these bytes, for this fault.
+    /// What the first sink became after it refused a sound that begins with these bytes, for this fault.
     ghost refused: { Self → Self → Sound → List ℕ → StreamFault → Type 0 };
 
-    /// Begins with a sound, before the first byte of it.
+    /// Begins with a sound, before its first byte.
     fn begin(&mut self, alloc: Global, sound: Sound) -> Result<(), StreamFault>
         requires ready { ready self.old }
         requires fed { IsFed sound 0 [] }

@@ -26,13 +26,14 @@ use relace_core::{stretch_bits, stretch_size};
 use std::alloc::Global;
 use std::io::Read;
 
-/// Reads a file once, to its end or to that of a DSDIFF form, and has a sink take its sound. What stands before the sound
-/// is held, and what is kept behind it, of the sound one block of 65,536 bytes at a time, and what the sink holds.
+/// Reads a file once, to its end or to that of a DSDIFF form, while a sink takes its sound. The bytes before the sound
+/// are held, and those that are kept after it. Of the sound one block of 65,536 bytes is held at a time, and what the
+/// sink holds.
 ///
-/// The inlet counts fewer than `2^63` reads and bytes at entry, and the sink can begin.
+/// At entry the inlet must have counted fewer than `2^63` reads and bytes, and the sink must be able to begin.
 ///
-/// Refusals: `FileRefused` where the bytes are neither a DSDIFF nor a DSF file that holds a recording; `ReadFailed`;
-/// `TurnLimit` after `2^40` reads, and whatever is answered there were no more; `Memory`; those of the sink.
+/// Refusals: `FileRefused` if the bytes are neither a DSDIFF nor a DSF file that holds a recording; `ReadFailed`;
+/// `TurnLimit` after `2^40` reads (there are never more, whatever is returned); `Memory`; those of the sink.
 pub fn read_into<R: Read, S: SoundSink>(
     alloc: Global,
     inlet: &mut Inlet<R>,
@@ -42,17 +43,17 @@ pub fn read_into<R: Read, S: SoundSink>(
     requires reads_low { inlet_reads inlet.old < 2 ^ 63 }
     requires given_low { inlet_given inlet.old < 2 ^ 63 }
     requires sink_ready { S.ready sink.old }
-    // The reader's file is some sound in the outline, and the sink has its bytes.
+    // The reader's file is the outline with some sound, and the sink has its bytes.
     ensures ok { IfOk result (λ o. TakesFile
         (S.has sink.old sink.new) (R.remaining (inlet_reader inlet.old)) (around_of o)) }
-    // The same of what was read, where the reader doesn't tell its bytes.
+    // The same of the bytes that were read, if the reader's bytes aren't known.
     ensures any_reader { IfOk result (λ o. TakesGiven
         (S.has sink.old sink.new) R.remaining inlet.old inlet.new (around_of o)) }
-    // A fault of the file stands, and the sink has what came before it, or refused that.
+    // A fault of the file applies, and the sink has what came before it, or refused that.
     ensures fault { IfErr result (StopsTaking S.has S.refused (R.remaining (inlet_reader inlet.old))
         (inlet_given inlet.old) (inlet_given inlet.new) sink.old sink.new) }
     ensures read_failed { inlet_failures inlet.new ≡ inlet_failures inlet.old + failed_reads result }
-    // Whatever is answered, there were at most 2^40 reads.
+    // Whatever is returned, there were at most 2^40 reads.
     ensures reads { inlet_reads inlet.new ≤ inlet_reads inlet.old + 2 ^ 40 }
     ensures turn_limit { IsErrOf result StreamFault.TurnLimit → inlet_reads inlet.new ≡ inlet_reads inlet.old + 2 ^ 40 }
 {

@@ -5,7 +5,7 @@ ghost use Rattle.judge_core.specs.Cutting.{SaysCut};
 ghost use Rattle.archive_core.specs.Editing.{Edits};
 ghost use Rattle.archive_core.specs.Planning.{AnswersPlanned, IsFileOf, IsPlanned, Plans};
 ghost use Rattle.chunk_core.specs.Outlets.{Puts, PutsPart, outlet_failures, outlet_writer};
-ghost use Rattle.master_core.specs.Certifying.{AppendsCert, AppendsCertFront};
+ghost use Rattle.master_core.specs.Certifying.{AppendsCert, AppendsCertPrefix};
 
 use chunk_core::{Device, Outlet};
 use cut_core::Cut;
@@ -122,7 +122,7 @@ impl PlannedMaster {
         requires ready { outlet_failures outlet < 2 ^ 64 - 1 }
         ensures ok { OnOk result.0 (AppendsCert self.cut self.bridges (W.contents (outlet_writer outlet))
             (W.contents (outlet_writer result.1))) }
-        ensures err { OnErr result.0 (AppendsCertFront self.cut self.bridges (W.contents (outlet_writer outlet))
+        ensures err { OnErr result.0 (AppendsCertPrefix self.cut self.bridges (W.contents (outlet_writer outlet))
             (W.contents (outlet_writer result.1))) }
         ensures failures { MatchResult result.0
             (λ _. outlet_failures result.1 ≡ outlet_failures outlet)

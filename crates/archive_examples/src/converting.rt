@@ -2,7 +2,7 @@
 //! Also files that are no sound in the outline that was read before.
 
 ghost use Rattle.std.specs.Prelude.{◌<◌, IfOk};
-ghost use Rattle.sound_core.specs.Outlines.{AreTold, around_of};
+ghost use Rattle.sound_core.specs.Outlines.{AreStated, around_of};
 
 use crate::long_sounds::{blocks, laced};
 use crate::streamed::{NEVER, Streamed, check_streamed, roomy};
@@ -18,7 +18,7 @@ use transfer_core::{Converted, Fault, convert, convert_stream};
 
 // The outline of a file.
 fn outline_of(alloc: Global, file: &[u8]) -> Result<Outline, StreamFault>
-    ensures { IfOk result (λ outline. AreTold (around_of outline)) }
+    ensures { IfOk result (λ outline. AreStated (around_of outline)) }
 {
     match read_outline(alloc, &mut Inlet::new(drip(file, 4096, NEVER))) {
         Ok(outline) => Ok(outline),
@@ -35,7 +35,7 @@ fn convert_from(
     reader: Dripping<'_>,
     writer: Sipping,
 ) -> Streamed
-    requires { AreTold (around_of outline.now) }
+    requires { AreStated (around_of outline.now) }
 {
     let mut inlet = Inlet::new(reader);
     let mut outlet = Outlet::new(writer);
@@ -50,7 +50,7 @@ fn convert_from(
 
 // Converts a file that is read at most `most` bytes at a time.
 fn convert_by(alloc: Global, outline: &Outline, form: Form, file: &[u8], most: usize) -> Streamed
-    requires { AreTold (around_of outline.now) }
+    requires { AreStated (around_of outline.now) }
 {
     let reader = drip(file, most, NEVER);
     convert_from(alloc, outline, form, reader, sip(alloc, NEVER, NEVER))
@@ -58,7 +58,7 @@ fn convert_by(alloc: Global, outline: &Outline, form: Form, file: &[u8], most: u
 
 // Whether a file is converted to this if it is read by 1, by 7, by 4096 and by 65,536 bytes.
 fn gives(alloc: Global, outline: &Outline, form: Form, file: &[u8], made: &Converted) -> bool
-    requires { AreTold (around_of outline.now) }
+    requires { AreStated (around_of outline.now) }
 {
     for most in [1, 7, 4096, 65_536] {
         if !convert_by(alloc, outline, form, file, most).gives(made.dropped, &made.bytes) {
@@ -70,7 +70,7 @@ fn gives(alloc: Global, outline: &Outline, form: Form, file: &[u8], made: &Conve
 
 // Whether the answer is that the channels of a file end inside a byte, and nothing was read or written.
 fn ends_inside_a_byte(alloc: Global, outline: &Outline, form: Form, file: &[u8]) -> bool
-    requires { AreTold (around_of outline.now) }
+    requires { AreStated (around_of outline.now) }
 {
     let streamed = convert_by(alloc, outline, form, file, 4096);
     matches!(streamed.answer, Err(Fault::NotWholeBytes))
@@ -80,7 +80,7 @@ fn ends_inside_a_byte(alloc: Global, outline: &Outline, form: Form, file: &[u8])
 
 // Whether a file is converted as in memory.
 fn is_same(alloc: Global, outline: &Outline, form: Form, file: &[u8]) -> bool
-    requires { AreTold (around_of outline.now) }
+    requires { AreStated (around_of outline.now) }
 {
     match convert(alloc, file, form) {
         Ok(made) => gives(alloc, outline, form, file, &made),
@@ -168,7 +168,7 @@ fn converts_laced_bytes_as_in_memory(rt: HostRuntime) {
 // Whether converting 40 ones, which gives the same file, leaves a prefix of it if a reader of one byte at a time fails
 // at a read.
 fn stops_reading(alloc: Global, ones: &Outline, read: u64) -> bool
-    requires { AreTold (around_of ones.now) }
+    requires { AreStated (around_of ones.now) }
 {
     let reader = drip(&ONES_FILE, 1, read);
     let writer = sip(alloc, NEVER, NEVER);
@@ -176,7 +176,7 @@ fn stops_reading(alloc: Global, ones: &Outline, read: u64) -> bool
 }
 
 fn check_reads(rt: &impl Abort, alloc: Global, ones: &Outline)
-    requires { AreTold (around_of ones.now) }
+    requires { AreStated (around_of ones.now) }
 {
     for read in 1..=132 {
         assert!(rt; stops_reading(alloc, ones, read), "read {read} fails");
@@ -185,7 +185,7 @@ fn check_reads(rt: &impl Abort, alloc: Global, ones: &Outline)
 
 // Whether this writer ends with exactly `count` bytes of the file.
 fn stops_writing(alloc: Global, ones: &Outline, writer: Sipping, count: usize) -> bool
-    requires { AreTold (around_of ones.now) }
+    requires { AreStated (around_of ones.now) }
 {
     let (front, _) = ONES_FILE.split_at(count.min(132));
     let reader = drip(&ONES_FILE, 4096, NEVER);
@@ -194,7 +194,7 @@ fn stops_writing(alloc: Global, ones: &Outline, writer: Sipping, count: usize) -
 
 // Each write takes one byte. A writer that is full from the first write on takes nothing.
 fn check_writes(rt: &impl Abort, alloc: Global, ones: &Outline)
-    requires { AreTold (around_of ones.now) }
+    requires { AreStated (around_of ones.now) }
 {
     for count in 0..132 {
         let write = count as u64 + 1;
@@ -230,7 +230,7 @@ fn another_sound_is_converted(rt: HostRuntime) {
 
 // Whether another file is refused by an outline, after at most a prefix of these bytes was written.
 fn is_refused(alloc: Global, outline: &Outline, form: Form, other: &[u8], made: &[u8]) -> bool
-    requires { AreTold (around_of outline.now) }
+    requires { AreStated (around_of outline.now) }
 {
     convert_by(alloc, outline, form, other, 7).is_refused(StreamFault::FileRefused, made)
 }
@@ -273,7 +273,7 @@ fn is_end_refused(
     change: (usize, &[u8]),
     made: &[u8],
 ) -> Result<bool, AllocError>
-    requires { AreTold (around_of outline.now) }
+    requires { AreStated (around_of outline.now) }
 {
     let (cut, end) = change;
     let other = [&file[..file.len().saturating_sub(cut)], end].concat(alloc)?;

@@ -2,7 +2,7 @@
 //! request for memory, in turn. A test returns a refusal as it got it. The commands themselves are tried with the built
 //! program.
 
-ghost use Rattle.folder_core.specs.Files.{untold};
+ghost use Rattle.folder_core.specs.Files.{unknown_view};
 
 use crate::builders::{
     CUES, Sources, commented, file_in, sources_of, splice, stereo_sources, tagged, titled,
@@ -23,7 +23,7 @@ use std::alloc::{AllocError, Global};
 use std::io;
 use std::io::{ErrorKind, Read, Write};
 use std::test::Fail;
-use transfer_commands::{convert_file, hear_sources, open_file};
+use transfer_commands::{convert_file, open_file, source_excerpts};
 
 // A writer that takes exactly these bytes, in order, and needs no memory. So what was written is a prefix of them.
 #[derive(Drop)]
@@ -72,7 +72,7 @@ impl<'a> Folder for Shelf<'a> {
 
     type Out = Awaited<'a>;
 
-    ghost view = { λ f. untold };
+    ghost view = { λ f. unknown_view };
 
     fn open(&mut self, name: &str) -> Result<&'a [u8], FolderFault> {
         self.bytes(name)
@@ -283,7 +283,7 @@ fn takes_heard(alloc: Global, sources: &Sources) -> Result<usize, Fault> {
         ("b.dff", second),
     ];
     let mut shelf = shelf_of(&files);
-    match hear_sources(alloc, &mut shelf, "e.toml") {
+    match source_excerpts(alloc, &mut shelf, "e.toml") {
         Ok(found) => Ok(found.takes?.len()),
         Err(fault) => Err(fault_of(Outcome::from(fault))),
     }

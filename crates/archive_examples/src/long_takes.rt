@@ -12,7 +12,7 @@ use command_core::{MemoryFolder, Outcome, Task, outcome_line, status};
 use fixtures::files::{changed, dsf_of, stereo};
 use fixtures::projects::SPLICE;
 use std::alloc::{AllocError, Global};
-use transfer_commands::{CommandFault, Sources as Heard, hear_sources};
+use transfer_commands::{CommandFault, Sources as Excerpts, source_excerpts};
 
 // Cues that begin and end inside bytes, up to the last bits of each take: 128 bits in all, with their bridges.
 const LONG_CUES: [CueNumbers; 4] = [
@@ -139,18 +139,18 @@ fn refuses_long_takes_that_are_cut_off_as_in_memory(rt: HostRuntime) {
 }
 
 // How many takes were read, or the first fault in what they hold.
-fn number_of(sources: Heard) -> Result<usize, Fault> {
+fn number_of(sources: Excerpts) -> Result<usize, Fault> {
     Ok(sources.takes?.len())
 }
 
 // How many takes are read in a folder if each is treated as a long one.
 fn number_heard(alloc: Global, folder: &mut WatchedFolder) -> Result<usize, CommandFault> {
-    let sources = hear_sources(alloc, folder, "e.toml")?;
+    let sources = source_excerpts(alloc, folder, "e.toml")?;
     Ok(number_of(sources)?)
 }
 
 // Whether this line is their number, or the fault as it is printed.
-fn is_heard(alloc: Global, folder: &mut WatchedFolder, line: &str) -> Result<bool, AllocError> {
+fn are_excerpts(alloc: Global, folder: &mut WatchedFolder, line: &str) -> Result<bool, AllocError> {
     let said = match number_heard(alloc, folder) {
         Ok(number) => format!(in alloc; "takes {number}"),
         Err(fault) => outcome_line(alloc, &Outcome::from(fault)),
@@ -205,7 +205,7 @@ const REFUSED: Case = (NOTHING, UNREAD, "open e.toml\nopen a.dff\nopen b.dff\n")
 // Whether reading the takes, of which this is the second, ends as a case says.
 fn asks(alloc: Global, second: &[u8], (failure, line, calls): &Case) -> Result<bool, AllocError> {
     let mut folder = WatchedFolder::over(alloc, folder_with(alloc, second, b"")?, *failure);
-    let said = is_heard(alloc, &mut folder, line)?;
+    let said = are_excerpts(alloc, &mut folder, line)?;
     Ok(said && folder.calls.as_str() == *calls)
 }
 
@@ -223,7 +223,7 @@ fn opens_takes_once(rt: HostRuntime) {
 fn is_heard_changed(alloc: Global, often: usize, line: &str) -> Result<bool, AllocError> {
     let files = folder_with(alloc, &CUT_OFF, &ZEROS)?;
     let mut folder = WatchedFolder::over(alloc, files, ("change", "", often));
-    is_heard(alloc, &mut folder, line)
+    are_excerpts(alloc, &mut folder, line)
 }
 
 // It counts what the file is when it is opened.

@@ -1,6 +1,6 @@
 //! A folder in memory that records its calls, and fails, changes or is slow as a test says.
 
-ghost use Rattle.folder_core.specs.Files.{untold};
+ghost use Rattle.folder_core.specs.Files.{unknown_view};
 
 use command_core::{Folder, FolderFault, MemoryFolder};
 use std::alloc::Global;
@@ -128,7 +128,7 @@ impl Folder for WatchedFolder {
 
     type Out = WatchedOutput;
 
-    ghost view = { λ f. untold };
+    ghost view = { λ f. unknown_view };
 
     fn open(&mut self, name: &str) -> Result<WatchedInput, FolderFault> {
         if !self.note("open", name) {

@@ -8,7 +8,7 @@ use Rattle.cost_core.specs.Tables.{row_in}
 use Rattle.cert_core.specs.declared.verdict.CertReason.{CertReason}
 use Rattle.cert_core.specs.declared.verdict.CertReason.TheVariants.{Cut, Head, Length, Bound, Row, Start, Step, End, Cost, Extra}
 use Rattle.cert_core.specs.Reasons.{Spells, SpellingReason}
-use Rattle.cert_core.specs.Spelling.{Holds, IsCutRow, IsTooWide, excesses, floor, peak, raised_text, row_text, row_width}
+use Rattle.cert_core.specs.Spelling.{HoldsRow, IsCutRow, IsTooWide, excesses, floor, peak, raised_text, row_text, row_width}
 use Rattle.cert_core.specs.declared.version.Version.{Version}
 use Rattle.cert_core.specs.declared.version.Version.TheVariants.{One, Two}
 use Rattle.cert_core.proofs.Bytes.{fits_all, highs-length, highs_inj}
@@ -27,7 +27,7 @@ peak_small (v ∷ row) fits =
     omega (arith, is, fits q)
 
 -- as its version spells it, a row is held
-pub own_held : (v : Version) (m : ℕ) (row rest : List ℕ) → length row ≡ m → ((q : ℕ) → get_or row q 0 < 2 ^ 64) → Holds v m (row_text v row ++ rest) row rest
+pub own_held : (v : Version) (m : ℕ) (row rest : List ℕ) → length row ≡ m → ((q : ℕ) → get_or row q 0 < 2 ^ 64) → HoldsRow v m (row_text v row ++ rest) row rest
 own_held One m row rest long fits = (refl, long, fits)
 own_held Two m row rest long fits =
     let n : length (excesses row) ≡ length row = length-map row (λ v. v - floor row) in
@@ -61,14 +61,14 @@ raised_inj m l l2 w w2 over over2 r r2 long long2 small small2 fits fits2 is =
     (first.0, more.0, more.1)
 
 -- bytes hold one row at most
-pub held_once : (v : Version) (m : ℕ) (bytes row rest row2 rest2 : List ℕ) → Holds v m bytes row rest → Holds v m bytes row2 rest2 → (row ≡ row2) × (rest ≡ rest2)
+pub held_once : (v : Version) (m : ℕ) (bytes row rest row2 rest2 : List ℕ) → HoldsRow v m bytes row rest → HoldsRow v m bytes row2 rest2 → (row ≡ row2) × (rest ≡ rest2)
 held_once One m bytes row rest row2 rest2 (is, long, fits) (is2, long2, fits2) = values_inj row row2 (long ∙ sym long2) fits fits2 rest rest2 (sym is ∙ is2)
 held_once Two m bytes row rest row2 rest2 (l, w, over, is, long, small, few, fits, e) (l2, w2, over2, is2, long2, small2, few2, fits2, e2) =
     let same = raised_inj m l l2 w w2 over over2 rest rest2 long long2 small small2 fits fits2 (sym is ∙ is2) in
     (e ∙ ap (λ n. map (λ v. n + v) over) same.0 ∙ ap (map (λ v. l2 + v)) same.1 ∙ sym e2, same.2)
 
 -- bytes that hold a row aren't cut in it
-pub held_whole : (v : Version) (m : ℕ) (bytes row rest : List ℕ) → Holds v m bytes row rest → IsCutRow v m bytes → ⊥
+pub held_whole : (v : Version) (m : ℕ) (bytes row rest : List ℕ) → HoldsRow v m bytes row rest → IsCutRow v m bytes → ⊥
 held_whole One m bytes row rest (is, long, fits) short = absurd (omega (arith, short, ap length is, length-append (row_text One row) rest, row_text-length row))
 held_whole Two m bytes row rest (l, w, over, is, long, small, few, fits, e) (inl short) =
     absurd (omega (arith, short, ap length (is ∙ parted l w over rest), length-append (to_be_bytes w64 l) (w ∷ flat_map (bytes_high_first w) over ++ rest)))
@@ -80,7 +80,7 @@ held_whole Two m bytes row rest (l, w, over, is, long, small, few, fits, e) (inr
     absurd (omega (arith, size, short2))
 
 -- nor is their width above eight
-pub held_narrow : (v : Version) (m : ℕ) (bytes row rest : List ℕ) → Holds v m bytes row rest → IsTooWide v bytes → ⊥
+pub held_narrow : (v : Version) (m : ℕ) (bytes row rest : List ℕ) → HoldsRow v m bytes row rest → IsTooWide v bytes → ⊥
 held_narrow One m bytes row rest h wide = wide
 held_narrow Two m bytes row rest (l, w, over, is, long, small, few, fits, e) (front, w2, after, is2, n, wide) =
     absurd (omega (arith, few, wide, same_width front (to_be_bytes w64 l) after _ w2 w n refl (sym is2 ∙ is ∙ parted l w over rest)))
@@ -94,7 +94,7 @@ cut_narrow Two m bytes (inr (front, w, after, is, n, few, short)) (front2, w2, a
 pub row_inj : (v : Version) (m : ℕ) (row row2 : List ℕ) → length row ≡ m → length row2 ≡ m → ((q : ℕ) → get_or row q 0 < 2 ^ 64) → ((q : ℕ) → get_or row2 q 0 < 2 ^ 64) → (r r2 : List ℕ)
     → row_text v row ++ r ≡ row_text v row2 ++ r2 → (row ≡ row2) × (r ≡ r2)
 row_inj v m row row2 long long2 fits fits2 r r2 is =
-    held_once v m (row_text v row ++ r) row r row2 r2 (own_held v m row r long fits) (subst (λ l. Holds v m l row2 r2) (sym is) (own_held v m row2 r2 long2 fits2))
+    held_once v m (row_text v row ++ r) row r row2 r2 (own_held v m row r long fits) (subst (λ l. HoldsRow v m l row2 r2) (sym is) (own_held v m row2 r2 long2 fits2))
 
 -- rows of m values below 2 ^ 64
 abbrev pub AreRows : ℕ → List (List ℕ) → Type 0
@@ -126,9 +126,9 @@ are_rows m (row ∷ rows) long fits =
     (n, within row m n (λ q h. fits 0 q (omega arith) h), are_rows m rows (λ i h. long (suc i) (omega arith)) (λ i q h k. fits (suc i) q (omega arith) k))
 
 -- a row that is spelled is held
-pub spells_held : (v : Version) (m : ℕ) (bytes row rest : List ℕ) → Spells v m bytes row rest → Holds v m bytes row rest
+pub spells_held : (v : Version) (m : ℕ) (bytes row rest : List ℕ) → Spells v m bytes row rest → HoldsRow v m bytes row rest
 spells_held v m bytes row rest (is, long, bounded) =
-    subst (λ l. Holds v m l row rest) (sym is) (own_held v m row rest long (within row m long (λ q h. let k = bounded q h in omega (arith, k))))
+    subst (λ l. HoldsRow v m l row rest) (sym is) (own_held v m row rest long (within row m long (λ q h. let k = bounded q h in omega (arith, k))))
 
 -- bytes spell one row at most
 pub spells_once : (v : Version) (m : ℕ) (bytes row rest row2 rest2 : List ℕ) → Spells v m bytes row rest → Spells v m bytes row2 rest2 → (row ≡ row2) × (rest ≡ rest2)

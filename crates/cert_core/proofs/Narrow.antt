@@ -12,8 +12,8 @@ use Rattle.cert_core.proofs.Bytes.{high_stored}
 use borrow.Rule.Slice.PartMut.{put_mid}
 
 -- the first of some bytes that were put into a buffer
-pub put_front : (at k w : ℕ) (buffer low : List ℕ) → w ≤ length low → at ≤ length buffer → take (at + w) (put_mid at k buffer low) ≡ take at buffer ++ take w low
-put_front at k w buffer low few room =
+pub put_first : (at k w : ℕ) (buffer low : List ℕ) → w ≤ length low → at ≤ length buffer → take (at + w) (put_mid at k buffer low) ≡ take at buffer ++ take w low
+put_first at k w buffer low few room =
     let front = take at buffer in
     let n : length front ≡ at = length-take-le at buffer room in
     sym (take-take (at + w) (at + length low) (put_mid at k buffer low) (omega arith)) ∙ ap (take (at + w)) (take-put_mid at k buffer low (at + length low) refl room)
@@ -26,7 +26,7 @@ narrow_more w i k least row buffer low few before is h room =
     let v = get_or row i 0 in
     let done = map (λ v. v - least) (take i row) in
     let next : w * (i + 1) ≡ w * i + w = omega arith in
-    ap (λ n. take n (put_mid (w * i) k buffer low)) next ∙ put_front (w * i) k w buffer low (omega (arith, few, ap length is)) room
+    ap (λ n. take n (put_mid (w * i) k buffer low)) next ∙ put_first (w * i) k w buffer low (omega (arith, few, ap length is)) room
     ∙ ap₂ (λ xs ys. xs ++ ys) before (ap (take w) is ∙ high_stored w (v - least) few)
     ∙ sym (ap (λ l. flat_map (bytes_high_first w) (map (λ v. v - least) l)) (take_more row i 0 h)
     ∙ ap (flat_map (bytes_high_first w)) (map-append (λ v. v - least) (take i row) (v ∷ []))
@@ -37,7 +37,7 @@ narrow_more w i k least row buffer low few before is h room =
 pub narrow_is : (front post ys : List ℕ) (w k j : ℕ) → length front ≡ 8 → 9 ≤ length (front ++ post) → j ≤ length ys → take (9 + j) (put_mid 9 k (set (front ++ post) 8 w) ys) ≡ front ++ (w ∷ take j ys)
 narrow_is front post ys w k j long room few =
     let xs = front ++ post in
-    put_front 9 k j (set xs 8 w) ys few (omega (arith, room, length-set xs 8 w))
+    put_first 9 k j (set xs 8 w) ys few (omega (arith, room, length-set xs 8 w))
     ∙ ap (λ l. l ++ take j ys) (take_more_set xs 8 w (omega (arith, room)) ∙ ap (λ l. l ++ (w ∷ [])) (take_at front post 8 long))
     ∙ append_assoc front (w ∷ []) (take j ys)
 

@@ -9,7 +9,7 @@ use Rattle.cost_core.specs.Trellis.{Trellis, states}
 use Rattle.cert_core.specs.declared.verdict.CertReason.{CertReason}
 use Rattle.cert_core.specs.declared.verdict.CertReason.TheVariants.{Cut, Head, Length, Bound, Row, Start, Step, End, Cost, Extra}
 use Rattle.cert_core.specs.Reasons.{Bounded, BytesReason, Exceeds, RowClean, RowReason, GoesOn, ReasonAfter, ReasonInRow, Spells, SpellingReason, StartReason, FirstReason}
-use Rattle.cert_core.specs.Spelling.{Holds, IsCutRow, IsTooWide, row_text}
+use Rattle.cert_core.specs.Spelling.{HoldsRow, IsCutRow, IsTooWide, row_text}
 use Rattle.cert_core.specs.Text.{entry_start}
 use Rattle.cert_core.specs.declared.version.Version.{Version}
 use Rattle.cert_core.proofs.Exact.{clean_rows, row_at, row_under}
@@ -27,7 +27,7 @@ one_lowest P q r p low p2 low2 = elim (cases_lt q r) [
 module _ (v : Version) (m level : ℕ) (bytes : List ℕ) where
   -- a row that is held, and what is wrong with it
   abbrev HeldCase : CertReason → Type 0
-  HeldCase reason = (row : List ℕ) × (rest : List ℕ) × Holds v m bytes row rest
+  HeldCase reason = (row : List ℕ) × (rest : List ℕ) × HoldsRow v m bytes row rest
       × (((reason ≡ Bound) × ((q : ℕ) × (q < m) × (2 ^ 63 < get_or row q 0))) ⊎ ((reason ≡ Row level) × Bounded m row))
 
   -- the reasons, apart

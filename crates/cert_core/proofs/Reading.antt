@@ -9,7 +9,7 @@ use Rattle.std.proofs.KnownBytes.{Consumes-trans}
 use Rattle.cert_core.specs.declared.verdict.CertReason.{CertReason}
 use Rattle.cert_core.specs.declared.verdict.CertReason.TheVariants.{Cut, Row}
 use Rattle.cert_core.specs.Reasons.{Bounded, SpellingReason}
-use Rattle.cert_core.specs.Spelling.{Holds, IsTooWide, floor, raised_text}
+use Rattle.cert_core.specs.Spelling.{HoldsRow, IsTooWide, floor, raised_text}
 use Rattle.cert_core.specs.Stops.{CutBelow, InForm, InSpelling, RaisedReason}
 use Rattle.cert_core.specs.declared.version.Version.TheVariants.{Two}
 use Rattle.cert_core.proofs.Consuming.{after, before}
@@ -50,7 +50,7 @@ raised_first a c m level least width over reason p long some small few fits w = 
   row : List ℕ
   row = map (λ v. least + v) over
 
-  held : (rest : List ℕ) → Holds Two m (raised_text least width over ++ rest) row rest
+  held : (rest : List ℕ) → HoldsRow Two m (raised_text least width over ++ rest) row rest
   held rest = (least, width, over, refl, long, small, few, fits, refl)
 
   told : (rest : List ℕ) → RaisedReason least width level over reason → SpellingReason Two m level (raised_text least width over ++ rest) reason

@@ -5,7 +5,7 @@ use Rattle.cost_core.specs.Trellis.{Trellis, states, next}
 use Rattle.cert_core.specs.declared.verdict.CertReason.{CertReason}
 use Rattle.cert_core.specs.declared.verdict.CertReason.TheVariants.{Cut, Head, Length, Bound, Row, Start, Step, End, Cost, Extra}
 use Rattle.cost_core.specs.Tables.{row_in, value_in}
-use Rattle.cert_core.specs.Spelling.{row_text, Holds, IsCutRow, IsTooWide}
+use Rattle.cert_core.specs.Spelling.{row_text, HoldsRow, IsCutRow, IsTooWide}
 use Rattle.cert_core.specs.Text.{entry_start, cert_head}
 use Rattle.cert_core.specs.declared.version.Version.{Version}
 
@@ -25,8 +25,8 @@ Spells v m bytes row rest = (bytes ≡ row_text v row ++ rest) × (length row �
 -- value is above 2 ^ 63, or the row isn't spelled as the version spells it
 abbrev pub SpellingReason : Version → ℕ → ℕ → List ℕ → CertReason → Type 0
 SpellingReason v m level bytes Cut = IsCutRow v m bytes
-SpellingReason v m level bytes Bound = (row : List ℕ) × (rest : List ℕ) × Holds v m bytes row rest × ((q : ℕ) × (q < m) × (2 ^ 63 < slice_index_or row q 0))
-SpellingReason v m level bytes (Row l) = (l ≡ level) × (IsTooWide v bytes ⊎ ((row : List ℕ) × (rest : List ℕ) × Holds v m bytes row rest × Bounded m row × (bytes ≢ row_text v row ++ rest)))
+SpellingReason v m level bytes Bound = (row : List ℕ) × (rest : List ℕ) × HoldsRow v m bytes row rest × ((q : ℕ) × (q < m) × (2 ^ 63 < slice_index_or row q 0))
+SpellingReason v m level bytes (Row l) = (l ≡ level) × (IsTooWide v bytes ⊎ ((row : List ℕ) × (rest : List ℕ) × HoldsRow v m bytes row rest × Bounded m row × (bytes ≢ row_text v row ++ rest)))
 SpellingReason v m level bytes Head = ⊥
 SpellingReason v m level bytes Length = ⊥
 SpellingReason v m level bytes Start = ⊥

@@ -46,9 +46,9 @@ row_text One row = flat_map (to_be_bytes w64) row
 row_text Two row = raised_text (floor row) (row_width row) (excesses row)
 
 -- the bytes hold a row of m values and then the rest, in the form of a version: by the second a number and what each value exceeds it by, in some width
-abbrev pub Holds : Version → ℕ → List ℕ → List ℕ → List ℕ → Type 0
-Holds One m bytes row rest = (bytes ≡ row_text One row ++ rest) × (length row ≡ m) × ((q : ℕ) → slice_index_or row q 0 < 2 ^ 64)
-Holds Two m bytes row rest = (least : ℕ) × (width : ℕ) × (over : List ℕ) × (bytes ≡ raised_text least width over ++ rest) × (length over ≡ m)
+abbrev pub HoldsRow : Version → ℕ → List ℕ → List ℕ → List ℕ → Type 0
+HoldsRow One m bytes row rest = (bytes ≡ row_text One row ++ rest) × (length row ≡ m) × ((q : ℕ) → slice_index_or row q 0 < 2 ^ 64)
+HoldsRow Two m bytes row rest = (least : ℕ) × (width : ℕ) × (over : List ℕ) × (bytes ≡ raised_text least width over ++ rest) × (length over ≡ m)
     × (least < 2 ^ 64) × (width ≤ 8) × ((q : ℕ) → slice_index_or over q 0 < 256 ^ width) × (row ≡ map (λ v. least + v) over)
 
 -- the bytes end before a row of m values does

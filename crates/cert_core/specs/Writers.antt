@@ -16,8 +16,8 @@ abbrev pub Writes : {W : Type 0} → (W → Option (List ℕ)) → CertWriter W 
 Writes contents old new bytes = Puts contents (cert_outlet old) (cert_outlet new) bytes
 
 -- a prefix of these was written, and not all of them
-abbrev pub WritesPart : {W : Type 0} → (W → Option (List ℕ)) → CertWriter W → CertWriter W → List ℕ → Type 0
-WritesPart contents old new bytes = PutsPart contents (cert_outlet old) (cert_outlet new) bytes
+abbrev pub WritesSome : {W : Type 0} → (W → Option (List ℕ)) → CertWriter W → CertWriter W → List ℕ → Type 0
+WritesSome contents old new bytes = PutsPart contents (cert_outlet old) (cert_outlet new) bytes
 
 -- the number of writes that failed
 abbrev pub cert_failures : {W : Type 0} → CertWriter W → ℕ
@@ -87,5 +87,5 @@ abbrev pub is_open : {W : Type 0} → CertWriter W → Bool
 is_open writer = writer.is_open
 
 -- the head of its certificate, with a number of entries
-abbrev pub head_of : {W : Type 0} → CertWriter W → ℕ → List ℕ
-head_of writer entries = cert_head (cert_version writer) (cert_weights writer) entries
+abbrev pub writer_head : {W : Type 0} → CertWriter W → ℕ → List ℕ
+writer_head writer entries = cert_head (cert_version writer) (cert_weights writer) entries

@@ -2,7 +2,7 @@
 
 ghost use Rattle.std.specs.Prelude.{◌≡◌, ℕ, ◌+◌, ◌*◌, ◌-◌, ◌^◌, ◌<◌, ◌≤◌, length, slice_index_or, IfOk, OnOk};
 ghost use Rattle.std.specs.Int.{w64, to_be_bytes};
-ghost use Rattle.chunk_core.specs.Inlets.{Gives, inlet_failures, inlet_reader};
+ghost use Rattle.chunk_core.specs.Inlets.{PullsBytes, inlet_failures, inlet_reader};
 ghost use Rattle.cost_core.specs.Trellis.{states, cost, IsBounded};
 ghost use Rattle.cost_core.specs.StateCosts.{trellis_of};
 ghost use Rattle.cost_core.specs.Limits.{IsBridging};
@@ -27,7 +27,7 @@ use std::io::Read;
 // Reads a number of eight bytes.
 fn read_number<R: Read>(inlet: &mut Inlet<R>) -> Result<u64, Stop>
     requires { inlet_failures inlet.old < 2 ^ 64 - 1 }
-    ensures ok { IfOk result (λ value. Gives R.remaining inlet.old inlet.new (to_be_bytes w64 value)) }
+    ensures ok { IfOk result (λ value. PullsBytes R.remaining inlet.old inlet.new (to_be_bytes w64 value)) }
     ensures cut { OnReason result (CutBelow (R.remaining (inlet_reader inlet.old)) 8) }
     ensures failures { inlet_failures inlet.new ≡ inlet_failures inlet.old + failed_stops result }
 {
@@ -44,7 +44,7 @@ fn read_start<R: Read>(
     length: usize,
 ) -> Result<(), Stop>
     requires ready { inlet_failures inlet.old < 2 ^ 64 - 1 }
-    ensures ok { OnOk result (Gives R.remaining inlet.old inlet.new
+    ensures ok { OnOk result (PullsBytes R.remaining inlet.old inlet.new
         (entry_start cue channel length)) }
     ensures reason { OnReason result (InStart (R.remaining (inlet_reader inlet.old)) cue channel length) }
     ensures failures { inlet_failures inlet.new ≡ inlet_failures inlet.old + failed_stops result }
@@ -112,7 +112,7 @@ fn read_end<R: Read>(
     requires last { length last.now ≡ states (trellis_of window.now) }
     requires limit { RowBounded (trellis_of window.now) last.now }
     requires tails { length tails.old ≡ states (trellis_of window.now) }
-    ensures ok { IfOk result (λ cost. Gives R.remaining inlet.old inlet.new (to_be_bytes w64 cost)) }
+    ensures ok { IfOk result (λ cost. PullsBytes R.remaining inlet.old inlet.new (to_be_bytes w64 cost)) }
     ensures cost { IfOk result (λ cost. cost ≡ found) }
     ensures ends { IfOk result (λ cost. (q : ℕ) → q < states (trellis_of window.now)
         → cost ≤ slice_index_or last.now q 0 + (trellis_of window.now).tail q) }

@@ -17,10 +17,10 @@
 //! The words of its contracts, all over lists and numbers without bounds:
 //!
 //! - `cert_text version weights entries` is the whole text: a `cert_head`, and a `cert_entry` for each `Entry`
-//!   (`specs/Text.antt`). `row_text version row` is the text of a row. `Holds version m bytes row rest` says that bytes
-//!   hold a row of `m` values in the form of the version, whether or not they are its text (`specs/Spelling.antt`). A
-//!   third version would be one more case of each. The validity of a table is `IsValid` of `cost_core`: five plain
-//!   facts.
+//!   (`specs/Text.antt`). `row_text version row` is the text of a row. `HoldsRow version m bytes row rest` says that
+//!   bytes hold a row of `m` values in the form of the version, whether or not they are its text
+//!   (`specs/Spelling.antt`). A third version would be one more case of each. The validity of a table is `IsValid` of
+//!   `cost_core`: five plain facts.
 //! - `IsEntry version t cue channel x bytes` says that the bytes are an entry with a table that is valid for the bits
 //!   `x`, `BeginsValid` that they begin with one (`specs/Entries.antt`).
 //! - `FirstReason version t cue channel found bytes reason` is the first reason, in the stated order, why they don't

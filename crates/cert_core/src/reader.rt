@@ -2,7 +2,7 @@
 
 ghost use Rattle.std.specs.Prelude.{◌≡◌, ◌+◌, ◌-◌, ◌^◌, ◌<◌, ◌≤◌, ◌++◌, List, ℕ, length, true, false, IfSome, IsErrOf};
 ghost use Rattle.std.specs.Io.KnownBytes.{IsAtEnd};
-ghost use Rattle.chunk_core.specs.Inlets.{Gives, inlet_failures, inlet_reader};
+ghost use Rattle.chunk_core.specs.Inlets.{PullsBytes, inlet_failures, inlet_reader};
 ghost use Rattle.cost_core.specs.StateCosts.{trellis_of};
 ghost use Rattle.cost_core.specs.Bridges.{bridge_cost, IsLeastBridge};
 ghost use Rattle.cert_core.specs.Text.{cert_head};
@@ -69,7 +69,7 @@ impl<R: Read> CertReader<R> {
     ) -> Result<Option<CertReason>, CheckFault>
         requires ready { check_failures self.old < 2 ^ 64 - 1 }
         requires weights { weights ≤ 12 }
-        ensures none { IsWell result → Gives R.remaining (cert_inlet self.old) (cert_inlet self.new) (cert_head (read_version self.new) weights entries) }
+        ensures none { IsWell result → PullsBytes R.remaining (cert_inlet self.old) (cert_inlet self.new) (cert_head (read_version self.new) weights entries) }
         ensures read { IsWell result → has_read_head self.new ≡ true }
 
         // If the bytes are known, this is their first reason, and they don't begin with the header.

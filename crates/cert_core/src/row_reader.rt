@@ -2,7 +2,7 @@
 
 ghost use Rattle.std.specs.Prelude.{◌≡◌, ℕ, ◌+◌, ◌*◌, ◌-◌, ◌^◌, ◌<◌, ◌≤◌, [], length, map, take, drop, flat_map, slice_index, slice_index_or, IfOk, IfErr, OnOk};
 ghost use Rattle.std.specs.Int.{w64, to_be_bytes, bytes_high_first};
-ghost use Rattle.chunk_core.specs.Inlets.{Gives, inlet_failures, inlet_reader};
+ghost use Rattle.chunk_core.specs.Inlets.{PullsBytes, inlet_failures, inlet_reader};
 ghost use Rattle.cert_core.specs.Reasons.{Bounded};
 ghost use Rattle.cert_core.specs.Spelling.{raised_text, row_text};
 ghost use Rattle.cert_core.specs.Stops.{OnLeft, OnReason, failed_stops, InForm, InSpelling, RaisedReason};
@@ -99,7 +99,7 @@ fn read_values<R: Read>(
     ensures len { length row.new ≡ length row.old }
     ensures buffer { length buffer.new ≡ length buffer.old }
     ensures bounded { OnOk result (Bounded (length row.new) row.new) }
-    ensures ok { OnOk result (Gives R.remaining inlet.old inlet.new
+    ensures ok { OnOk result (PullsBytes R.remaining inlet.old inlet.new
         (row_text Version.One row.new)) }
     ensures reason { OnLeft R.remaining inlet.old result (InSpelling Version.One (length row.old) level) }
     ensures failures { inlet_failures inlet.new ≡ inlet_failures inlet.old + failed_stops result }
@@ -116,7 +116,7 @@ fn read_values<R: Read>(
 // Reads what a row of the second version begins with: its least value, and how many bytes each excess has.
 fn read_form<R: Read>(inlet: &mut Inlet<R>, level: usize) -> Result<(u64, usize), Stop>
     requires ready { inlet_failures inlet.old < 2 ^ 64 - 1 }
-    ensures ok { IfOk result (λ form. Gives R.remaining inlet.old inlet.new (raised_text form.0 form.1 [])) }
+    ensures ok { IfOk result (λ form. PullsBytes R.remaining inlet.old inlet.new (raised_text form.0 form.1 [])) }
     ensures few { IfOk result (λ form. form.1 ≤ 8) }
     ensures reason { OnLeft R.remaining inlet.old result (InForm level) }
     ensures failures { inlet_failures inlet.new ≡ inlet_failures inlet.old + failed_stops result }
@@ -143,7 +143,7 @@ fn read_raised<R: Read>(
     ensures len { length row.new ≡ length row.old }
     ensures buffer { length buffer.new ≡ length buffer.old }
     ensures bounded { OnOk result (Bounded (length row.new) row.new) }
-    ensures ok { OnOk result (Gives R.remaining inlet.old inlet.new
+    ensures ok { OnOk result (PullsBytes R.remaining inlet.old inlet.new
         (row_text Version.Two row.new)) }
     ensures reason { OnLeft R.remaining inlet.old result (InSpelling Version.Two (length row.old) level) }
     ensures failures { inlet_failures inlet.new ≡ inlet_failures inlet.old + failed_stops result }
@@ -173,7 +173,7 @@ pub(crate) fn read_row<R: Read>(
     ensures len { length row.new ≡ length row.old }
     ensures buffer { length buffer.new ≡ length buffer.old }
     ensures bounded { OnOk result (Bounded (length row.new) row.new) }
-    ensures ok { OnOk result (Gives R.remaining inlet.old inlet.new
+    ensures ok { OnOk result (PullsBytes R.remaining inlet.old inlet.new
         (row_text version row.new)) }
     ensures reason { OnLeft R.remaining inlet.old result (InSpelling version (length row.old) level) }
     ensures failures { inlet_failures inlet.new ≡ inlet_failures inlet.old + failed_stops result }

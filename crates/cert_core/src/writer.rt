@@ -43,7 +43,7 @@ pub struct CertWriter<W> {
 }
 
 impl<W: Write> CertWriter<W> {
-    ghost use Rattle.cert_core.specs.Writers.{Stage, Writes, WritesPart, before_head, cert_failures, cert_outlet, entry_begun, head_of, has_failed, cert_version, cert_weights, row_length, rows_left, stage, has_head, entries_left, is_open};
+    ghost use Rattle.cert_core.specs.Writers.{Stage, Writes, WritesSome, before_head, cert_failures, cert_outlet, entry_begun, writer_head, has_failed, cert_version, cert_weights, row_length, rows_left, stage, has_head, entries_left, is_open};
 
     /// A writer of this version for bridges by `weights` weights, which has written nothing. Err is out of memory, and
     /// gives the outlet back.
@@ -107,10 +107,10 @@ impl<W: Write> CertWriter<W> {
     pub fn begin(&mut self, entries: u32) -> Result<(), CertFault>
         requires head { has_failed self.old ≡ false → has_head self.old ≡ false }
         ensures ok { OnOk result (Writes W.contents self.old self.new
-            (head_of self.old entries)) }
+            (writer_head self.old entries)) }
         ensures device { IsErrOf result CertFault.Device
-            → WritesPart W.contents self.old self.new
-            (head_of self.old entries) }
+            → WritesSome W.contents self.old self.new
+            (writer_head self.old entries) }
         ensures failed { IsErrOf result CertFault.Failed ↔ (has_failed self.old ≡ true) }
         ensures unchanged { IsErrOf result CertFault.Failed → self.new ≡ self.old }
         ensures failures { cert_failures self.new
@@ -136,7 +136,7 @@ impl<W: Write> CertWriter<W> {
         requires open { has_failed self.old ≡ false → is_open self.old ≡ false }
         ensures ok { OnOk result (Writes W.contents self.old self.new (entry_start cue channel length)) }
         ensures device { IsErrOf result CertFault.Device
-            → WritesPart W.contents self.old self.new (entry_start cue channel length) }
+            → WritesSome W.contents self.old self.new (entry_start cue channel length) }
         ensures failed { IsErrOf result CertFault.Failed ↔ (has_failed self.old ≡ true) }
         ensures unchanged { IsErrOf result CertFault.Failed → self.new ≡ self.old }
         ensures failures { cert_failures self.new
@@ -161,7 +161,7 @@ impl<W: Write> CertWriter<W> {
         requires row { length row.now ≡ row_length self.old }
         ensures ok { OnOk result (Writes W.contents self.old self.new (row_text (cert_version self.old) row.now)) }
         ensures device { IsErrOf result CertFault.Device
-            → WritesPart W.contents self.old self.new (row_text (cert_version self.old) row.now) }
+            → WritesSome W.contents self.old self.new (row_text (cert_version self.old) row.now) }
         ensures failed { IsErrOf result CertFault.Failed ↔ (has_failed self.old ≡ true) }
         ensures unchanged { IsErrOf result CertFault.Failed → self.new ≡ self.old }
         ensures failures { cert_failures self.new
@@ -186,7 +186,7 @@ impl<W: Write> CertWriter<W> {
         requires rows { has_failed self.old ≡ false → rows_left self.old ≡ 0 }
         ensures ok { OnOk result (Writes W.contents self.old self.new (to_be_bytes w64 cost)) }
         ensures device { IsErrOf result CertFault.Device
-            → WritesPart W.contents self.old self.new (to_be_bytes w64 cost) }
+            → WritesSome W.contents self.old self.new (to_be_bytes w64 cost) }
         ensures failed { IsErrOf result CertFault.Failed ↔ (has_failed self.old ≡ true) }
         ensures unchanged { IsErrOf result CertFault.Failed → self.new ≡ self.old }
         ensures failures { cert_failures self.new

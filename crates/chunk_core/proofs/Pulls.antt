@@ -4,7 +4,7 @@ use Rattle.std.proofs.Math.Seq.{take-append-add}
 use Rattle.std.proofs.lemmas.Slice.{take-put_mid}
 use Rattle.std.specs.Io.KnownBytes.{ReadConsumes}
 use borrow.Rule.Slice.PartMut.{put_mid}
-use Rattle.chunk_core.specs.Inlets.{PullsBehind}
+use Rattle.chunk_core.specs.Inlets.{PullsAfter}
 
 -- the front of a buffer whose end was filled with ys, up to n of them
 take-filled : (a k n : ℕ) (xs ys : List ℕ) → a ≤ length xs → n ≤ length ys → take (a + n) (put_mid a k xs ys) ≡ take a xs ++ take n ys
@@ -15,8 +15,8 @@ take-filled a k n xs ys within few =
     ∙ ap (λ m. take (m + n) (take a xs ++ ys)) (sym long)
     ∙ take-append-add (take a xs) ys n
 
-pub PullsBehind-read : {E : Type 0} (old new : Option (List ℕ)) (result : Result ℕ E) (filled k : ℕ) (xs ys : List ℕ) → filled < length xs → length ys ≡ k → k ≡ length xs - filled
-    → IfOk result (λ n. n ≤ length ys) → ReadConsumes old new result ys → PullsBehind old new result filled xs (put_mid filled k xs ys)
-PullsBehind-read old new (Ok n) filled k xs ys room long rest few read =
+pub PullsAfter-read : {E : Type 0} (old new : Option (List ℕ)) (result : Result ℕ E) (filled k : ℕ) (xs ys : List ℕ) → filled < length xs → length ys ≡ k → k ≡ length xs - filled
+    → IfOk result (λ n. n ≤ length ys) → ReadConsumes old new result ys → PullsAfter old new result filled xs (put_mid filled k xs ys)
+PullsAfter-read old new (Ok n) filled k xs ys room long rest few read =
     (take n ys, length-take-le n ys few, simp (length-append, length-take, length-drop) (omega arith), take-filled filled k n xs ys (omega arith) few, read.0, λ zero. read.1 zero (omega arith))
-PullsBehind-read old new (Err e) filled k xs ys room long rest few read = read
+PullsAfter-read old new (Err e) filled k xs ys room long rest few read = read

@@ -5,11 +5,11 @@ use Rattle.std.proofs.lemmas.List.Elements.{recursion_from_All}
 use Rattle.std.proofs.lemmas.List.{append-nil, take_at, drop_at, length-append, length-replicate}
 use Rattle.byteorder.specs.Endian.{big_number, big_bytes}
 use Rattle.byteorder.specs.Numbers.{big_number-reads_back}
-use Rattle.chunk_core.specs.Chunks.{Chunk, IsHead, Fits, chunks, spell}
+use Rattle.chunk_core.specs.Chunks.{Chunk, IsHead, CanBeWritten, chunks, spell}
 use Rattle.chunk_core.specs.Laws.{SpelledAgain}
 
 -- an ID and a size make a head
-head_is : (c : Chunk) → Fits c → IsHead (c.id ++ big_bytes 8 (length c.content)) c
+head_is : (c : Chunk) → CanBeWritten c → IsHead (c.id ++ big_bytes 8 (length c.content)) c
 head_is c f =
     let size : List ℕ = big_bytes 8 (length c.content) in
     let id : drop 4 (c.id ++ size) ≡ size = drop_at c.id size 4 f.id in
@@ -21,7 +21,7 @@ head_is c f =
     }
 
 -- chunk by chunk
-spelled_are : (cs : List Chunk) → AllByRecursion Fits cs → chunks (flat_map spell cs) cs
+spelled_are : (cs : List Chunk) → AllByRecursion CanBeWritten cs → chunks (flat_map spell cs) cs
 spelled_are [] h = refl
 spelled_are (c ∷ cs) h =
     let pad : List ℕ = replicate (length c.content % 2) 0 in
@@ -32,4 +32,4 @@ spelled_are (c ∷ cs) h =
 
 -- the law
 pub all_spelled_are : SpelledAgain
-all_spelled_are cs h = spelled_are cs (recursion_from_All Fits cs h)
+all_spelled_are cs h = spelled_are cs (recursion_from_All CanBeWritten cs h)

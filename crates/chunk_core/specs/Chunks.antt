@@ -34,6 +34,6 @@ abbrev pub spell : Chunk → List ℕ
 spell c = spelled c.id c.content
 
 -- a chunk that can be written: an ID of four bytes, and data whose size fits eight bytes
-pub record Fits (c : Chunk) : Type 0 where
+pub record CanBeWritten (c : Chunk) : Type 0 where
   pub id : length c.id ≡ 4
   pub size : length c.content < 2 ^ 64

@@ -9,8 +9,8 @@ abbrev pub inlet_reader : {R : Type 0} → Inlet R → R
 inlet_reader inlet = inlet.reader
 
 -- these bytes were read
-abbrev pub Gives : {R : Type 0} → (R → Option (List ℕ)) → Inlet R → Inlet R → List ℕ → Type 0
-Gives left old new bytes = Consumes (left (inlet_reader old)) (left (inlet_reader new)) bytes
+abbrev pub PullsBytes : {R : Type 0} → (R → Option (List ℕ)) → Inlet R → Inlet R → List ℕ → Type 0
+PullsBytes left old new bytes = Consumes (left (inlet_reader old)) (left (inlet_reader new)) bytes
 
 -- the number of reads that failed
 abbrev pub inlet_failures : {R : Type 0} → Inlet R → ℕ
@@ -25,8 +25,8 @@ abbrev pub inlet_given : {R : Type 0} → Inlet R → ℕ
 inlet_given inlet = inlet.given
 
 -- the read put its bytes after the first `filled` bytes, and returned none only at the reader's end
-abbrev pub PullsBehind : {E : Type 0} → Option (List ℕ) → Option (List ℕ) → Result ℕ E → ℕ → List ℕ → List ℕ → Type 0
-PullsBehind old new result filled buffer_old buffer_new = MatchResult result
+abbrev pub PullsAfter : {E : Type 0} → Option (List ℕ) → Option (List ℕ) → Result ℕ E → ℕ → List ℕ → List ℕ → Type 0
+PullsAfter old new result filled buffer_old buffer_new = MatchResult result
     (λ n. (bytes : List ℕ) × (length bytes ≡ n) × (filled + n ≤ length buffer_new) × (take (filled + n) buffer_new ≡ take filled buffer_old ++ bytes)
     × Consumes old new bytes × (n ≡ 0 → IsAtEnd new))
     (λ _. Keeps old new)

@@ -2,7 +2,7 @@
 use Rattle.std.specs.Prelude.{◌≡◌, ℕ, List, map, slice_range, All, Ok}
 use Rattle.std.specs.List.{flat_map}
 use Rattle.chunk_core.specs.declared.layout.Span.{Span}
-use Rattle.chunk_core.specs.Chunks.{Chunk, Fits, chunks, spell}
+use Rattle.chunk_core.specs.Chunks.{Chunk, CanBeWritten, chunks, spell}
 use Rattle.chunk_core.specs.Places.{places, span_chunk}
 use Rattle.chunk_core.specs.Reading.{spans_in}
 
@@ -12,7 +12,7 @@ OneList = (bytes : List ℕ) (cs ds : List Chunk) → chunks bytes cs → chunks
 
 -- chunks that are written one after the other are read as these chunks
 abbrev pub SpelledAgain : Type 0
-SpelledAgain = (cs : List Chunk) → All Fits cs → chunks (flat_map spell cs) cs
+SpelledAgain = (cs : List Chunk) → All CanBeWritten cs → chunks (flat_map spell cs) cs
 
 -- the spans that are found in a range are the places of its chunks
 abbrev pub SpansFound : Type 0

@@ -12,8 +12,8 @@ abbrev pub outlet_failures : {W : Type 0} → Outlet W → ℕ
 outlet_failures outlet = outlet.failures
 
 -- a writer's bytes, if they are known, grew by a prefix of these
-abbrev pub AppendsFront : Option (List ℕ) → Option (List ℕ) → List ℕ → Type 0
-AppendsFront old new all = (front : List ℕ) × (back : List ℕ) × (all ≡ front ++ back) × Appends old new front
+abbrev pub AppendsPrefix : Option (List ℕ) → Option (List ℕ) → List ℕ → Type 0
+AppendsPrefix old new all = (front : List ℕ) × (back : List ℕ) × (all ≡ front ++ back) × Appends old new front
 
 -- a writer's bytes, if they are known, grew by a prefix of these, and not by all of them
 abbrev pub AppendsPart : Option (List ℕ) → Option (List ℕ) → List ℕ → Type 0
@@ -24,8 +24,8 @@ abbrev pub Puts : {W : Type 0} → (W → Option (List ℕ)) → Outlet W → Ou
 Puts contents old new bytes = Appends (contents (outlet_writer old)) (contents (outlet_writer new)) bytes
 
 -- a prefix of these bytes was written
-abbrev pub PutsFront : {W : Type 0} → (W → Option (List ℕ)) → Outlet W → Outlet W → List ℕ → Type 0
-PutsFront contents old new all = AppendsFront (contents (outlet_writer old)) (contents (outlet_writer new)) all
+abbrev pub PutsPrefix : {W : Type 0} → (W → Option (List ℕ)) → Outlet W → Outlet W → List ℕ → Type 0
+PutsPrefix contents old new all = AppendsPrefix (contents (outlet_writer old)) (contents (outlet_writer new)) all
 
 -- a prefix of these bytes was written, and not all of them
 abbrev pub PutsPart : {W : Type 0} → (W → Option (List ℕ)) → Outlet W → Outlet W → List ℕ → Type 0

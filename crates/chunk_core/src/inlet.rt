@@ -17,7 +17,7 @@ pub struct Inlet<R> {
 }
 
 impl<R: Read> Inlet<R> {
-    ghost use Rattle.chunk_core.specs.Inlets.{CountsReads, FailsFilling, Gives, PullsBehind, inlet_failures, inlet_given, inlet_reader, inlet_reads};
+    ghost use Rattle.chunk_core.specs.Inlets.{CountsReads, FailsFilling, PullsBytes, PullsAfter, inlet_failures, inlet_given, inlet_reader, inlet_reads};
 
     /// An inlet over this reader, with all counters at 0.
     pub fn new(reader: R) -> Inlet<R>
@@ -75,7 +75,7 @@ impl<R: Read> Inlet<R> {
     pub fn fill(&mut self, buffer: &mut [u8]) -> Result<usize, Device>
         requires { inlet_failures self.old < 2 ^ 64 - 1 }
         ensures bytes { IfOk result (λ n. (n ≤ length buffer.new)
-            × Gives R.remaining self.old self.new (take n buffer.new)) }
+            × PullsBytes R.remaining self.old self.new (take n buffer.new)) }
         ensures end { IfOk result (λ n. n < length buffer.new → IsAtEnd (R.remaining (inlet_reader self.new))) }
         ensures failures { MatchResult result
             (λ _. inlet_failures self.new ≡ inlet_failures self.old)
@@ -89,7 +89,7 @@ impl<R: Read> Inlet<R> {
     {
         let mut filled = 0;
         while filled < buffer.len() {
-            let count = self.pull_behind(buffer, filled)?;
+            let count = self.pull_after(buffer, filled)?;
             if count == 0 {
                 return Ok(filled);
             }
@@ -102,10 +102,10 @@ impl<R: Read> Inlet<R> {
     /// many bytes came.
     ///
     /// Refusal: as for [`Inlet::pull`].
-    pub fn pull_behind(&mut self, buffer: &mut [u8], filled: usize) -> Result<usize, Device>
+    pub fn pull_after(&mut self, buffer: &mut [u8], filled: usize) -> Result<usize, Device>
         requires ready { inlet_failures self.old < 2 ^ 64 - 1 }
         requires room { filled < length buffer.old }
-        ensures bytes { PullsBehind (R.remaining (inlet_reader self.old))
+        ensures bytes { PullsAfter (R.remaining (inlet_reader self.old))
             (R.remaining (inlet_reader self.new)) result filled buffer.old buffer.new }
         ensures failures { MatchResult result
             (λ _. inlet_failures self.new ≡ inlet_failures self.old)

@@ -32,15 +32,15 @@
 //!   `spans_at at bytes` is the same for bytes that lie at a given place.
 //! - `number_at`, `bytes_of`, `id_at` (`specs/Numbers.antt`) and `IsHeadAt` (`specs/Heads.antt`): numbers
 //!   and heads in either order, and IDs.
-//! - `>>=`, `Gives` (`specs/Steps.antt`): steps that may fail, and what a function returns of them if memory may run
-//!   out.
+//! - `>>=`, `PullsBytes` (`specs/Steps.antt`): steps that may fail, and what a function returns of them if memory may
+//!   run out.
 //! - `inlet_reader`, `inlet_failures`, `inlet_reads`, `inlet_given` (`specs/Inlets.antt`), `outlet_writer` and
 //!   `outlet_failures` (`specs/Outlets.antt`): what an inlet and an outlet hold. The bytes that a reader has left and a
 //!   writer holds are std's `Read::remaining` and `Write::contents`: known in memory, unknown for files.
 //! - `CountsReads`, `FailsFilling` (`specs/Inlets.antt`): how many reads it took to fill a buffer; what was read and
 //!   counted before a read failed.
-//! - `AppendsFront`, `AppendsPart` (`specs/Outlets.antt`): a prefix of some bytes was written; a prefix, but not all of
-//!   them.
+//! - `AppendsPrefix`, `AppendsPart` (`specs/Outlets.antt`): a prefix of some bytes was written; a prefix, but not all
+//!   of them.
 //! - `fused_reader`, `fused_most`, `HasFailed` (`specs/FusedInlets.antt`): the reader of a fused inlet, how many reads
 //!   it may make in all, and that it is read no more.
 //! - `fused_outlet`, `fused_failed`, `failed_parts` (`specs/FusedOutlets.antt`): the outlet inside a fused one, whether

@@ -1,7 +1,7 @@
 -- What was found of a master, and the verdict on it.
 use Rattle.std.proofs.Common.{◌≡◌, ℕ, [], Bool, List, IfOk, IfSome, Option, None, Some, Result, Ok, Err, false, refl, subst, true}
 use Rattle.cut_core.specs.Cuts.{CutContent}
-use Rattle.transfer_commands.proofs.ReadLaws.{known_or_some, untold}
+use Rattle.transfer_commands.proofs.ReadLaws.{known_or_some, unknown_view}
 use Rattle.judge_core.specs.Finding.{FindsHeld, HoldsNothing, IsFoundHeld, IsFoundInSome}
 use Rattle.folder_core.specs.Files.{IsGiven, View}
 use Rattle.transfer_commands.specs.declared.fault.CommandFault.{CommandFault}
@@ -19,7 +19,7 @@ found_of view cut name left given None known some = by view.is_told refl
     by true is =
         let h = given is in
         record { file = h.0; file_read = λ told. h.1; held = tt; is_found = λ told. subst (λ o. IfSome o HoldsNothing) h.2 known }
-    by false is = record { file = []; file_read = untold view.is_told is; held = tt; is_found = untold view.is_told is }
+    by false is = record { file = []; file_read = unknown_view view.is_told is; held = tt; is_found = unknown_view view.is_told is }
 
 -- the same of an answer
 pub found_there : (view : View) (cut : CutContent) (name : List ℕ) (left : Option (List ℕ)) → IsGiven view name left

@@ -5,9 +5,9 @@ use Rattle.form_core.specs.Steps.{Fails, Gives}
 use Rattle.form_core.specs.declared.form.Form.{Form}
 use Rattle.cut_core.specs.Cuts.{CutContent}
 use Rattle.cut_core.specs.declared.fault.CutFault.{CutFault}
-use Rattle.cut_core.specs.declared.heard.Heard.{Heard}
-use Rattle.cut_core.specs.Hearing.{AreOfTakes}
-use Rattle.cut_core.specs.Opening.{HearsTakes, IsOfTakes, takes_of}
+use Rattle.cut_core.specs.declared.excerpts.Excerpts.{Excerpts}
+use Rattle.cut_core.specs.Excerpts.{AreOfTakes}
+use Rattle.cut_core.specs.Opening.{ReturnsAllExcerpts, IsOfTakes, takes_of}
 use Rattle.cut_core.proofs.OpeningLaws.{files_are}
 use Rattle.transfer_core.specs.declared.fault.Fault.{Fault}
 use Rattle.transfer_core.specs.declared.fault.Fault.TheVariants.{Memory}
@@ -15,22 +15,22 @@ use Rattle.transfer_core.specs.Faults.{fault_of_cut}
 use Rattle.transfer_commands.specs.declared.sources.Sources.{Sources}
 use Rattle.judge_core.specs.Cutting.{AreTakes, said_cut}
 use Rattle.judge_core.proofs.CuttingLaws.{unheard}
-use Rattle.command_core.specs.Sources.{AreHeardOf}
+use Rattle.command_core.specs.Sources.{AreExcerptsOf}
 
 module _ (s : Sources) where
-  pub of_takes : (hs : Vec Heard Global) → s.takes ≡ Ok hs → IsOfTakes (splice_content s.splice) (length (splice_content s.splice).takes) s.takes → AreOfTakes (splice_content s.splice) hs.items
+  pub of_takes : (hs : Vec Excerpts Global) → s.takes ≡ Ok hs → IsOfTakes (splice_content s.splice) (length (splice_content s.splice).takes) s.takes → AreOfTakes (splice_content s.splice) hs.items
   of_takes hs is h =
       let t = subst (IsOfTakes (splice_content s.splice) (length (splice_content s.splice).takes)) is h in
-      record { whole = t.0; heard = t.1; as_many = t.2 }
+      record { whole = t.0; excerpts = t.1; as_many = t.2 }
 
-  module _ (project : List ℕ) (files : List (List ℕ)) (are : AreHeardOf project files s) where
-    pub are_takes : (hs : Vec Heard Global) → s.takes ≡ Ok hs → AreTakes project files (splice_content s.splice) hs.items
+  module _ (project : List ℕ) (files : List (List ℕ)) (are : AreExcerptsOf project files s) where
+    pub are_takes : (hs : Vec Excerpts Global) → s.takes ≡ Ok hs → AreTakes project files (splice_content s.splice) hs.items
     are_takes hs is =
-        let t = subst (λ (h : Result (Vec Heard Global) CutFault). HearsTakes (splice_content s.splice) h (takes_of (splice_content s.splice) files)) is are.hears in
-        record { project_says = are.project_says; whole = t.0; read = files_are (splice_content s.splice) files t.0 t.1; heard = t.2 }
+        let t = subst (λ (h : Result (Vec Excerpts Global) CutFault). ReturnsAllExcerpts (splice_content s.splice) h (takes_of (splice_content s.splice) files)) is are.reads_excerpts in
+        record { project_says = are.project_says; whole = t.0; read = files_are (splice_content s.splice) files t.0 t.1; excerpts = t.2 }
 
     pub not_heard : (form : Option Form) (e : CutFault) → s.takes ≡ Err e → Fails Memory (fault_of_cut e) (said_cut project files form)
-    not_heard form e is = unheard project files (splice_content s.splice) form e are.project_says (subst (λ (h : Result (Vec Heard Global) CutFault). HearsTakes (splice_content s.splice) h (takes_of (splice_content s.splice) files)) is are.hears)
+    not_heard form e is = unheard project files (splice_content s.splice) form e are.project_says (subst (λ (h : Result (Vec Excerpts Global) CutFault). ReturnsAllExcerpts (splice_content s.splice) h (takes_of (splice_content s.splice) files)) is are.reads_excerpts)
 
 -- a cut that isn't given is refused as its reading is
 pub gives_refused : (answer : Result CutContent Fault) (steps : Result CutContent Fault) → Gives Memory (λ cut. cut) answer steps → IfErr answer (λ fault. Fails Memory fault steps)

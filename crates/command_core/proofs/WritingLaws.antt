@@ -6,8 +6,8 @@ use Rattle.chunk_core.specs.Outlets.{AppendsPart}
 use Rattle.folder_core.specs.Files.{HoldsPrefix, IsEnded, IsFront, IsGivenUp, IsPut, KeepsOthers, View}
 use Rattle.archive_core.specs.Planning.{CertifiesPlanned, IsSamePlan}
 use Rattle.archive_core.specs.declared.planning.PlannedMaster.{PlannedMaster}
-use Rattle.master_core.specs.Certifying.{AppendsCert, AppendsCertFront}
-use Rattle.command_core.specs.Writing.{CertifiesFront, CertifiesWhole}
+use Rattle.master_core.specs.Certifying.{AppendsCert, AppendsCertPrefix}
+use Rattle.command_core.specs.Writing.{CertifiesPrefix, CertifiesWhole}
 
 -- what was appended to no bytes is all of them
 grown : (a b : Option (List ℕ)) (bytes : List ℕ) → a ≡ Some [] → Appends a b bytes → b ≡ Some bytes
@@ -65,7 +65,7 @@ module _ (name : List ℕ) (old new : View) (others : KeepsOthers name old new) 
       cert_whole (Err e) written whole stands = tt
       cert_whole (Ok x) written whole stands = let w = of_ok came whole written in (w.0, w.1, put_all w.0 w.2 stands)
 
-      pub cert_front : {S E : Type 0} (r : Result S E) → (cert : List ℕ) × CertifiesPlanned planned cert → OnErr came (AppendsCertFront planned.cut planned.bridges a b) → OnErr r (IsEnded name old new (is_ok came) made) → OnErr r (CertifiesFront planned name old new)
+      pub cert_front : {S E : Type 0} (r : Result S E) → (cert : List ℕ) × CertifiesPlanned planned cert → OnErr came (AppendsCertPrefix planned.cut planned.bridges a b) → OnErr r (IsEnded name old new (is_ok came) made) → OnErr r (CertifiesPrefix planned name old new)
       cert_front (Ok x) some written ended = tt
       cert_front (Err e) some written (inl same) = (some.0, some.1, λ told. inl same)
       cert_front (Err e) some written (inr (part, up)) =

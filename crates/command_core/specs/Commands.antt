@@ -10,11 +10,11 @@ use Rattle.judge_core.specs.Accepting.{Accepts, CostsLeast, CostsWindows, IsLeas
 use Rattle.judge_core.specs.Cutting.{said_cut}
 use Rattle.form_core.specs.Steps.{Fails}
 use Rattle.archive_core.specs.Editing.{Edits, IsCertificate}
-use Rattle.folder_core.specs.Files.{Gives, IsFront, IsPut, IsReadOf, KeepsAllBut, KeepsOthers, View}
+use Rattle.folder_core.specs.Files.{OpensAs, IsFront, IsPut, IsReadOf, KeepsAllBut, KeepsOthers, View}
 use Rattle.transfer_commands.specs.Converting.{ConvertComesTo}
 use Rattle.transfer_commands.specs.Playing.{PlayComesTo}
 use Rattle.transfer_commands.specs.Sources.{AreSources, IsUnnamed}
-use Rattle.transfer_commands.specs.Telling.{TellComesTo}
+use Rattle.transfer_commands.specs.Reporting.{ReportComesTo}
 use Rattle.transfer_commands.specs.declared.fault.CommandFault.{CommandFault}
 use Rattle.transfer_commands.specs.declared.fault.CommandFault.TheVariants as faults
 use Rattle.transfer_commands.specs.PartPlaying.{PlayPartComesTo}
@@ -59,7 +59,7 @@ pub record EditsFiles (cut : Cut) (old new : View) (total : ℕ) : Type 0 where
   pub least : CostsAtLeast project takes master total
 
 -- the master's file is as it was, or holds a prefix of the master that was cut; no other file changed
-pub record CutsFront (cut : Cut) (old new : View) : Type 0 where
+pub record CutsPrefix (cut : Cut) (old new : View) : Type 0 where
   pub project : List ℕ
   pub takes : List (List ℕ)
   pub master : List ℕ
@@ -111,7 +111,7 @@ pub record ChecksFiles (project_name master_name cert_name : List ℕ) (old new 
   pub sources : AreSources project_name old project takes
   pub master_read : IsReadOf old master_name master
   pub least : IsLeastIfAccepted project takes master verdict
-  pub by_certificate : IsTrue old.is_told → (cert : List ℕ) × Gives old cert_name cert × Judges project takes master cert verdict
+  pub by_certificate : IsTrue old.is_told → (cert : List ℕ) × OpensAs old cert_name cert × Judges project takes master cert verdict
   pub same : new ≡ old
 
 -- this is the first fault of making a cut of a project and takes that were read, into a file of the form if one is
@@ -131,7 +131,7 @@ abbrev pub EditComesTo : Cut → View → View → Result ℕ CommandFault → T
 EditComesTo cut old new (Ok total) = EditsFiles cut old new total
 EditComesTo cut old new (Err (faults.Call fault)) = CutRefused (Some cut.form) cut.project_name old new fault
 EditComesTo cut old new (Err faults.ReadFailed) = new ≡ old
-EditComesTo cut old new (Err faults.WriteFailed) = CutsFront cut old new ⊎ LeavesMaster cut old new
+EditComesTo cut old new (Err faults.WriteFailed) = CutsPrefix cut old new ⊎ LeavesMaster cut old new
 
 -- how `check PROJECT MASTER CERT` changes the folder
 abbrev pub CheckComesTo : List ℕ → List ℕ → List ℕ → View → View → Result Verdict CommandFault → Type 0
@@ -157,7 +157,7 @@ TaskComesTo (tasks.PlayPart project input output from to) old new = SaysPart (Pl
 TaskComesTo (tasks.Convert form input output) old new = Says Converted (ConvertComesTo form input.now output.now old new)
 TaskComesTo (tasks.Edit form project master cert) old new = Says Edited (EditComesTo (record { form = form; project_name = project.now; master_name = master.now; cert_name = cert.now }) old new)
 TaskComesTo (tasks.Check project master cert) old new = Says verdict_of (CheckComesTo project.now master.now cert.now old new)
-TaskComesTo (tasks.Info file) old new = Says Info (TellComesTo file.now old new)
+TaskComesTo (tasks.Info file) old new = Says Info (ReportComesTo file.now old new)
 
 -- the words are no command or name no form, or memory ran out
 abbrev pub IsNoCommand : Outcome → Type 0

@@ -9,5 +9,5 @@ abbrev pub CertifiesWhole : PlannedMaster → List ℕ → View → Type 0
 CertifiesWhole planned name new = (cert : List ℕ) × CertifiesPlanned planned cert × IsPut new name cert
 
 -- it is as it was, or holds a prefix of such a certificate
-abbrev pub CertifiesFront : PlannedMaster → List ℕ → View → View → Type 0
-CertifiesFront planned name old new = (cert : List ℕ) × CertifiesPlanned planned cert × IsFront name old new cert
+abbrev pub CertifiesPrefix : PlannedMaster → List ℕ → View → View → Type 0
+CertifiesPrefix planned name old new = (cert : List ℕ) × CertifiesPlanned planned cert × IsFront name old new cert

@@ -49,5 +49,5 @@ pub use outcome::{Outcome, outcome_line, status};
 pub use performing::perform;
 pub use program::{run, run_program};
 pub use summing::{is_as_listed, sum_line};
-pub use transfer_commands::Told;
+pub use transfer_commands::Reported;
 pub use words_core::Task;

@@ -7,7 +7,7 @@ ghost use Rattle.command_core.specs.declared.outcome.Outcome.TheVariants as outc
 use archive_core::{Fault, Reason};
 use form_core::info_lines;
 use std::alloc::{AllocError, Global};
-use transfer_commands::{CommandFault, PartFault, Told};
+use transfer_commands::{CommandFault, PartFault, Reported};
 use transfer_core::SpanFault;
 use words_core::WordsFault;
 
@@ -25,7 +25,7 @@ pub enum Outcome {
     /// A master was rejected for this reason.
     Rejected(Reason),
     /// A file was read; this is what is reported of it, its form and its recording.
-    Info(Told),
+    Info(Reported),
     /// The call was refused.
     Fault(Fault),
     /// There is no such part in the recording.

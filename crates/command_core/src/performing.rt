@@ -16,7 +16,8 @@ use archive_core::{Form, Verdict};
 use folder_core::Folder;
 use std::alloc::Global;
 use transfer_commands::{
-    CommandFault, MOST_KEPT, Told, convert_file, hear_sources, open_file, play_file, play_part_file,
+    CommandFault, MOST_KEPT, Reported, convert_file, open_file, play_file, play_part_file,
+    source_excerpts,
 };
 use words_core::Task;
 
@@ -92,7 +93,7 @@ fn edit_files<F: Folder>(
 ) -> Result<u128, CommandFault>
     ensures { EditComesTo (record { form = form; project_name = project.now; master_name = master.now; cert_name = cert.now }) (F.view folder.old) (F.view folder.new) result }
 {
-    let sources = hear_sources(alloc, folder, project)?;
+    let sources = source_excerpts(alloc, folder, project)?;
     let mut planned = cut_sources(alloc, folder, sources, form)?;
     let total = planned.total();
     write_master(folder, &mut planned, master, cert)?;
@@ -111,7 +112,7 @@ fn check_files<F: Folder>(
 ) -> Result<Verdict, CommandFault>
     ensures { CheckComesTo project.now master.now cert.now (F.view folder.old) (F.view folder.new) result }
 {
-    let sources = hear_sources(alloc, folder, project)?;
+    let sources = source_excerpts(alloc, folder, project)?;
     let cut = match cut_of(sources, None) {
         Ok(cut) => cut,
         Err(fault) => return Err(fault_behind(folder, master, cert, fault)),
@@ -165,7 +166,7 @@ fn judged(came: Result<Verdict, CommandFault>) -> Outcome
 }
 
 // The outcome of a command that reported what a file holds.
-fn told(came: Result<Told, CommandFault>) -> Outcome
+fn told(came: Result<Reported, CommandFault>) -> Outcome
     ensures { result ≡ outcome_of outcomes.Info came }
 {
     match came {

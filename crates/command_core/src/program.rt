@@ -167,12 +167,12 @@ fn given_words<R: Env + AllocGlobal>(rt: &R, is_asked: bool) -> io::Result<Vec<S
 // fail to be written.
 fn tell<R: Print + Eprint + AllocGlobal>(rt: &R, outcome: Outcome, answers: Answers) -> Shown {
     let Ok(line) = outcome_line(rt.alloc(), &outcome) else {
-        return untold(rt, Fault::Memory.into(), None);
+        return unknown_view(rt, Fault::Memory.into(), None);
     };
     match answers {
         Answers::ToOutput if is_answer(&outcome) => {
             if let Err(error) = println!(rt; "{line}") {
-                return untold(rt, Outcome::WriteFailed, Some(error));
+                return unknown_view(rt, Outcome::WriteFailed, Some(error));
             }
         }
         Answers::Nowhere if is_answer(&outcome) => {}
@@ -192,7 +192,11 @@ fn is_answer(outcome: &Outcome) -> bool {
 }
 
 // Prints the fault that the outcome was not printed, if there is memory for its line.
-fn untold<R: Eprint + AllocGlobal>(rt: &R, fault: Outcome, refusal: Option<io::Error>) -> Shown {
+fn unknown_view<R: Eprint + AllocGlobal>(
+    rt: &R,
+    fault: Outcome,
+    refusal: Option<io::Error>,
+) -> Shown {
     if let Ok(line) = outcome_line(rt.alloc(), &fault) {
         let _ = eprintln!(rt; "{line}");
     }

@@ -6,12 +6,12 @@ ghost use Rattle.form_core.specs.Steps.{Fails};
 ghost use Rattle.cut_core.specs.Opening.{IsOfTakes};
 ghost use Rattle.judge_core.specs.Cutting.{SaysCut, said_cut};
 ghost use Rattle.archive_core.specs.Planning.{IsPlanned, Plans};
-ghost use Rattle.command_core.specs.Sources.{AreHeardOf};
+ghost use Rattle.command_core.specs.Sources.{AreExcerptsOf};
 
 use archive_core::{Fault, Form, PlannedMaster, Watch, plan_master};
 use cut_core::Cut;
 use folder_core::Folder;
-use judge_core::cut_heard;
+use judge_core::cut_excerpts;
 use std::alloc::Global;
 use transfer_commands::Sources;
 
@@ -38,10 +38,10 @@ pub(crate) fn cut_sources<F: Folder>(
 ) -> Result<PlannedMaster, Fault>
     requires { IsOfTakes (splice_content sources.splice) (length (splice_content sources.splice).takes) sources.takes }
     // Whichever project and files it was read from, the master is cut from them, or refused as they are.
-    ensures found { (project : List ℕ) (files : List (List ℕ)) → AreHeardOf project files sources
+    ensures found { (project : List ℕ) (files : List (List ℕ)) → AreExcerptsOf project files sources
         → IfOk result (Plans project files form) }
     ensures planned { IfOk result IsPlanned }
-    ensures refused { (project : List ℕ) (files : List (List ℕ)) → AreHeardOf project files sources
+    ensures refused { (project : List ℕ) (files : List (List ℕ)) → AreExcerptsOf project files sources
         → IfErr result (λ fault. Fails Fault.Memory fault (said_cut project files (Some form))) }
 {
     let cut = cut_of(sources, Some(form))?;
@@ -50,15 +50,15 @@ pub(crate) fn cut_sources<F: Folder>(
 
 /// The cut of a project and what it reads of its takes, into a file of a form if one is asked for.
 ///
-/// Refusals: the first fault in the takes' files; those of [`cut_heard`].
+/// Refusals: the first fault in the takes' files; those of [`cut_excerpts`].
 pub(crate) fn cut_of(sources: Sources, form: Option<Form>) -> Result<Cut, Fault>
     requires { IsOfTakes (splice_content sources.splice) (length (splice_content sources.splice).takes) sources.takes }
     // Whichever project and files it was read from, this is their cut, or it is refused as they are.
-    ensures found { (project : List ℕ) (files : List (List ℕ)) → AreHeardOf project files sources
+    ensures found { (project : List ℕ) (files : List (List ℕ)) → AreExcerptsOf project files sources
         → IfOk result (SaysCut project files form) }
-    ensures refused { (project : List ℕ) (files : List (List ℕ)) → AreHeardOf project files sources
+    ensures refused { (project : List ℕ) (files : List (List ℕ)) → AreExcerptsOf project files sources
         → IfErr result (λ fault. Fails Fault.Memory fault (said_cut project files form)) }
 {
     let Sources { splice, takes } = sources;
-    cut_heard(splice, takes?, form)
+    cut_excerpts(splice, takes?, form)
 }

@@ -2,7 +2,7 @@
 
 ghost use Rattle.std.specs.Prelude.{◌≡◌, [], IfErr, IfOk, IsTrue, List, OnErr, OnOk, Some, ℕ};
 ghost use Rattle.archive_core.specs.Planning.{IsFileOf, IsPlanned, IsSamePlan};
-ghost use Rattle.command_core.specs.Writing.{CertifiesFront, CertifiesWhole};
+ghost use Rattle.command_core.specs.Writing.{CertifiesPrefix, CertifiesWhole};
 ghost use Rattle.folder_core.specs.Files.{IsFront, IsPut, KeepsOthers};
 ghost use Rattle.folder_core.specs.declared.fault.FileFault.TheVariants as faults;
 
@@ -51,7 +51,7 @@ pub(crate) fn write_certificate<F: Folder>(
     requires { IsPlanned planned }
     ensures others { KeepsOthers name.now (F.view folder.old) (F.view folder.new) }
     ensures bytes { OnOk result (CertifiesWhole planned name.now (F.view folder.new)) }
-    ensures refused { OnErr result (CertifiesFront planned name.now (F.view folder.old) (F.view folder.new)) }
+    ensures refused { OnErr result (CertifiesPrefix planned name.now (F.view folder.old) (F.view folder.new)) }
     ensures fault { IfErr result (λ fault. fault ≡ faults.WriteFailed) }
 {
     planned.is_certifiable();

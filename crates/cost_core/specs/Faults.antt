@@ -29,14 +29,14 @@ pub record CanBridge (splice : SpliceContent) (i : ℕ) (a : List Bool) (stop : 
   pub after : stop + (reach_at splice i).after ≤ length a
 
 -- which of the two is missing first
-abbrev pub first_fault : SpliceContent → ℕ → ℕ → Option RoomFault
-first_fault splice i count =
+abbrev pub missing_room : SpliceContent → ℕ → ℕ → Option RoomFault
+missing_room splice i count =
     let reach = reach_at splice i in
     if nat_lt (cue_at splice (i + 1)).start reach.before then Some rooms.NoRoomBefore
     else (if nat_lt count ((cue_at splice i).stop + reach.after) then Some rooms.NoRoomAfter else None)
 
 -- the missing room that a fault names; none if memory ran out
-abbrev pub named : WindowFault → Option RoomFault
-named NoRoomBefore = Some rooms.NoRoomBefore
-named NoRoomAfter = Some rooms.NoRoomAfter
-named Memory = None
+abbrev pub named_room : WindowFault → Option RoomFault
+named_room NoRoomBefore = Some rooms.NoRoomBefore
+named_room NoRoomAfter = Some rooms.NoRoomAfter
+named_room Memory = None

@@ -3,8 +3,8 @@ use Rattle.std.specs.Prelude.{◌≡◌, ℕ, Option, List, ◌++◌, flat_map}
 use Rattle.std.specs.Io.KnownBytes.{Appends}
 
 -- bytes, if they are known, grew by a prefix of these
-abbrev pub AppendsFront : Option (List ℕ) → Option (List ℕ) → List ℕ → Type 0
-AppendsFront old new bytes = (front : List ℕ) × (back : List ℕ) × (bytes ≡ front ++ back) × Appends old new front
+abbrev pub AppendsPrefix : Option (List ℕ) → Option (List ℕ) → List ℕ → Type 0
+AppendsPrefix old new bytes = (front : List ℕ) × (back : List ℕ) × (bytes ≡ front ++ back) × Appends old new front
 
 -- the spellings of these rows were appended to the text, if it is known, in order
 abbrev pub HandsOver : (List ℕ → List ℕ) → Option (List ℕ) → Option (List ℕ) → List (List ℕ) → Type 0

@@ -21,5 +21,5 @@ abbrev pub are_upper : List ℕ → List ℕ → List ℕ → List Bool
 are_upper old lows highs = seconds (lower old lows) (upper old highs)
 
 -- the bytes have a bit for each state, which is 1 if the way from the upper half is less
-abbrev pub AreChosen : List ℕ → List ℕ → List ℕ → List ℕ → Type 0
-AreChosen old lows highs choices = (k : ℕ) → k < length old → bit_at (slice_index choices (k / 8)) (k % 8) ≡ (if slice_index_or (are_upper old lows highs) k false then 1 else 0)
+abbrev pub HoldChoices : List ℕ → List ℕ → List ℕ → List ℕ → Type 0
+HoldChoices old lows highs choices = (k : ℕ) → k < length old → bit_at (slice_index choices (k / 8)) (k % 8) ≡ (if slice_index_or (are_upper old lows highs) k false then 1 else 0)

@@ -2,7 +2,7 @@
 
 ghost use Rattle.std.specs.Prelude.{◌≡◌, Some};
 ghost use Rattle.cost_core.specs.declared.fault.WindowFault.TheVariants.{Memory};
-ghost use Rattle.cost_core.specs.Faults.{named};
+ghost use Rattle.cost_core.specs.Faults.{named_room};
 
 use std::alloc::AllocError;
 use std::fmt;
@@ -41,7 +41,7 @@ impl fmt::Display for WindowFault {
 }
 
 impl From<RoomFault> for WindowFault {
-    ghost from_gives = { λ wanting fault. named fault ≡ Some wanting };
+    ghost from_gives = { λ wanting fault. named_room fault ≡ Some wanting };
 
     fn from(wanting: RoomFault) -> WindowFault {
         match wanting {

@@ -22,7 +22,7 @@
 //! - `targets_of` is the targets of a bridge's places by its cue's target, `fade` the target of one place of a fade,
 //!   `line` that of one place of a line.
 //! - `reach_of` says how many bits beyond the cues the targets read, `HasRoom splice i count` that the takes have them
-//!   if the take of cue `i` has `count` bits, and `first_fault` which of them are missing first.
+//!   if the take of cue `i` has `count` bits, and `missing_room` which of them are missing first.
 //! - `Bridging` is what a window holds. `bridge_cost d x` is the sum of the squared deviations over its places.
 //!   `IsLeastBridge d x` says that no bits of its length cost less than `x`, `IsFirstLeastBridge d x` that `x` is the
 //!   first of all such lists, read from the last bit to the first.

@@ -7,7 +7,7 @@ ghost use Rattle.cost_core.specs.Bridges.{bridge_cost};
 ghost use Rattle.cost_core.specs.StateCosts.{step_of, step_row, tail_row, trellis_of};
 ghost use Rattle.cost_core.specs.Windows.{bridging, bridging_at, cue_at};
 ghost use Rattle.cost_core.specs.Limits.{IsBridging, greatest_step};
-ghost use Rattle.cost_core.specs.Faults.{HasRoom, CanBridge, first_fault, named};
+ghost use Rattle.cost_core.specs.Faults.{HasRoom, CanBridge, missing_room, named_room};
 
 use crate::fault::WindowFault;
 use crate::room::has_room;
@@ -70,8 +70,8 @@ impl Window {
         ensures only { HasRoom (splice_content splice.now) cue (length own.now) → IsOkUnless result WindowFault.Memory }
 
         // Which fault it is: the first room that is lacking.
-        ensures order { MatchResult result (λ _. first_fault (splice_content splice.now) cue (length own.now) ≡ None)
-            (λ fault. first_fault (splice_content splice.now) cue (length own.now) ≡ named fault) }
+        ensures order { MatchResult result (λ _. missing_room (splice_content splice.now) cue (length own.now) ≡ None)
+            (λ fault. missing_room (splice_content splice.now) cue (length own.now) ≡ named_room fault) }
     {
         has_room(splice, cue, own.len())?;
         let stop = splice.cues[cue].stop;

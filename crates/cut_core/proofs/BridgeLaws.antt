@@ -7,7 +7,7 @@ use Rattle.std.proofs.lemmas.List.FromFn.{get_or-map-range_with_len, length-map-
 use Rattle.std.proofs.lemmas.List.Elements.{All-cons, All-nil}
 use Rattle.cut_core.specs.Cuts.{CutContent, channel_number, cue_at}
 use Rattle.cut_core.specs.declared.bridges.BridgePlace.{BridgePlace}
-use Rattle.cut_core.specs.Bridges.{IsPlace, bridges, places_behind}
+use Rattle.cut_core.specs.Bridges.{IsPlace, bridges, places_after}
 
 -- the place behind a cue in a channel
 abbrev pub place_of : ℕ → ℕ → BridgePlace
@@ -15,10 +15,10 @@ place_of i c = record { cue = i; channel = c }
 
 -- behind a cue
 module _ (cut : CutContent) (i : ℕ) where
-  pub behind_none : (cue_at cut i).bridge ≡ 0 → places_behind cut i ≡ []
+  pub behind_none : (cue_at cut i).bridge ≡ 0 → places_after cut i ≡ []
   behind_none e = rw e refl
 
-  pub behind_some : ((cue_at cut i).bridge ≡ 0 → ⊥) → places_behind cut i ≡ map (place_of i) (range_with_len 0 (channel_number cut))
+  pub behind_some : ((cue_at cut i).bridge ≡ 0 → ⊥) → places_after cut i ≡ map (place_of i) (range_with_len 0 (channel_number cut))
   behind_some h = rw (ne_eqb (cue_at cut i).bridge 0 h) refl
 
   pub each_place : i + 1 < length cut.splice.cues → ((cue_at cut i).bridge ≡ 0 → ⊥) → (a n : ℕ) → a + n ≤ channel_number cut → All (IsPlace cut) (map (place_of i) (range_with_len a n))
@@ -55,7 +55,7 @@ no_bridge cut p cue there others = elim (cases_lt 0 (cue_at cut p.cue).bridge) [
       let ne : (cue_at cut p.cue).bridge ≡ 0 → ⊥ = λ e. omega arith in
       let Other : BridgePlace → Type 0 = λ q. q ≡ p → ⊥ in
       let number = channel_number cut in
-      let behind = all_in_flat Other (places_behind cut) (length cut.splice.cues - 1) 0 p.cue (omega arith) (omega arith) others in
+      let behind = all_in_flat Other (places_after cut) (length cut.splice.cues - 1) 0 p.cue (omega arith) (omega arith) others in
       let all = subst (λ l. All Other l) (behind_some cut p.cue ne) behind in
       absurd (subst Other (get_or-map-range_with_len {X = BridgePlace} (place_of p.cue) 0 number p.channel p.channel p there (omega arith)) (all p.channel p (omega (arith, length-map-range_with_len {X = BridgePlace} (place_of p.cue) 0 number))) refl)
       )

@@ -22,8 +22,8 @@ use Rattle.cost_core.specs.Windows as fades
 use Rattle.cost_core.specs.Windows.{bridging_at}
 use Rattle.cost_core.proofs.Hearing.{bridging_heard, part_of_part}
 use Rattle.cut_core.specs.Cuts.{CutContent, FitTakes, IsAlike, IsInside, channel_number, cue_bits, cut_with, each_below, no_bridging, source, take_at, window}
-use Rattle.cut_core.specs.Hearing.{AreHeard, HasStretch, HeardContent, heard_at, heard_content, heard_cut, heard_from, heard_of, heard_shape, heard_shapes, heard_takes, heard_to, range_of, shape_of, ranges_of, start_in, stop_in, stretch_at, stretches_at}
-use Rattle.cut_core.specs.declared.heard.Heard.{Heard}
+use Rattle.cut_core.specs.Excerpts.{AreExcerpts, HasStretch, ExcerptsContent, excerpts_at, excerpts_content, cut_of_excerpts, excerpt_start, excerpts_of, excerpts_shape, excerpts_shapes, excerpts_of_takes, excerpt_stop, range_of, shape_of, ranges_of, start_in, stop_in, stretch_at, stretches_at}
+use Rattle.cut_core.specs.declared.excerpts.Excerpts.{Excerpts}
 use Rattle.form_core.specs.Steps.{Fails}
 use Rattle.cut_core.specs.declared.fault.CutFault.{CutFault}
 use Rattle.cut_core.specs.declared.fault.CutFault.TheVariants.{Memory}
@@ -62,20 +62,20 @@ joins_again x y d e u v p q r h =
     subst (λ (z : List Bool). Joins z (record { bridging = e; cue = v })) p (subst (λ (z : Bridging). Joins x (record { bridging = z; cue = v })) q (subst (λ (z : List Bool). Joins x (record { bridging = d; cue = z })) r h))
 
 -- ---- takes one by one
-pub heard_none : (splice : SpliceContent) → AreHeard splice [] []
-heard_none splice = record { shaped = All-nil HasShape; heard = refl }
+pub heard_none : (splice : SpliceContent) → AreExcerpts splice [] []
+heard_none splice = record { shaped = All-nil HasShape; excerpts = refl }
 
-pub heard_more : (splice : SpliceContent) (takes : List Content) (hs made : List Heard) (r : Content) (h : Heard) (n : ℕ) → length takes ≡ n → AreHeard splice takes hs → HasShape r → heard_content h ≡ heard_of splice n r → made ≡ hs ++ h ∷ []
-    → AreHeard splice (takes ++ r ∷ []) made
+pub heard_more : (splice : SpliceContent) (takes : List Content) (hs made : List Excerpts) (r : Content) (h : Excerpts) (n : ℕ) → length takes ≡ n → AreExcerpts splice takes hs → HasShape r → excerpts_content h ≡ excerpts_of splice n r → made ≡ hs ++ h ∷ []
+    → AreExcerpts splice (takes ++ r ∷ []) made
 heard_more splice takes hs made r h n long before shape is pushed =
-    let f : ℕ → HeardContent = λ number. heard_of splice number (take_at takes number) in
-    let g : ℕ → HeardContent = λ number. heard_of splice number (take_at (takes ++ r ∷ []) number) in
+    let f : ℕ → ExcerptsContent = λ number. excerpts_of splice number (take_at takes number) in
+    let g : ℕ → ExcerptsContent = λ number. excerpts_of splice number (take_at (takes ++ r ∷ []) number) in
     let more : length (takes ++ r ∷ []) ≡ length takes + 1 = length-append takes (r ∷ []) in
-    let same = map_range_same (length takes) f g (λ i lt. ap (heard_of splice i) (sym (get_or_append_left takes (r ∷ []) _ i lt))) in
-    let last : g (length takes) ≡ heard_content h = ap (heard_of splice (length takes)) (get_or-append_seam takes r [] _) ∙ ap (λ (k : ℕ). heard_of splice k r) long ∙ sym is in
+    let same = map_range_same (length takes) f g (λ i lt. ap (excerpts_of splice i) (sym (get_or_append_left takes (r ∷ []) _ i lt))) in
+    let last : g (length takes) ≡ excerpts_content h = ap (excerpts_of splice (length takes)) (get_or-append_seam takes r [] _) ∙ ap (λ (k : ℕ). excerpts_of splice k r) long ∙ sym is in
     record {
       shaped = All-append HasShape takes (r ∷ []) before.shaped (All-cons HasShape r [] shape (All-nil HasShape));
-      heard = ap (map heard_content) pushed ∙ map-append heard_content hs (h ∷ []) ∙ (λ j. before.heard j ++ heard_content h ∷ [])
+      excerpts = ap (map excerpts_content) pushed ∙ map-append excerpts_content hs (h ∷ []) ∙ (λ j. before.excerpts j ++ excerpts_content h ∷ [])
           ∙ (λ j. same j ++ sym last j ∷ []) ∙ sym (ap (λ (m : ℕ). each_below m g) more ∙ map-range_with_len_more g 0 (length takes) (length takes) (omega arith));
     }
 
@@ -97,39 +97,39 @@ module _ (splice : SpliceContent) (takes : List Content) (fine : IsSplicing spli
   as_many_at : (i : ℕ) → i < length splice.cues → length (zs_at i) ≡ number
   as_many_at i lt = let alike : IsAlike takes (take_at takes (fades.cue_at splice i).take) = All-get_or (IsAlike takes) takes (fades.cue_at splice i).take _ (take_there i lt) fit.alike in alike.as_many_channels
 
-  abbrev pub hs : List HeardContent
-  hs = heard_takes splice takes
+  abbrev pub hs : List ExcerptsContent
+  hs = excerpts_of_takes splice takes
 
-  heard_there : (i : ℕ) → i < length splice.cues → heard_at hs (fades.cue_at splice i).take ≡ heard_of splice (fades.cue_at splice i).take (take_at takes (fades.cue_at splice i).take)
-  heard_there i lt = below_at (length takes) (λ number. heard_of splice number (take_at takes number)) (fades.cue_at splice i).take _ (take_there i lt)
+  heard_there : (i : ℕ) → i < length splice.cues → excerpts_at hs (fades.cue_at splice i).take ≡ excerpts_of splice (fades.cue_at splice i).take (take_at takes (fades.cue_at splice i).take)
+  heard_there i lt = below_at (length takes) (λ number. excerpts_of splice number (take_at takes number)) (fades.cue_at splice i).take _ (take_there i lt)
 
-  range_is : (i : ℕ) → i < length splice.cues → get_or (ranges_of splice (fades.cue_at splice i).take) i (record { start = 0; stop = 0 }) ≡ record { start = heard_from splice i; stop = heard_to splice i }
+  range_is : (i : ℕ) → i < length splice.cues → get_or (ranges_of splice (fades.cue_at splice i).take) i (record { start = 0; stop = 0 }) ≡ record { start = excerpt_start splice i; stop = excerpt_stop splice i }
   range_is i lt =
       let t = (fades.cue_at splice i).take in
-      let own : range_of splice t i ≡ record { start = heard_from splice i; stop = heard_to splice i } = rw (eq-eqb t t refl) refl in
+      let own : range_of splice t i ≡ record { start = excerpt_start splice i; stop = excerpt_stop splice i } = rw (eq-eqb t t refl) refl in
       below_at (length splice.cues) (range_of splice t) i _ lt ∙ own
 
   -- what is heard for cue i is the part of each channel of its take
-  stretches_are : (i : ℕ) → i < length splice.cues → stretches_at splice hs i ≡ map (λ z. slice_range z (heard_from splice i) (heard_to splice i)) (zs_at i)
+  stretches_are : (i : ℕ) → i < length splice.cues → stretches_at splice hs i ≡ map (λ z. slice_range z (excerpt_start splice i) (excerpt_stop splice i)) (zs_at i)
   stretches_are i lt =
       let t = (fades.cue_at splice i).take in
       let ranges = ranges_of splice t in
       let long : length ranges ≡ length splice.cues = length-map-range_with_len (range_of splice t) 0 (length splice.cues) in
-      ap (λ (h : HeardContent). get_or h.stretches i []) (heard_there i lt)
+      ap (λ (h : ExcerptsContent). get_or h.stretches i []) (heard_there i lt)
       ∙ get_or-map (stretch_of (zs_at i)) ranges i (record { start = 0; stop = 0 }) [] (omega (arith, long))
       ∙ ap (stretch_of (zs_at i)) (range_is i lt)
 
-  stretch_is : (c i : ℕ) → c < number → i < length splice.cues → stretch_at splice hs c i ≡ slice_range (source splice takes c i) (heard_from splice i) (heard_to splice i)
+  stretch_is : (c i : ℕ) → c < number → i < length splice.cues → stretch_at splice hs c i ≡ slice_range (source splice takes c i) (excerpt_start splice i) (excerpt_stop splice i)
   stretch_is c i there lt =
       ap (λ (l : List (List Bool)). get_or l c []) (stretches_are i lt)
-      ∙ get_or-map (λ z. slice_range z (heard_from splice i) (heard_to splice i)) (zs_at i) c [] [] (omega (arith, as_many_at i lt, there))
+      ∙ get_or-map (λ z. slice_range z (excerpt_start splice i) (excerpt_stop splice i)) (zs_at i) c [] [] (omega (arith, as_many_at i lt, there))
 
   pub has_stretch : (c i : ℕ) → c < number → i < length splice.cues → HasStretch splice hs c i
   has_stretch c i there lt =
       let t = (fades.cue_at splice i).take in
-      let f : List Bool → List Bool = λ z. slice_range z (heard_from splice i) (heard_to splice i) in
+      let f : List Bool → List Bool = λ z. slice_range z (excerpt_start splice i) (excerpt_stop splice i) in
       record {
-        cue_there = omega (arith, ap (λ (h : HeardContent). length h.stretches) (heard_there i lt), length-map (ranges_of splice t) (stretch_of (zs_at i)), length-map-range_with_len (range_of splice t) 0 (length splice.cues), lt);
+        cue_there = omega (arith, ap (λ (h : ExcerptsContent). length h.stretches) (heard_there i lt), length-map (ranges_of splice t) (stretch_of (zs_at i)), length-map-range_with_len (range_of splice t) 0 (length splice.cues), lt);
         channel_there = omega (arith, ap length (stretches_are i lt), length-map (zs_at i) f, as_many_at i lt, there);
       }
 
@@ -139,19 +139,19 @@ module _ (splice : SpliceContent) (takes : List Content) (fine : IsSplicing spli
       All-get_or (λ z. length z ≡ count_of (zs_at i)) (zs_at i) c [] (omega (arith, as_many_at i lt, there)) shape.level.same
 
   -- ---- the cut
-  first_is : heard_at hs 0 ≡ heard_of splice 0 (take_at takes 0)
-  first_is = below_at (length takes) (λ number. heard_of splice number (take_at takes number)) 0 _ (omega (arith, fit.as_many, fine.some_takes))
+  first_is : excerpts_at hs 0 ≡ excerpts_of splice 0 (take_at takes 0)
+  first_is = below_at (length takes) (λ number. excerpts_of splice number (take_at takes number)) 0 _ (omega (arith, fit.as_many, fine.some_takes))
 
-  number_is : length (heard_at hs 0).recording.channels ≡ number
-  number_is = ap (λ (h : HeardContent). length h.recording.channels) first_is ∙ length-replicate number []
+  number_is : length (excerpts_at hs 0).recording.channels ≡ number
+  number_is = ap (λ (h : ExcerptsContent). length h.recording.channels) first_is ∙ length-replicate number []
 
   cued_is : (c i : ℕ) → c < number → i < length splice.cues → slice_range (stretch_at splice hs c i) (start_in splice i) (stop_in splice i) ≡ fades.cued splice i (source splice takes c i)
   cued_is c i there lt =
       let cue = fits_at i lt in
       ap (λ (z : List Bool). slice_range z (start_in splice i) (stop_in splice i)) (stretch_is c i there lt)
-      ∙ part_of_part (source splice takes c i) (heard_from splice i) (heard_to splice i) (fades.cue_at splice i).start (fades.cue_at splice i).stop (omega arith) (omega (arith, cue.long_enough, fine.weights_fit.two_weights)) (omega arith)
+      ∙ part_of_part (source splice takes c i) (excerpt_start splice i) (excerpt_stop splice i) (fades.cue_at splice i).start (fades.cue_at splice i).stop (omega arith) (omega (arith, cue.long_enough, fine.weights_fit.two_weights)) (omega arith)
 
-  lead_is : (i : ℕ) → heard_from splice (i + 1) ≡ (fades.cue_at splice (i + 1)).start - (reach_at splice i).before
+  lead_is : (i : ℕ) → excerpt_start splice (i + 1) ≡ (fades.cue_at splice (i + 1)).start - (reach_at splice i).before
   lead_is i = rw (add-one i) refl
 
   window_is : HaveRoom splice takes → (c i : ℕ) → c < number → i + 1 < length splice.cues
@@ -162,16 +162,16 @@ module _ (splice : SpliceContent) (takes : List Content) (fine : IsSplicing spli
       let a = stretch_is c i there (omega arith) in
       let b = stretch_is c (i + 1) there lt in
       (λ j. bridging_at splice i (a j) (stop_in splice i) (b j) (start_in splice (i + 1)))
-      ∙ bridging_heard splice i (source splice takes c i) (heard_from splice i) (heard_to splice i) (fades.cue_at splice i).stop (source splice takes c (i + 1)) (heard_from splice (i + 1)) (heard_to splice (i + 1)) (fades.cue_at splice (i + 1)).start
+      ∙ bridging_heard splice i (source splice takes c i) (excerpt_start splice i) (excerpt_stop splice i) (fades.cue_at splice i).stop (source splice takes c (i + 1)) (excerpt_start splice (i + 1)) (excerpt_stop splice (i + 1)) (fades.cue_at splice (i + 1)).start
       (omega (arith, fine.weights_fit.two_weights)) (omega (arith, cue.long_enough)) (omega (arith, next.long_enough)) (omega arith) (lead_is i) (λ some. (room i lt some).before)
 
   -- what was heard gives the cut of the takes
-  pub heard_is : HaveRoom splice takes → heard_cut splice hs ≡ cut_with splice takes
+  pub heard_is : HaveRoom splice takes → cut_of_excerpts splice hs ≡ cut_with splice takes
   heard_is room =
       let cues = length splice.cues in
       let cued : List (List (List Bool)) = each_below cues (λ i. each_below number (λ c. fades.cued splice i (source splice takes c i))) in
       let windows : List (List Bridging) = each_below (cues - 1) (λ i. each_below number (λ c. fades.bridging splice i (source splice takes c i) (source splice takes c (i + 1)))) in
-      let first = ap (λ (h : HeardContent). h.recording) first_is in
+      let first = ap (λ (h : ExcerptsContent). h.recording) first_is in
       let bits = ap (λ (n : ℕ). each_below cues (λ i. each_below n (λ c. slice_range (stretch_at splice hs c i) (start_in splice i) (stop_in splice i)))) number_is
       ∙ map_range_same cues _ _ (λ i lt. map_range_same number _ _ (λ c there. cued_is c i there lt)) in
       let joins = ap (λ (n : ℕ). each_below (cues - 1) (λ i. each_below n (λ c. bridging_at splice i (stretch_at splice hs c i) (stop_in splice i) (stretch_at splice hs c (i + 1)) (start_in splice (i + 1))))) number_is
@@ -227,8 +227,8 @@ module _ (splice : SpliceContent) (takes : List Content) (fine : IsSplicing spli
     part_long : (z : List Bool) (from to q : ℕ) → q ≤ to → q ≤ length z → q - from ≤ length (slice_range z from to)
     part_long z from to q low high = omega (arith, length-take (to - from) (drop from z), length-drop from z)
 
-    stretch_long : (c i : ℕ) → c < number → i < length splice.cues → (q : ℕ) → q ≤ heard_to splice i → q ≤ length (source splice takes c i) → q - heard_from splice i ≤ length (stretch_at splice hs c i)
-    stretch_long c i there lt q low high = rw (stretch_is c i there lt) (part_long (source splice takes c i) (heard_from splice i) (heard_to splice i) q low high)
+    stretch_long : (c i : ℕ) → c < number → i < length splice.cues → (q : ℕ) → q ≤ excerpt_stop splice i → q ≤ length (source splice takes c i) → q - excerpt_start splice i ≤ length (stretch_at splice hs c i)
+    stretch_long c i there lt q low high = rw (stretch_is c i there lt) (part_long (source splice takes c i) (excerpt_start splice i) (excerpt_stop splice i) q low high)
 
     pub cue_heard : (c i : ℕ) → c < number → i < length splice.cues → (start_in splice i ≤ stop_in splice i) × (stop_in splice i ≤ length (stretch_at splice hs c i))
     cue_heard c i there lt =
@@ -252,16 +252,16 @@ module _ (splice : SpliceContent) (takes : List Content) (fine : IsSplicing spli
         }
 
 -- ---- the shapes of what was heard are those of the takes
-pub shapes_are : (splice : SpliceContent) (takes : List Content) (hs : List Heard) → AreHeard splice takes hs → heard_shapes hs ≡ map shape_of takes
+pub shapes_are : (splice : SpliceContent) (takes : List Content) (hs : List Excerpts) → AreExcerpts splice takes hs → excerpts_shapes hs ≡ map shape_of takes
 shapes_are splice takes hs are =
     let n = length takes in
-    let f : ℕ → HeardContent = λ number. heard_of splice number (take_at takes number) in
-    let one : (i : ℕ) → heard_shape (f i) ≡ shape_of (take_at takes i) = λ i. (let many = length-replicate {A = List Bool} (length (take_at takes i).channels) [] in λ j. record { rate = (take_at takes i).rate; channels = many j; count = count_of (take_at takes i).channels }) in
-    let long : length (map (λ i. heard_shape (f i)) (range_with_len 0 n)) ≡ length (map shape_of takes) = length-map-range_with_len (λ i. heard_shape (f i)) 0 n ∙ sym (length-map takes shape_of) in
-    sym (map-map heard_shape heard_content hs) ∙ ap (map heard_shape) are.heard ∙ map-map heard_shape f (range_with_len 0 n)
-    ∙ same_lists (map (λ i. heard_shape (f i)) (range_with_len 0 n)) (map shape_of takes) long (λ i d lt.
-    let there : i < n = omega (arith, length-map-range_with_len (λ i. heard_shape (f i)) 0 n, lt) in
-    below_at n (λ i. heard_shape (f i)) i d there ∙ one i ∙ sym (get_or-map shape_of takes i _ d there))
+    let f : ℕ → ExcerptsContent = λ number. excerpts_of splice number (take_at takes number) in
+    let one : (i : ℕ) → excerpts_shape (f i) ≡ shape_of (take_at takes i) = λ i. (let many = length-replicate {A = List Bool} (length (take_at takes i).channels) [] in λ j. record { rate = (take_at takes i).rate; channels = many j; count = count_of (take_at takes i).channels }) in
+    let long : length (map (λ i. excerpts_shape (f i)) (range_with_len 0 n)) ≡ length (map shape_of takes) = length-map-range_with_len (λ i. excerpts_shape (f i)) 0 n ∙ sym (length-map takes shape_of) in
+    sym (map-map excerpts_shape excerpts_content hs) ∙ ap (map excerpts_shape) are.excerpts ∙ map-map excerpts_shape f (range_with_len 0 n)
+    ∙ same_lists (map (λ i. excerpts_shape (f i)) (range_with_len 0 n)) (map shape_of takes) long (λ i d lt.
+    let there : i < n = omega (arith, length-map-range_with_len (λ i. excerpts_shape (f i)) 0 n, lt) in
+    below_at n (λ i. excerpts_shape (f i)) i d there ∙ one i ∙ sym (get_or-map shape_of takes i _ d there))
 
 -- ---- files one by one, to the first fault
 module _ (splice : SpliceContent) (files : List (List ℕ)) (file : List ℕ) where
@@ -269,17 +269,17 @@ module _ (splice : SpliceContent) (files : List (List ℕ)) (file : List ℕ) wh
   none_more e (inl memory) = inl memory
   none_more e (inr fails) = inr (failed_before files file e fails)
 
-  pub not_more : (hs : List Heard) (e : CutFault) → (takes : List Content) × (takes_before files (length files) ≡ Ok takes) × AreHeard splice takes hs → Fails Memory e (take_in (length files) file) → Fails Memory e (takes_before (files ++ file ∷ []) (length files + 1))
+  pub not_more : (hs : List Excerpts) (e : CutFault) → (takes : List Content) × (takes_before files (length files) ≡ Ok takes) × AreExcerpts splice takes hs → Fails Memory e (take_in (length files) file) → Fails Memory e (takes_before (files ++ file ∷ []) (length files + 1))
   not_more hs e before (inl memory) = inl memory
   not_more hs e before (inr fails) = inr (file_fails files file before.0 e before.1 fails)
 
-  pub one_more : (hs made : List Heard) (h : Heard) → made ≡ hs ++ h ∷ [] → (takes : List Content) × (takes_before files (length files) ≡ Ok takes) × AreHeard splice takes hs
-      → (r : Content) × (take_in (length files) file ≡ Ok r) × HasShape r × (heard_content h ≡ heard_of splice (length files) r)
-      → (takes : List Content) × (takes_before (files ++ file ∷ []) (length files + 1) ≡ Ok takes) × AreHeard splice takes made
+  pub one_more : (hs made : List Excerpts) (h : Excerpts) → made ≡ hs ++ h ∷ [] → (takes : List Content) × (takes_before files (length files) ≡ Ok takes) × AreExcerpts splice takes hs
+      → (r : Content) × (take_in (length files) file ≡ Ok r) × HasShape r × (excerpts_content h ≡ excerpts_of splice (length files) r)
+      → (takes : List Content) × (takes_before (files ++ file ∷ []) (length files + 1) ≡ Ok takes) × AreExcerpts splice takes made
   one_more hs made h pushed before next =
       (before.0 ++ next.0 ∷ [], file_more files file before.0 next.0 before.1 next.1, heard_more splice before.0 hs made next.0 h (length files) (takes_long files (length files) before.0 before.1) before.2 next.2 next.3 pushed)
 
-pub of_more : (splice : SpliceContent) (n : ℕ) (hs made : List Heard) (h : Heard) → made ≡ hs ++ h ∷ [] → (whole : List Content) × AreHeard splice whole hs × (length whole ≡ n) → (r : Content) × HasShape r × (heard_content h ≡ heard_of splice n r)
-    → (whole : List Content) × AreHeard splice whole made × (length whole ≡ n + 1)
+pub of_more : (splice : SpliceContent) (n : ℕ) (hs made : List Excerpts) (h : Excerpts) → made ≡ hs ++ h ∷ [] → (whole : List Content) × AreExcerpts splice whole hs × (length whole ≡ n) → (r : Content) × HasShape r × (excerpts_content h ≡ excerpts_of splice n r)
+    → (whole : List Content) × AreExcerpts splice whole made × (length whole ≡ n + 1)
 of_more splice n hs made h pushed before next =
     (before.0 ++ next.0 ∷ [], heard_more splice before.0 hs made next.0 h n before.2 before.1 next.1 next.2 pushed, omega (arith, length-append before.0 (next.0 ∷ []), before.2))

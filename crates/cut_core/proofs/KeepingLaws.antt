@@ -15,47 +15,47 @@ use Rattle.form_core.specs.Steps.{Fails}
 use Rattle.cut_core.specs.declared.fault.CutFault.{CutFault}
 use Rattle.cut_core.specs.declared.fault.CutFault.TheVariants.{Memory}
 use Rattle.cut_core.specs.declared.cut.Cut.TheInside.{Inside}
-use Rattle.cut_core.specs.declared.heard.Heard.{Heard}
+use Rattle.cut_core.specs.declared.excerpts.Excerpts.{Excerpts}
 use Rattle.cut_core.specs.Cuts.{channel_number, cue_bits, cut_with, each_below, no_bridging, window}
-use Rattle.cut_core.specs.Hearing.{AreHeard, HasStretch, HeardContent, heard_content, heard_cut, shape_of, start_in, stop_in, stretch_at}
+use Rattle.cut_core.specs.Excerpts.{AreExcerpts, HasStretch, ExcerptsContent, excerpts_content, cut_of_excerpts, shape_of, start_in, stop_in, stretch_at}
 use Rattle.cut_core.specs.Keeping.{CanCut}
 use Rattle.cut_core.specs.Opening.{cut_from, fitting}
 use Rattle.cut_core.specs.View.{KeepsCut, cut_content}
 use Rattle.cut_core.proofs.HearingLaws.{below_at, can_bridge, can_cut, cue_heard, has_stretch, heard_is, long_first, number}
 
 -- as many were heard as there are takes
-pub heard_long : (splice : SpliceContent) (takes : List Content) (hs : List Heard) → AreHeard splice takes hs → length hs ≡ length takes
+pub heard_long : (splice : SpliceContent) (takes : List Content) (hs : List Excerpts) → AreExcerpts splice takes hs → length hs ≡ length takes
 heard_long splice takes hs are =
-    sym (length-map hs heard_content) ∙ ap length are.heard ∙ length-map-range_with_len {X = HeardContent} _ 0 (length takes)
+    sym (length-map hs excerpts_content) ∙ ap length are.excerpts ∙ length-map-range_with_len {X = ExcerptsContent} _ 0 (length takes)
 
 module _ (x : Inside) (keeps : KeepsCut x) where
   abbrev splice : SpliceContent
   splice = splice_content x.splice
 
-  abbrev hs : List HeardContent
-  hs = map heard_content x.takes.items
+  abbrev hs : List ExcerptsContent
+  hs = map excerpts_content x.takes.items
 
   fine : IsSplicing splice.weights (length splice.takes) splice.cues
   fine = splicing x.splice
 
   pub as_many : length x.takes.items ≡ length splice.takes
-  as_many = heard_long splice keeps.takes x.takes.items keeps.heard ∙ keeps.fit.as_many
+  as_many = heard_long splice keeps.takes x.takes.items keeps.excerpts ∙ keeps.fit.as_many
 
   view : cut_content x ≡ cut_with splice keeps.takes
-  view = ap (heard_cut splice) keeps.heard.heard ∙ heard_is splice keeps.takes fine keeps.fit keeps.room
+  view = ap (cut_of_excerpts splice) keeps.excerpts.excerpts ∙ heard_is splice keeps.takes fine keeps.fit keeps.room
 
   number_is : channel_number (cut_content x) ≡ number splice keeps.takes fine keeps.fit
-  number_is = ap channel_number view ∙ long_first splice keeps.takes fine keeps.fit keeps.heard.shaped
+  number_is = ap channel_number view ∙ long_first splice keeps.takes fine keeps.fit keeps.excerpts.shaped
 
   pub can : FadesJoin → CanCut (cut_content x)
-  can law = subst CanCut (sym view) (can_cut splice keeps.takes fine keeps.fit keeps.heard.shaped law)
+  can law = subst CanCut (sym view) (can_cut splice keeps.takes fine keeps.fit keeps.excerpts.shaped law)
 
   module _ (c : ℕ) (there : c < channel_number (cut_content x)) where
     pub stretch_there : (i : ℕ) → i < length splice.cues → HasStretch splice hs c i
-    stretch_there i lt = subst (λ (l : List HeardContent). HasStretch splice l c i) (sym keeps.heard.heard) (has_stretch splice keeps.takes fine keeps.fit c i (omega (arith, number_is, there)) lt)
+    stretch_there i lt = subst (λ (l : List ExcerptsContent). HasStretch splice l c i) (sym keeps.excerpts.excerpts) (has_stretch splice keeps.takes fine keeps.fit c i (omega (arith, number_is, there)) lt)
 
     pub cue_there : (i : ℕ) → i < length splice.cues → (start_in splice i ≤ stop_in splice i) × (stop_in splice i ≤ length (stretch_at splice hs c i))
-    cue_there i lt = subst (λ (l : List HeardContent). (start_in splice i ≤ stop_in splice i) × (stop_in splice i ≤ length (stretch_at splice l c i))) (sym keeps.heard.heard) (cue_heard splice keeps.takes fine keeps.fit keeps.heard.shaped c i (omega (arith, number_is, there)) lt)
+    cue_there i lt = subst (λ (l : List ExcerptsContent). (start_in splice i ≤ stop_in splice i) × (stop_in splice i ≤ length (stretch_at splice l c i))) (sym keeps.excerpts.excerpts) (cue_heard splice keeps.takes fine keeps.fit keeps.excerpts.shaped c i (omega (arith, number_is, there)) lt)
 
     pub bits_there : (i : ℕ) → i < length splice.cues → cue_bits (cut_content x) c i ≡ slice_range (stretch_at splice hs c i) (start_in splice i) (stop_in splice i)
     bits_there i lt =
@@ -71,8 +71,8 @@ module _ (x : Inside) (keeps : KeepsCut x) where
 
     pub bridge_there : (i : ℕ) → i + 1 < length splice.cues → 1 ≤ (cue_at splice i).bridge → CanBridge splice i (stretch_at splice hs c i) (stop_in splice i) (stretch_at splice hs c (i + 1)) (start_in splice (i + 1))
     bridge_there i lt some =
-        subst (λ (l : List HeardContent). CanBridge splice i (stretch_at splice l c i) (stop_in splice i) (stretch_at splice l c (i + 1)) (start_in splice (i + 1))) (sym keeps.heard.heard)
-        (can_bridge splice keeps.takes fine keeps.fit keeps.heard.shaped keeps.room c i (omega (arith, number_is, there)) lt some)
+        subst (λ (l : List ExcerptsContent). CanBridge splice i (stretch_at splice l c i) (stop_in splice i) (stretch_at splice l c (i + 1)) (start_in splice (i + 1))) (sym keeps.excerpts.excerpts)
+        (can_bridge splice keeps.takes fine keeps.fit keeps.excerpts.shaped keeps.room c i (omega (arith, number_is, there)) lt some)
 
 -- the same room of the same bits
 pub room_again : (splice : SpliceContent) (i : ℕ) (a x : List Bool) (stop p : ℕ) (b y : List Bool) (start q : ℕ) → a ≡ x → stop ≡ p → b ≡ y → start ≡ q → CanBridge splice i a stop b start → CanBridge splice i x p y q

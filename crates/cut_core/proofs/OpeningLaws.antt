@@ -23,7 +23,7 @@ use Rattle.cut_core.specs.declared.fault.CutFault.{CutFault}
 use Rattle.cut_core.specs.declared.fault.CutFault.TheVariants.{MasterTooLong, Memory, NotWholeBytes, TakeNumber}
 use Rattle.cost_core.specs.Windows.{cue_at}
 use Rattle.cut_core.specs.Cuts.{CutContent, FitTakes, IsAlike, IsInside, count_at, cut_with, master_length, take_at}
-use Rattle.cut_core.specs.Hearing.{TakeShape, shape_at, shape_of, shape_of_cue}
+use Rattle.cut_core.specs.Excerpts.{TakeShape, shape_at, shape_of, shape_of_cue}
 use Rattle.cut_core.specs.Laws.{OpensInOrder}
 use Rattle.cut_core.specs.Opening.{AreRead, IsWhole, OpensCut, alike_at, cut_from, cut_of, each_before, fault_of_take, fitting, inside_at, required, take_from, takes_before, takes_of, whole_in}
 use Rattle.cut_core.specs.Rooms.{HasRoomAt, HaveRoom, room_at, wanted}
@@ -84,7 +84,7 @@ module _ (splice : SpliceContent) (takes : List Content) (i : ℕ) where
 
   room_is : room_at splice (map shape_of takes) i ≡ Ok tt → HasRoomAt splice takes i
   room_is e = λ some.
-      let bridged : room_at splice (map shape_of takes) i ≡ wanted i (costs.first_fault splice i (count_at splice takes i)) = rw (ne_eqb (cue_at splice i).bridge 0 (λ none. omega (arith, none, some)), count_is) refl in
+      let bridged : room_at splice (map shape_of takes) i ≡ wanted i (costs.missing_room splice i (count_at splice takes i)) = rw (ne_eqb (cue_at splice i).bridge 0 (λ none. omega (arith, none, some)), count_is) refl in
       let room = neither _ _ _ _ (wants_none i _ (sym bridged ∙ e)) in
       record { before = ltb-false _ _ room.0; after = ltb-false _ _ room.1 }
 

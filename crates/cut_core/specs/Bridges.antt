@@ -11,9 +11,9 @@ pub record IsPlace (cut : CutContent) (p : BridgePlace) : Type 0 where
   pub bridged : 1 ≤ (cue_at cut p.cue).bridge
 
 -- the places of the bridge after cue i, by rising channel; a plain cut has none
-abbrev pub places_behind : CutContent → ℕ → List BridgePlace
-places_behind cut i = if (cue_at cut i).bridge == 0 then [] else map (λ c. record { cue = i; channel = c }) (range_with_len 0 (channel_number cut))
+abbrev pub places_after : CutContent → ℕ → List BridgePlace
+places_after cut i = if (cue_at cut i).bridge == 0 then [] else map (λ c. record { cue = i; channel = c }) (range_with_len 0 (channel_number cut))
 
 -- the places of all bridges, by rising cue and then by rising channel
 abbrev pub bridges : CutContent → List BridgePlace
-bridges cut = flat_map (places_behind cut) (range_with_len 0 (length cut.splice.cues - 1))
+bridges cut = flat_map (places_after cut) (range_with_len 0 (length cut.splice.cues - 1))

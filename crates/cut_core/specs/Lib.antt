@@ -1,6 +1,6 @@
 pub mod Bridges
 pub mod Cuts
-pub mod Hearing
+pub mod Excerpts
 pub mod Keeping
 pub mod Laws
 pub mod Opening

@@ -15,9 +15,9 @@ use Rattle.form_core.specs.declared.fault.ReadFault.TheVariants as reads
 use Rattle.form_core.specs.declared.form.Form.{Form}
 use Rattle.form_core.specs.declared.form.Form.TheVariants.{Dsdiff}
 use Rattle.cost_core.specs.Windows.{cue_at}
-use Rattle.cut_core.specs.declared.heard.Heard.{Heard}
+use Rattle.cut_core.specs.declared.excerpts.Excerpts.{Excerpts}
 use Rattle.cut_core.specs.Cuts.{CutContent, FitTakes, cut_with, master_length}
-use Rattle.cut_core.specs.Hearing.{AreHeard, TakeShape, heard_content, heard_of, shape_at, shape_of, shape_of_cue}
+use Rattle.cut_core.specs.Excerpts.{AreExcerpts, TakeShape, excerpts_content, excerpts_of, shape_at, shape_of, shape_of_cue}
 use Rattle.cut_core.specs.Rooms.{HaveRoom, room_at}
 use Rattle.cut_core.specs.declared.fault.CutFault.{CutFault}
 use Rattle.cut_core.specs.declared.fault.CutFault.TheVariants.{TakeNumber, TakeUnread, TakeMismatch, CueOutside, MasterTooLong, NotWholeBytes, Memory}
@@ -121,21 +121,21 @@ cut_of splice files form = do
   cut_from form splice takes
 
 -- a call read what the splice reads of the take that the steps return, unless memory ran out
-abbrev pub HearsTake : SpliceContent → ℕ → Result Heard CutFault → Result Content CutFault → Type 0
-HearsTake splice number (Ok h) steps = (r : Content) × (steps ≡ Ok r) × HasShape r × (heard_content h ≡ heard_of splice number r)
-HearsTake splice number (Err fault) steps = Fails Memory fault steps
+abbrev pub ReturnsExcerpts : SpliceContent → ℕ → Result Excerpts CutFault → Result Content CutFault → Type 0
+ReturnsExcerpts splice number (Ok h) steps = (r : Content) × (steps ≡ Ok r) × HasShape r × (excerpts_content h ≡ excerpts_of splice number r)
+ReturnsExcerpts splice number (Err fault) steps = Fails Memory fault steps
 
 -- what a call read, if anything, is what the splice reads of some recording, the take of a number
-abbrev pub IsOfTake : SpliceContent → ℕ → Result Heard CutFault → Type 0
-IsOfTake splice number (Ok h) = (r : Content) × HasShape r × (heard_content h ≡ heard_of splice number r)
+abbrev pub IsOfTake : SpliceContent → ℕ → Result Excerpts CutFault → Type 0
+IsOfTake splice number (Ok h) = (r : Content) × HasShape r × (excerpts_content h ≡ excerpts_of splice number r)
 IsOfTake splice number (Err fault) = ⊤
 
 -- what a call read, if anything, is what the splice reads of some recordings, the first n takes
-abbrev pub IsOfTakes : SpliceContent → ℕ → Result (Vec Heard Global) CutFault → Type 0
-IsOfTakes splice n (Ok hs) = (whole : List Content) × AreHeard splice whole hs.items × (length whole ≡ n)
+abbrev pub IsOfTakes : SpliceContent → ℕ → Result (Vec Excerpts Global) CutFault → Type 0
+IsOfTakes splice n (Ok hs) = (whole : List Content) × AreExcerpts splice whole hs.items × (length whole ≡ n)
 IsOfTakes splice n (Err fault) = ⊤
 
 -- a call read what the splice reads of the takes that the steps return, unless memory ran out
-abbrev pub HearsTakes : SpliceContent → Result (Vec Heard Global) CutFault → Result (List Content) CutFault → Type 0
-HearsTakes splice (Ok hs) steps = (takes : List Content) × (steps ≡ Ok takes) × AreHeard splice takes hs.items
-HearsTakes splice (Err fault) steps = Fails Memory fault steps
+abbrev pub ReturnsAllExcerpts : SpliceContent → Result (Vec Excerpts Global) CutFault → Result (List Content) CutFault → Type 0
+ReturnsAllExcerpts splice (Ok hs) steps = (takes : List Content) × (steps ≡ Ok takes) × AreExcerpts splice takes hs.items
+ReturnsAllExcerpts splice (Err fault) steps = Fails Memory fault steps

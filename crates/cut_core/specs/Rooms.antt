@@ -7,7 +7,7 @@ use Rattle.cost_core.specs.Windows.{cue_at}
 use Rattle.cost_core.specs.declared.fault.RoomFault.{RoomFault}
 use Rattle.cost_core.specs.declared.fault.RoomFault.TheVariants as rooms
 use Rattle.cut_core.specs.Cuts.{count_at}
-use Rattle.cut_core.specs.Hearing.{TakeShape, shape_of_cue}
+use Rattle.cut_core.specs.Excerpts.{TakeShape, shape_of_cue}
 use Rattle.cut_core.specs.declared.fault.CutFault.{CutFault}
 use Rattle.cut_core.specs.declared.fault.CutFault.TheVariants.{NoRoomBefore, NoRoomAfter}
 
@@ -27,4 +27,4 @@ HaveRoom splice takes = (i : ℕ) → i + 1 < length splice.cues → HasRoomAt s
 
 -- whether the bridge after cue i, if there is one, has room, or the first room that is missing
 abbrev pub room_at : SpliceContent → List TakeShape → ℕ → Result ⊤ CutFault
-room_at splice shapes i = if (cue_at splice i).bridge == 0 then Ok tt else wanted i (costs.first_fault splice i (shape_of_cue splice shapes i).count)
+room_at splice shapes i = if (cue_at splice i).bridge == 0 then Ok tt else wanted i (costs.missing_room splice i (shape_of_cue splice shapes i).count)

@@ -2,7 +2,7 @@
 
 ghost use Rattle.std.specs.Prelude.{◌≡◌, ◌+◌, ◌<◌, ◌≤◌, ◌++◌, All, IfOk, OnOk, length};
 ghost use Rattle.cut_core.specs.Bridges as specs;
-ghost use Rattle.cut_core.specs.Bridges.{IsPlace, places_behind};
+ghost use Rattle.cut_core.specs.Bridges.{IsPlace, places_after};
 
 use crate::cut::Cut;
 use std::alloc::{AllocError, Global};
@@ -33,7 +33,7 @@ pub(crate) fn bridge_places(alloc: Global, cut: &Cut) -> Result<Vec<BridgePlace>
 // Appends the places of the bridge after a cue.
 fn push_places(out: &mut Vec<BridgePlace>, cut: &Cut, cue: usize) -> Result<(), AllocError>
     requires { cue + 1 < length cut.now.splice.cues }
-    ensures appended { OnOk result (out.new.items ≡ out.old.items ++ places_behind cut.now cue) }
+    ensures appended { OnOk result (out.new.items ≡ out.old.items ++ places_after cut.now cue) }
     ensures each { All (IsPlace cut.now) out.old.items → OnOk result (All (IsPlace cut.now) out.new.items) }
     ensures few { OnOk result (length out.new.items ≤ length out.old.items + 6) }
 {

@@ -5,9 +5,9 @@ ghost use Rattle.splice_core.specs.Cues.{IsCueWithin, cue_content};
 ghost use Rattle.splice_core.specs.Splices.{splice_content};
 ghost use Rattle.cost_core.specs.Windows as fades;
 ghost use Rattle.cut_core.specs.Cuts.{span};
-ghost use Rattle.cut_core.specs.Hearing.{HasStretch, heard_at, heard_content, heard_shape, heard_shapes, shape_of_cue, stretch_at};
+ghost use Rattle.cut_core.specs.Excerpts.{HasStretch, excerpts_at, excerpts_content, excerpts_shape, excerpts_shapes, shape_of_cue, stretch_at};
 
-use crate::heard::Heard;
+use crate::excerpts::Excerpts;
 use dsd_bits::Bits;
 use splice_core::{Cue, Splice};
 
@@ -41,13 +41,13 @@ pub(crate) fn span_at(splice: &Splice, number: usize) -> usize
 }
 
 /// What was read of the take that a cue is cut from.
-pub(crate) fn take_of<'a>(splice: &Splice, takes: &'a [Heard], cue: usize) -> &'a Heard
+pub(crate) fn take_of<'a>(splice: &Splice, takes: &'a [Excerpts], cue: usize) -> &'a Excerpts
     requires cue { cue < length (splice_content splice.now).cues }
     requires takes { length takes.now ≡ length (splice_content splice.now).takes }
-    ensures heard { heard_content result.now
-        ≡ heard_at (map heard_content takes.now) (fades.cue_at (splice_content splice.now) cue).take }
-    ensures shape { heard_shape (heard_content result.now)
-        ≡ shape_of_cue (splice_content splice.now) (heard_shapes takes.now) cue }
+    ensures excerpts { excerpts_content result.now
+        ≡ excerpts_at (map excerpts_content takes.now) (fades.cue_at (splice_content splice.now) cue).take }
+    ensures shape { excerpts_shape (excerpts_content result.now)
+        ≡ shape_of_cue (splice_content splice.now) (excerpts_shapes takes.now) cue }
 {
     &takes[cue_at(splice, cue).take]
 }
@@ -55,14 +55,14 @@ pub(crate) fn take_of<'a>(splice: &Splice, takes: &'a [Heard], cue: usize) -> &'
 /// The bits that were read for a cue in a channel.
 pub(crate) fn stretch<'a>(
     splice: &Splice,
-    takes: &'a [Heard],
+    takes: &'a [Excerpts],
     channel: usize,
     cue: usize,
 ) -> &'a Bits
     requires cue { cue < length (splice_content splice.now).cues }
     requires takes { length takes.now ≡ length (splice_content splice.now).takes }
-    requires there { HasStretch (splice_content splice.now) (map heard_content takes.now) channel cue }
-    ensures { result.now ≡ stretch_at (splice_content splice.now) (map heard_content takes.now) channel cue }
+    requires there { HasStretch (splice_content splice.now) (map excerpts_content takes.now) channel cue }
+    ensures { result.now ≡ stretch_at (splice_content splice.now) (map excerpts_content takes.now) channel cue }
 {
     &take_of(splice, takes, cue).stretches[cue][channel]
 }

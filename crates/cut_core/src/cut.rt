@@ -10,16 +10,16 @@ ghost use Rattle.cut_core.specs.Bridges.{IsPlace};
 ghost use Rattle.cut_core.specs.Cuts as cuts;
 ghost use Rattle.cut_core.specs.Cuts.{cue_at, cue_bits, master_length, span};
 ghost use Rattle.cut_core.specs.Keeping.{CanCut};
-ghost use Rattle.cut_core.specs.Hearing.{AreHeard, AreOfTakes};
+ghost use Rattle.cut_core.specs.Excerpts.{AreExcerpts, AreOfTakes};
 ghost use Rattle.cut_core.specs.Opening.{OpensCut, cut_from, cut_of, file_bytes};
 ghost use Rattle.cut_core.specs.Titles.{titles_of};
 
 use crate::bridges::{BridgePlace, bridge_places};
 use crate::cues;
+use crate::excerpts::{Excerpts, excerpt_start};
 use crate::fault::CutFault;
 use crate::fitting::{self, fits};
-use crate::heard::{Heard, heard_from};
-use crate::takes::hear_takes;
+use crate::takes::excerpts_of_files;
 use crate::titles::title_marks;
 use cost_core::{Window, fades_join};
 use dsd_bits::{Bits, Mark, Recording};
@@ -34,7 +34,7 @@ use std::marker::Model;
 #[derive(Drop)]
 pub struct Cut {
     splice: Splice,
-    takes: Vec<Heard>,
+    takes: Vec<Excerpts>,
 }
 
 /// The bits of a cue in a channel, and where they are.
@@ -81,7 +81,7 @@ impl Cut {
         ensures exact { Gives CutFault.Memory (λ cut. cut) result
             (cut_of (splice_content splice) (file_bytes files.now) form) }
     {
-        let takes = hear_takes(alloc, &splice, files)?;
+        let takes = excerpts_of_files(alloc, &splice, files)?;
         Cut::of(splice, takes, form)
     }
 
@@ -89,10 +89,10 @@ impl Cut {
     ///
     /// Refusals: those of [`Cut::open`] from `TakeMismatch` on, in their order.
     #[tactic(auto, unfolding(crate::specs::Opening::cut_from))]
-    pub fn of(splice: Splice, takes: Vec<Heard>, form: Option<Form>) -> Result<Cut, CutFault>
+    pub fn of(splice: Splice, takes: Vec<Excerpts>, form: Option<Form>) -> Result<Cut, CutFault>
         requires { AreOfTakes (splice_content splice) takes.items }
         // Whichever takes it was read from, the result or refusal is that of reading them in order.
-        ensures exact { (whole : List Content) → AreHeard (splice_content splice) whole takes.items
+        ensures exact { (whole : List Content) → AreExcerpts (splice_content splice) whole takes.items
             → Gives CutFault.Memory (λ cut. cut) result (cut_from form (splice_content splice) whole) }
     {
         fits(&splice, &takes, form)?;
@@ -176,7 +176,7 @@ impl Cut {
         ensures inside { result.stop ≤ length result.bits.now }
         ensures long { result.stop - result.start ≡ (cue_at self.now cue).stop - (cue_at self.now cue).start }
     {
-        let from = heard_from(&self.splice, cue);
+        let from = excerpt_start(&self.splice, cue);
         let here = cues::cue_at(&self.splice, cue);
         let stretch = cues::stretch(&self.splice, &self.takes, channel, cue);
         CuedBits {
@@ -216,9 +216,10 @@ impl Cut {
     {
         let BridgePlace { cue, channel } = place;
         let own = cues::stretch(&self.splice, &self.takes, channel, cue);
-        let stop = cues::cue_at(&self.splice, cue).stop - heard_from(&self.splice, cue);
+        let stop = cues::cue_at(&self.splice, cue).stop - excerpt_start(&self.splice, cue);
         let next = cues::stretch(&self.splice, &self.takes, channel, cue + 1);
-        let start = cues::cue_at(&self.splice, cue + 1).start - heard_from(&self.splice, cue + 1);
+        let start = cues::cue_at(&self.splice, cue + 1).start
+            - excerpt_start(&self.splice, cue + 1);
         Window::between(alloc, &self.splice, cue, own, stop, next, start)
     }
 

@@ -4,14 +4,14 @@ ghost use Rattle.std.specs.Prelude.{◌≡◌, ◌+◌, ◌-◌, ◌<◌, length
 ghost use Rattle.splice_core.specs.Splices.{splice_content};
 ghost use Rattle.cut_core.specs.Cuts as cuts;
 ghost use Rattle.cut_core.specs.Cuts.{AreAlike};
-ghost use Rattle.cut_core.specs.Hearing.{heard_shapes};
+ghost use Rattle.cut_core.specs.Excerpts.{excerpts_shapes};
 ghost use Rattle.cut_core.specs.Opening as specs;
 ghost use Rattle.cut_core.specs.Opening.{each_before, fitting, whole_in};
 ghost use Rattle.cut_core.specs.Rooms.{room_at};
 
 use crate::cues::{cue_at, cue_number, span_at, take_of};
+use crate::excerpts::Excerpts;
 use crate::fault::CutFault;
-use crate::heard::Heard;
 use cost_core::{RoomFault, has_room};
 use dsd_bits::Recording;
 use form_core::Form;
@@ -24,9 +24,9 @@ use splice_core::Splice;
 /// `NotWholeBytes` if the form is DSDIFF and the master's channels would end inside a byte, then by rising cue
 /// `NoRoomBefore` and `NoRoomAfter`.
 #[tactic(auto, unfolding(crate::specs::Opening::fitting))]
-pub(crate) fn fits(splice: &Splice, takes: &[Heard], form: Option<Form>) -> Result<(), CutFault>
+pub(crate) fn fits(splice: &Splice, takes: &[Excerpts], form: Option<Form>) -> Result<(), CutFault>
     requires { length takes.now ≡ length (splice_content splice.now).takes }
-    ensures { result ≡ fitting form (splice_content splice.now) (heard_shapes takes.now) }
+    ensures { result ≡ fitting form (splice_content splice.now) (excerpts_shapes takes.now) }
 {
     are_alike(takes)?;
     are_inside(splice, takes)?;
@@ -40,8 +40,8 @@ pub(crate) fn fits(splice: &Splice, takes: &[Heard], form: Option<Form>) -> Resu
 }
 
 // Whether each take is like the first.
-fn are_alike(takes: &[Heard]) -> Result<(), CutFault>
-    ensures { result ≡ each_before (length (heard_shapes takes.now)) (specs.alike_at (heard_shapes takes.now)) }
+fn are_alike(takes: &[Excerpts]) -> Result<(), CutFault>
+    ensures { result ≡ each_before (length (excerpts_shapes takes.now)) (specs.alike_at (excerpts_shapes takes.now)) }
 {
     for i in 0..takes.len() {
         alike_at(takes, i)?;
@@ -50,9 +50,9 @@ fn are_alike(takes: &[Heard]) -> Result<(), CutFault>
 }
 
 // Whether take `i` is like the first.
-fn alike_at(takes: &[Heard], i: usize) -> Result<(), CutFault>
+fn alike_at(takes: &[Excerpts], i: usize) -> Result<(), CutFault>
     requires { i < length takes.now }
-    ensures { result ≡ specs.alike_at (heard_shapes takes.now) i }
+    ensures { result ≡ specs.alike_at (excerpts_shapes takes.now) i }
 {
     if differ(&takes[0].recording, &takes[i].recording) {
         return Err(CutFault::TakeMismatch(i));
@@ -69,10 +69,10 @@ pub fn differ(first: &Recording, take: &Recording) -> bool
 }
 
 // Whether each cue ends within its take.
-fn are_inside(splice: &Splice, takes: &[Heard]) -> Result<(), CutFault>
+fn are_inside(splice: &Splice, takes: &[Excerpts]) -> Result<(), CutFault>
     requires { length takes.now ≡ length (splice_content splice.now).takes }
     ensures { result ≡ each_before (length (splice_content splice.now).cues)
-        (specs.inside_at (splice_content splice.now) (heard_shapes takes.now)) }
+        (specs.inside_at (splice_content splice.now) (excerpts_shapes takes.now)) }
 {
     for i in 0..cue_number(splice) {
         inside_at(splice, takes, i)?;
@@ -81,10 +81,10 @@ fn are_inside(splice: &Splice, takes: &[Heard]) -> Result<(), CutFault>
 }
 
 // Whether cue `i` ends within its take.
-fn inside_at(splice: &Splice, takes: &[Heard], i: usize) -> Result<(), CutFault>
+fn inside_at(splice: &Splice, takes: &[Excerpts], i: usize) -> Result<(), CutFault>
     requires as_many { length takes.now ≡ length (splice_content splice.now).takes }
     requires there { i < length (splice_content splice.now).cues }
-    ensures { result ≡ specs.inside_at (splice_content splice.now) (heard_shapes takes.now) i }
+    ensures { result ≡ specs.inside_at (splice_content splice.now) (excerpts_shapes takes.now) i }
 {
     if take_of(splice, takes, i).count < cue_at(splice, i).stop {
         return Err(CutFault::CueOutside(i));
@@ -114,10 +114,10 @@ fn is_whole(splice: &Splice, form: Option<Form>) -> bool
 }
 
 // Whether each bridge has room in the takes.
-fn have_room(splice: &Splice, takes: &[Heard]) -> Result<(), CutFault>
+fn have_room(splice: &Splice, takes: &[Excerpts]) -> Result<(), CutFault>
     requires { length takes.now ≡ length (splice_content splice.now).takes }
     ensures { result ≡ each_before (length (splice_content splice.now).cues - 1)
-        (room_at (splice_content splice.now) (heard_shapes takes.now)) }
+        (room_at (splice_content splice.now) (excerpts_shapes takes.now)) }
 {
     for i in 0..cue_number(splice) - 1 {
         has_room_at(splice, takes, i)?;
@@ -126,10 +126,10 @@ fn have_room(splice: &Splice, takes: &[Heard]) -> Result<(), CutFault>
 }
 
 // Whether the bridge after cue `i`, if there is one, has room.
-fn has_room_at(splice: &Splice, takes: &[Heard], i: usize) -> Result<(), CutFault>
+fn has_room_at(splice: &Splice, takes: &[Excerpts], i: usize) -> Result<(), CutFault>
     requires as_many { length takes.now ≡ length (splice_content splice.now).takes }
     requires there { i + 1 < length (splice_content splice.now).cues }
-    ensures { result ≡ room_at (splice_content splice.now) (heard_shapes takes.now) i }
+    ensures { result ≡ room_at (splice_content splice.now) (excerpts_shapes takes.now) i }
 {
     if cue_at(splice, i).bridge == 0 {
         return Ok(());

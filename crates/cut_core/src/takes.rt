@@ -5,10 +5,10 @@ ghost use Rattle.dsd_bits.specs.Shape.{HasShape};
 ghost use Rattle.splice_core.specs.Splices.{SpliceContent, splice_content};
 ghost use Rattle.form_core.specs.Steps.{Gives};
 ghost use Rattle.cut_core.specs.Opening as specs;
-ghost use Rattle.cut_core.specs.Opening.{HearsTake, HearsTakes, IsOfTake, IsOfTakes, fault_of_take, file_bytes, take_from, take_in, takes_before};
+ghost use Rattle.cut_core.specs.Opening.{ReturnsExcerpts, ReturnsAllExcerpts, IsOfTake, IsOfTakes, fault_of_take, file_bytes, take_from, take_in, takes_before};
 
+use crate::excerpts::{Excerpts, take_excerpts};
 use crate::fault::CutFault;
-use crate::heard::{Heard, hear};
 use dsd_bits::Recording;
 use form_core::{Opened, ReadFault, has_shape, read_any};
 use splice_core::Splice;
@@ -19,8 +19,12 @@ use std::alloc::Global;
 /// Refusals, in this order: `TakeNumber` if there are not as many files as takes, `TakeUnread` for the first file that
 /// can't be read. Whenever memory runs out it is `Memory`.
 #[tactic(auto, unfolding(crate::specs::Opening::takes_of))]
-pub fn hear_takes(alloc: Global, splice: &Splice, files: &[Vec<u8>]) -> Result<Vec<Heard>, CutFault>
-    ensures { HearsTakes (splice_content splice.now) result
+pub fn excerpts_of_files(
+    alloc: Global,
+    splice: &Splice,
+    files: &[Vec<u8>],
+) -> Result<Vec<Excerpts>, CutFault>
+    ensures { ReturnsAllExcerpts (splice_content splice.now) result
         (specs.takes_of (splice_content splice.now) (file_bytes files.now)) }
 {
     if files.len() != splice.takes.len() {
@@ -31,54 +35,54 @@ pub fn hear_takes(alloc: Global, splice: &Splice, files: &[Vec<u8>]) -> Result<V
 
 // What a splice reads of the recordings of files.
 #[tactic(auto, using(crate::proofs::Steps::takes_stop))]
-fn read_takes(alloc: Global, splice: &Splice, files: &[Vec<u8>]) -> Result<Vec<Heard>, CutFault>
-    ensures { HearsTakes (splice_content splice.now) result (takes_before (file_bytes files.now) (length files.now)) }
+fn read_takes(alloc: Global, splice: &Splice, files: &[Vec<u8>]) -> Result<Vec<Excerpts>, CutFault>
+    ensures { ReturnsAllExcerpts (splice_content splice.now) result (takes_before (file_bytes files.now) (length files.now)) }
 {
     let mut takes = Vec::with_capacity(alloc, files.len())?;
     for number in 0..files.len() {
-        takes.push_reserved(hear_take(alloc, splice, files, number)?);
+        takes.push_reserved(excerpts_of_take(alloc, splice, files, number)?);
     }
     Ok(takes)
 }
 
 // What a splice reads of the file of a number.
-fn hear_take(
+fn excerpts_of_take(
     alloc: Global,
     splice: &Splice,
     files: &[Vec<u8>],
     number: usize,
-) -> Result<Heard, CutFault>
+) -> Result<Excerpts, CutFault>
     requires { number < length files.now }
-    ensures { HearsTake (splice_content splice.now) number result (take_from (file_bytes files.now) number) }
+    ensures { ReturnsExcerpts (splice_content splice.now) number result (take_from (file_bytes files.now) number) }
 {
-    hear_file(alloc, splice, number, &files[number])
+    excerpts_of_file(alloc, splice, number, &files[number])
 }
 
 /// What a splice reads of a file, the take of a number.
 ///
 /// Refusals: `TakeUnread` if the file can't be read; `Memory`.
-pub fn hear_file(
+pub fn excerpts_of_file(
     alloc: Global,
     splice: &Splice,
     number: usize,
     file: &[u8],
-) -> Result<Heard, CutFault>
-    ensures heard { HearsTake (splice_content splice.now) number result (take_in number file.now) }
+) -> Result<Excerpts, CutFault>
+    ensures excerpts { ReturnsExcerpts (splice_content splice.now) number result (take_in number file.now) }
     ensures of { IsOfTake (splice_content splice.now) number result }
 {
     let recording = read_take(alloc, number, file)?;
-    Ok(hear(alloc, splice, number, recording)?)
+    Ok(take_excerpts(alloc, splice, number, recording)?)
 }
 
 /// What was read of some takes, and of the next one after them: the first fault is kept.
-pub fn push_heard(
-    takes: Result<Vec<Heard>, CutFault>,
-    next: Result<Heard, CutFault>,
-) -> Result<Vec<Heard>, CutFault>
-    ensures heard { (splice : SpliceContent) (files : List (List ℕ)) (file : List ℕ)
-        → HearsTakes splice takes (takes_before files (length files))
-        → HearsTake splice (length files) next (take_in (length files) file)
-        → HearsTakes splice result (takes_before (files ++ file ∷ []) (length files + 1)) }
+pub fn push_excerpts(
+    takes: Result<Vec<Excerpts>, CutFault>,
+    next: Result<Excerpts, CutFault>,
+) -> Result<Vec<Excerpts>, CutFault>
+    ensures excerpts { (splice : SpliceContent) (files : List (List ℕ)) (file : List ℕ)
+        → ReturnsAllExcerpts splice takes (takes_before files (length files))
+        → ReturnsExcerpts splice (length files) next (take_in (length files) file)
+        → ReturnsAllExcerpts splice result (takes_before (files ++ file ∷ []) (length files + 1)) }
     ensures of { (splice : SpliceContent) (n : ℕ) → IsOfTakes splice n takes → IsOfTake splice n next
         → IsOfTakes splice (n + 1) result }
 {

@@ -1,6 +1,6 @@
 //! The folder of the operating system.
 
-ghost use Rattle.folder_core.specs.Files.{untold};
+ghost use Rattle.folder_core.specs.Files.{unknown_view};
 
 use crate::disk_file::DiskFile;
 use crate::disk_input::DiskInput;
@@ -168,7 +168,7 @@ where
 
     type Out = DiskFile<R::File, Printer<'a, R>>;
 
-    ghost view = { λ f. untold };
+    ghost view = { λ f. unknown_view };
 
     fn open(&mut self, name: &str) -> Result<DiskInput<R::File, R::Reader>, FolderFault> {
         match self.open_source(name) {

@@ -3,7 +3,7 @@
 ghost use Rattle.std.specs.Io.{WritesAtMost};
 
 use crate::direct::Direct;
-use crate::places::Target;
+use crate::places::TargetPath;
 use std::fs::OpenFile;
 use std::io::{Error, ErrorKind, Write};
 use std::rt::Files;
@@ -32,7 +32,7 @@ enum Destination<F, O> {
 #[derive(Drop)]
 struct Beside {
     leftover: String,
-    target: Target,
+    target: TargetPath,
 }
 
 // A file that is written directly. What it held is removed at the first write, or when it is kept.
@@ -50,7 +50,7 @@ impl<F, O> DiskFile<F, O> {
     }
 
     // A file that is written under another name, and then gets its own.
-    pub(crate) fn beside(file: F, leftover: String, target: Target) -> Self {
+    pub(crate) fn beside(file: F, leftover: String, target: TargetPath) -> Self {
         Self::to(Destination::Beside(file, Beside { leftover, target }))
     }
 

@@ -54,7 +54,7 @@ impl Place {
     {
         match self {
             Place::Path(path, leftover) => {
-                create_at(rt, Target::at(rt, path)?, leftover, process, opened)
+                create_at(rt, TargetPath::at(rt, path)?, leftover, process, opened)
             }
             Place::AsItStands => as_it_stands(rt, name, opened),
         }
@@ -94,7 +94,7 @@ fn refused() -> Error {
 
 fn create_at<'a, R: Files + Print>(
     rt: &'a R,
-    target: Target,
+    target: TargetPath,
     mut leftover: String,
     process: u32,
     opened: &Opened,
@@ -134,19 +134,19 @@ fn as_it_stands<'a, R: Files + Print>(
 
 // Where a file will go, and what is known of the one that is there.
 #[derive(Drop)]
-pub(crate) struct Target {
+pub(crate) struct TargetPath {
     path: PathBuf,
     old: Option<Metadata>,
 }
 
-impl Target {
-    fn at<R: Files>(rt: &R, path: PathBuf) -> io::Result<Target> {
+impl TargetPath {
+    fn at<R: Files>(rt: &R, path: PathBuf) -> io::Result<TargetPath> {
         match fs::symlink_metadata(rt, path.as_str()) {
-            Ok(found) => Ok(Target {
+            Ok(found) => Ok(TargetPath {
                 path,
                 old: Some(found),
             }),
-            Err(error) if error.kind() == ErrorKind::NotFound => Ok(Target { path, old: None }),
+            Err(error) if error.kind() == ErrorKind::NotFound => Ok(TargetPath { path, old: None }),
             Err(error) => Err(error),
         }
     }

@@ -12,7 +12,7 @@ use Rattle.std.specs.List.{range_with_len}
 use Rattle.std.specs.Int.{bit_at}
 use Rattle.dsd_bits.specs.Channels.{IsLevel, count_of}
 use Rattle.dsd_bits.specs.Packing.{unpacked, packed_byte, packed}
-use Rattle.dsd_bits.specs.Lacing.{AreLaced, laced_bit, picked, unlaced, unlaced_all, frames_of, laced_byte, laced_part, laced}
+use Rattle.dsd_bits.specs.Lacing.{AreLaced, laced_bit, picked, unlaced, unlaced_all, frame_number, laced_byte, laced_part, laced}
 use Rattle.dsd_bits.proofs.RoundTrip.{bit_of_byte}
 use Rattle.dsd_bits.proofs.ShiftingLemmas.{written_back}
 
@@ -89,22 +89,22 @@ channels_apart a b n c d hc hd apart = λ e. apart (sym (mod-mul-add a n d hd) �
 
 -- ---- channels of whole bytes
 module _ (channels : List (List Bool)) (level : IsLevel channels) (whole : count_of channels % 8 ≡ 0) (some : 1 ≤ length channels) where
-  pub channel_length : (c : ℕ) → c < length channels → length (get_or channels c []) ≡ 8 * frames_of channels
+  pub channel_length : (c : ℕ) → c < length channels → length (get_or channels c []) ≡ 8 * frame_number channels
   channel_length c in_list = omega (arith, level.same c [] in_list)
 
   -- the byte of a channel at a frame
-  pub byte_is_laced : (frame c : ℕ) → frame < frames_of channels → c < length channels → slice_index (packed (get_or channels c [])) frame ≡ laced_byte channels (frame * length channels + c)
+  pub byte_is_laced : (frame c : ℕ) → frame < frame_number channels → c < length channels → slice_index (packed (get_or channels c [])) frame ≡ laced_byte channels (frame * length channels + c)
   byte_is_laced frame c below in_list =
       let n = length channels in
       let size = channel_length c in_list in
       let read = get_or-map-range_with_len (packed_byte (get_or channels c [])) 0 _ frame frame 0 (omega arith) (omega arith) in
       read ∙ sym (ap (λ p. packed_byte (get_or channels p []) ((frame * n + c) / n)) (mod-mul-add frame n c in_list) ∙ ap (packed_byte (get_or channels c [])) (div-mul-add frame n c in_list))
 
-  length-laced : length (laced channels) ≡ frames_of channels * length channels
+  length-laced : length (laced channels) ≡ frame_number channels * length channels
   length-laced = length-map-range_with_len (laced_byte channels) 0 _
 
   -- bytes of which each is a channel's
-  pub laced_part_is : (to : List ℕ) (from frames : ℕ) → from + frames ≤ frames_of channels → length to ≡ frames * length channels
+  pub laced_part_is : (to : List ℕ) (from frames : ℕ) → from + frames ≤ frame_number channels → length to ≡ frames * length channels
       → ((frame c : ℕ) → frame < frames → c < length channels → slice_index to (frame * length channels + c) ≡ slice_index (packed (get_or channels c [])) (from + frame))
       → to ≡ laced_part channels from frames
   laced_part_is to from frames inside size at =
@@ -116,11 +116,11 @@ module _ (channels : List (List Bool)) (level : IsLevel channels) (whole : count
       let c : j % n < n = mod_below j n some in
       let place : j / n * n + j % n ≡ j = div-add-mod' j n in
       let moved : (from + j / n) * n + j % n ≡ from * n + j = omega (arith, add-mul from (j / n) n, place) in
-      let inner : from + j / n < frames_of channels = omega (arith, inside, frame) in
+      let inner : from + j / n < frame_number channels = omega (arith, inside, frame) in
       ap (slice_index to) (sym place) ∙ at (j / n) (j % n) frame c ∙ byte_is_laced (from + j / n) (j % n) inner c ∙ ap (laced_byte channels) moved
       ∙ sym (get_or-map-range_with_len (laced_byte channels) (from * n) (frames * n) j (from * n + j) 0 below refl))
 
-  pub laced_two_are : (to : List ℕ) (from frames : ℕ) → length channels ≡ 2 → from + frames ≤ frames_of channels → length to ≡ frames * length channels
+  pub laced_two_are : (to : List ℕ) (from frames : ℕ) → length channels ≡ 2 → from + frames ≤ frame_number channels → length to ≡ frames * length channels
       → ((frame : ℕ) → frame < frames → slice_index to (2 * frame) ≡ slice_index (packed (get_or channels 0 [])) (from + frame))
       → ((frame : ℕ) → frame < frames → slice_index to (2 * frame + 1) ≡ slice_index (packed (get_or channels 1 [])) (from + frame))
       → to ≡ laced_part channels from frames
@@ -137,24 +137,24 @@ module _ (channels : List (List Bool)) (level : IsLevel channels) (whole : count
             ap (slice_index to) (row ∙ place) ∙ at-right frame below ∙ ap (λ m. slice_index (packed (get_or channels m [])) (from + frame)) (sym e)
       ])
 
-  frames_again : length (laced channels) / length channels ≡ frames_of channels
-  frames_again = rw (length-laced, ← add-zero (frames_of channels * length channels)) (div-mul-add (frames_of channels) (length channels) 0 some)
+  frames_again : length (laced channels) / length channels ≡ frame_number channels
+  frames_again = rw (length-laced, ← add-zero (frame_number channels * length channels)) (div-mul-add (frame_number channels) (length channels) 0 some)
 
   -- a bit of channel c
-  bit_again : (c i : ℕ) → c < length channels → i < 8 * frames_of channels → laced_bit (laced channels) (length channels) c i ≡ get_or (get_or channels c []) i false
+  bit_again : (c i : ℕ) → c < length channels → i < 8 * frame_number channels → laced_bit (laced channels) (length channels) c i ≡ get_or (get_or channels c []) i false
   bit_again c i in_list below =
       let n = length channels in
-      let frame : i / 8 < frames_of channels = omega arith in
-      let place : i / 8 * n + c < frames_of channels * n = omega (arith, mul-add-lt (i / 8) n c (frames_of channels) frame in_list, mul_comm n (frames_of channels)) in
-      let read = get_or-map-range_with_len (laced_byte channels) 0 (frames_of channels * n) (i / 8 * n + c) (i / 8 * n + c) 0 place (omega arith) in
+      let frame : i / 8 < frame_number channels = omega arith in
+      let place : i / 8 * n + c < frame_number channels * n = omega (arith, mul-add-lt (i / 8) n c (frame_number channels) frame in_list, mul_comm n (frame_number channels)) in
+      let read = get_or-map-range_with_len (laced_byte channels) 0 (frame_number channels * n) (i / 8 * n + c) (i / 8 * n + c) 0 place (omega arith) in
       ap (λ b. eqb (bit_at b (7 - i % 8)) 1) (read ∙ ap (λ p. packed_byte (get_or channels p []) ((i / 8 * n + c) / n)) (mod-mul-add (i / 8) n c in_list) ∙ ap (packed_byte (get_or channels c [])) (div-mul-add (i / 8) n c in_list)) ∙ bit_of_byte (get_or channels c []) i
 
   -- each bit stands at its place
   pub are_laced : AreLaced channels (laced channels)
   are_laced = record {
     size =
-        let e : 8 * frames_of channels ≡ count_of channels = omega arith in
-        ap (λ m. 8 * m) length-laced ∙ sym (mul_assoc 8 (frames_of channels) (length channels)) ∙ ap (λ m. m * length channels) e;
+        let e : 8 * frame_number channels ≡ count_of channels = omega arith in
+        ap (λ m. 8 * m) length-laced ∙ sym (mul_assoc 8 (frame_number channels) (length channels)) ∙ ap (λ m. m * length channels) e;
     at = λ c i in_list below. bit_again c i in_list (omega arith);
   }
 
@@ -162,7 +162,7 @@ module _ (channels : List (List Bool)) (level : IsLevel channels) (whole : count
   channel_again c in_list =
       let size = length-map-range_with_len (laced_bit (laced channels) (length channels) c) 0 (8 * (length (laced channels) / length channels)) ∙ ap (λ m. 8 * m) frames_again in
       ext_get_or false _ _ (size ∙ sym (channel_length c in_list)) (λ i h.
-      let below : i < 8 * frames_of channels = omega arith in
+      let below : i < 8 * frame_number channels = omega arith in
       let room : i < 8 * (length (laced channels) / length channels) = omega (arith, frames_again) in
       get_or-map-range_with_len (laced_bit (laced channels) (length channels) c) 0 _ i i false room (omega arith) ∙ bit_again c i in_list below)
 

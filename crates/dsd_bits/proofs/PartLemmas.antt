@@ -6,7 +6,7 @@ use Rattle.std.proofs.Math.Nat.{add-mul}
 use Rattle.std.specs.Int.{div_ceil}
 use Rattle.std.specs.List.{range_with_len}
 use Rattle.dsd_bits.specs.Channels.{count_of}
-use Rattle.dsd_bits.specs.Lacing.{frames_of, laced, laced_byte, laced_part, picked}
+use Rattle.dsd_bits.specs.Lacing.{frame_number, laced, laced_byte, laced_part, picked}
 use Rattle.dsd_bits.specs.Packing.{packed, packed_byte}
 use Rattle.dsd_bits.proofs.BlockLemmas.{map_range_join}
 use Rattle.dsd_bits.proofs.LacingLemmas.{map_range_same}
@@ -25,7 +25,7 @@ laced_whole channels first bytes m are is whole all =
     let f : ℕ → ℕ = laced_byte channels in
     let n = length channels in
     let z : 0 * n ≡ 0 = omega arith in
-    let size : m ≡ frames_of channels = all ∙ ap length are ∙ length-map-range_with_len (packed_byte first) 0 (div_ceil (length first) 8) ∙ omega (arith, ap length is, whole) in
+    let size : m ≡ frame_number channels = all ∙ ap length are ∙ length-map-range_with_len (packed_byte first) 0 (div_ceil (length first) 8) ∙ omega (arith, ap length is, whole) in
     ap (λ a. map f (range_with_len a (m * n))) z ∙ ap (λ k. map f (range_with_len 0 (k * n))) size
 
 -- one channel laced is its bytes

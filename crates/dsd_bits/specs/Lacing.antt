@@ -26,8 +26,8 @@ abbrev pub laced_byte : List (List Bool) → ℕ → ℕ
 laced_byte channels place = packed_byte (slice_index_or channels (place % length channels) []) (place / length channels)
 
 -- the number of bytes of each channel
-abbrev pub frames_of : List (List Bool) → ℕ
-frames_of channels = count_of channels / 8
+abbrev pub frame_number : List (List Bool) → ℕ
+frame_number channels = count_of channels / 8
 
 -- the sound bytes of the channels in n frames from one on
 abbrev pub laced_part : List (List Bool) → ℕ → ℕ → List ℕ
@@ -35,7 +35,7 @@ laced_part channels from frames = map (laced_byte channels) (range_with_len (fro
 
 -- the sound bytes of the channels
 abbrev pub laced : List (List Bool) → List ℕ
-laced channels = map (laced_byte channels) (range_with_len 0 (frames_of channels * length channels))
+laced channels = map (laced_byte channels) (range_with_len 0 (frame_number channels * length channels))
 
 -- each bit of each channel is at its place, and there is nothing else
 pub record AreLaced (channels : List (List Bool)) (bytes : List ℕ) : Type 0 where

@@ -2,7 +2,7 @@
 
 ghost use Rattle.std.specs.Prelude.{◌≡◌, ◌≢◌, ℕ, ◌+◌, ◌*◌, ◌/◌, ◌%◌, ◌<◌, ◌≤◌, ◌++◌, ◌↔◌, IfOk, IsOk, OnOk, if◌then◌else◌, is_ok, length, slice_index, vec_capacity, vec_len};
 ghost use Rattle.dsd_bits.specs.Channels.{IsLevel, count_of};
-ghost use Rattle.dsd_bits.specs.Lacing.{AreLaced, LacedReadAgain, frames_of, laced, laced_part, picked, unlaced, unlaced_all};
+ghost use Rattle.dsd_bits.specs.Lacing.{AreLaced, LacedReadAgain, frame_number, laced, laced_part, picked, unlaced, unlaced_all};
 ghost use Rattle.dsd_bits.specs.Limits.{most_bits};
 ghost use Rattle.dsd_bits.specs.Packing.{packed};
 
@@ -193,7 +193,7 @@ fn push_frames(
     requires channel_number { (2 ≤ length channels.now) × (length channels.now ≤ 6) }
     requires level { IsLevel channels.now }
     requires whole_bytes { count_of channels.now % 8 ≡ 0 }
-    requires inside { from + frames ≤ frames_of channels.now }
+    requires inside { from + frames ≤ frame_number channels.now }
     requires few { frames ≤ 4096 }
     ensures ok { OnOk result (out.new.items ≡ out.old.items ++ laced_part channels.now from frames) }
     ensures capacity { vec_capacity out.old ≤ vec_capacity out.new }
@@ -211,7 +211,7 @@ fn lace_into(to: &mut [u8], channels: &[Bits], from: usize, frames: usize)
     requires channel_number { 2 ≤ length channels.now }
     requires level { IsLevel channels.now }
     requires whole_bytes { count_of channels.now % 8 ≡ 0 }
-    requires inside { from + frames ≤ frames_of channels.now }
+    requires inside { from + frames ≤ frame_number channels.now }
     requires size { length to.old ≡ frames * length channels.now }
     ensures { to.new ≡ laced_part channels.now from frames }
 {

@@ -4,7 +4,7 @@ ghost use Rattle.std.specs.Prelude.{◌≡◌, ◌+◌, ◌*◌, ◌%◌, ◌≤
 ghost use Rattle.std.specs.List.{range_with_len};
 ghost use Rattle.dsd_bits.specs.Blocks.{blocked, blocks_size, ordered};
 ghost use Rattle.dsd_bits.specs.Channels.{IsLevel, count_of};
-ghost use Rattle.dsd_bits.specs.Lacing.{frames_of, laced};
+ghost use Rattle.dsd_bits.specs.Lacing.{frame_number, laced};
 ghost use Rattle.dsd_bits.specs.Limits.{block_bytes};
 ghost use Rattle.dsd_bits.specs.Rooms.{rooms_bits};
 
@@ -20,7 +20,7 @@ pub fn push_laced_rooms(out: &mut Vec<u8>, rooms: &[BitRoom])
     requires channel_number { (1 ≤ length rooms.now) × (length rooms.now ≤ 6) }
     requires level { IsLevel (rooms_bits rooms.now) }
     requires whole_bytes { count_of (rooms_bits rooms.now) % 8 ≡ 0 }
-    requires held { vec_len out.old + frames_of (rooms_bits rooms.now) * length rooms.now ≤ vec_capacity out.old }
+    requires held { vec_len out.old + frame_number (rooms_bits rooms.now) * length rooms.now ≤ vec_capacity out.old }
     ensures text { out.new.items ≡ out.old.items ++ laced (rooms_bits rooms.now) }
     ensures capacity { vec_capacity out.old ≤ vec_capacity out.new }
 {
@@ -39,7 +39,7 @@ fn lace_rooms(to: &mut [u8], rooms: &[BitRoom])
     requires channel_number { 1 ≤ length rooms.now }
     requires level { IsLevel (rooms_bits rooms.now) }
     requires whole_bytes { count_of (rooms_bits rooms.now) % 8 ≡ 0 }
-    requires size { length to.old ≡ frames_of (rooms_bits rooms.now) * length rooms.now }
+    requires size { length to.old ≡ frame_number (rooms_bits rooms.now) * length rooms.now }
     ensures { to.new ≡ laced (rooms_bits rooms.now) }
 {
     if rooms.len() == 2 {

@@ -2,14 +2,14 @@
 
 ghost use Rattle.std.specs.Prelude.{◌++◌, List, ℕ, IfOk};
 ghost use Rattle.dsd_bits.specs.Sounds.{IfFound, IfMore, IfRefused};
-ghost use Rattle.sound_core.specs.Files.{IsRefused, TellsSound};
+ghost use Rattle.sound_core.specs.Files.{IsRefused, StatesSound};
 
 use dsd_bits::SoundAt;
 use std::alloc::{AllocError, Global};
 
 /// What the front of a file tells of its sound.
 pub(crate) fn told_by(alloc: Global, front: &[u8]) -> Result<SoundAt, AllocError>
-    ensures found { IfOk result (λ x. IfFound x (TellsSound front.now)) }
+    ensures found { IfOk result (λ x. IfFound x (StatesSound front.now)) }
     ensures refused { IfOk result (λ x. IfRefused x ((rest : List ℕ) → IsRefused (front.now ++ rest))) }
     ensures more { IfOk result (λ x. IfMore x (IsRefused front.now)) }
 {

@@ -278,7 +278,7 @@ pub(crate) fn seek(alloc: Global, p: &mut Pushing, frame: u64) -> Result<u64, Pl
     requires { Keeps p.old }
     ensures keeps { Keeps p.new }
 {
-    let sound = sound_behind(p)?;
+    let sound = sound_with_head(p)?;
     if frame > sound.count.div_ceil(p.taps.factor() as usize) as u64 {
         return Err(PlayFault::BehindEnd);
     }
@@ -286,7 +286,7 @@ pub(crate) fn seek(alloc: Global, p: &mut Pushing, frame: u64) -> Result<u64, Pl
 }
 
 // The sound that stands behind the front of a file.
-fn sound_behind(p: &Pushing) -> Result<Sound, PlayFault>
+fn sound_with_head(p: &Pushing) -> Result<Sound, PlayFault>
     requires { Keeps p.now }
     ensures { IfOk result (IsFront p.now.front.items) }
 {

@@ -13,9 +13,9 @@ use Rattle.dsd_bits.specs.declared.marks.Place.TheVariants.{Form}
 use Rattle.dsd_bits.specs.Ids.{FVER, PROP, FS, CHNL, CMPR, DSD, DIIN}
 use Rattle.dsdiff_core.specs.declared.fault.DsdiffFault.{DsdiffFault}
 use Rattle.dsdiff_core.specs.declared.fault.DsdiffFault.TheVariants as faults
-use Rattle.dsdiff_core.specs.Forms.{version_of}
+use Rattle.dsdiff_core.specs.Forms.{known_version}
 use Rattle.dsdiff_core.specs.Kinds.{has_id, is_property}
-use Rattle.dsdiff_core.specs.Masters.{has_no_cut_mark, master_of, masters_of}
+use Rattle.dsdiff_core.specs.Masters.{has_no_cut_mark, chunks_of_master, masters_of}
 use Rattle.dsdiff_core.specs.Others.{kept, other_in}
 use Rattle.dsdiff_core.specs.Properties.{Told, fields_of, property_of}
 use Rattle.dsdiff_core.specs.Sounds.{sound_leads}
@@ -68,12 +68,12 @@ module _ (F G : List ℕ) where
   find_alike (s ∷ ss) a = rw (property_alike s a.0, find_alike ss a.1) refl
 
   -- ---- the version, and kinds that stand once
-  no_version : (H : List ℕ) (s : Span) (cs : List Chunk) → span_has DSD s ≡ true → version_of (span_chunk H s ∷ cs) ≡ Err faults.NoVersion
+  no_version : (H : List ℕ) (s : Span) (cs : List Chunk) → span_has DSD s ≡ true → known_version (span_chunk H s ∷ cs) ≡ Err faults.NoVersion
   no_version H s cs y = rw (not_both DSD FVER (span_chunk H s) refl y) refl
 
-  pub version_alike : (ss : List Span) → Alike ss → version_of (map (span_chunk F) ss) ≡ version_of (map (span_chunk G) ss)
+  pub version_alike : (ss : List Span) → Alike ss → known_version (map (span_chunk F) ss) ≡ known_version (map (span_chunk G) ss)
   version_alike [] a = refl
-  version_alike (s ∷ ss) (inl e, a) = ap (λ (c : Chunk). version_of (c ∷ map (span_chunk F) ss)) e
+  version_alike (s ∷ ss) (inl e, a) = ap (λ (c : Chunk). known_version (c ∷ map (span_chunk F) ss)) e
   version_alike (s ∷ ss) (inr y, a) = no_version F s (map (span_chunk F) ss) y ∙ sym (no_version G s (map (span_chunk G) ss) y)
 
   pub once_alike : (before ss : List Span) → Alike before → Alike ss → once_each (top_kinds F) before ss ≡ once_each (top_kinds G) before ss
@@ -122,8 +122,8 @@ module _ (F G : List ℕ) where
   master_range : (s : Span) → span_chunk F s ≡ span_chunk G s → slice_range F s.start (s.start + s.size) ≡ slice_range G s.start (s.start + s.size)
   master_range s e = whole_range F s ∙ ap (λ (c : Chunk). c.content) e ∙ sym (whole_range G s)
 
-  master_same : (s : Span) → span_chunk F s ≡ span_chunk G s → master_of F s ≡ master_of G s
-  unfolding master_of
+  master_same : (s : Span) → span_chunk F s ≡ span_chunk G s → chunks_of_master F s ≡ chunks_of_master G s
+  unfolding chunks_of_master
   master_same s e =
       bind_same (walked (spans_in F s.start (s.start + s.size))) (walked (spans_in G s.start (s.start + s.size))) _ _ (ap walked (spans_same F G s.start (s.start + s.size) (master_range s e))) (λ inner found.
       ap (λ (cs : List Chunk). cond (has_no_cut_mark cs) (Ok inner) (Err faults.BadMark)) (same_spans F G s.start (s.start + s.size) inner (master_range s e) (walked_ok _ inner found)).1)
@@ -137,8 +137,8 @@ module _ (F G : List ℕ) where
   masters_same (s ∷ ss) (inl e, a) = rw (master_same s e, masters_same ss a) refl
   masters_same (s ∷ ss) (inr y, a) = rw (not_master F s y) (masters_same ss a)
 
-  own_same : (s : Span) (own : List Span) → span_chunk F s ≡ span_chunk G s → master_of G s ≡ Ok own → Same F G own
-  unfolding master_of
+  own_same : (s : Span) (own : List Span) → span_chunk F s ≡ span_chunk G s → chunks_of_master G s ≡ Ok own → Same F G own
+  unfolding chunks_of_master
   own_same s own e k =
       bind_then (walked (spans_in G s.start (s.start + s.size))) _ own k (λ x h m.
       let f = under_ok (has_no_cut_mark (map (span_chunk G) x)) x own faults.BadMark m in
@@ -148,9 +148,9 @@ module _ (F G : List ℕ) where
   pub inner_same : (ss inner : List Span) → Alike ss → masters_of G ss ≡ Ok inner → Same F G inner
   unfolding masters_of
   inner_same [] inner a e = let none : [] ≡ inner = cc (e) in rw (← none) refl
-  inner_same (s ∷ ss) inner a e = elim (chosen (has_id DIIN (span_chunk G s)) (master_of G s >>= λ own. masters_of G ss >>= λ rest. Ok (own ++ rest)) (masters_of G ss) (Ok inner) e) [
+  inner_same (s ∷ ss) inner a e = elim (chosen (has_id DIIN (span_chunk G s)) (chunks_of_master G s >>= λ own. masters_of G ss >>= λ rest. Ok (own ++ rest)) (masters_of G ss) (Ok inner) e) [
     | inl h ↦
-        bind_then (master_of G s) _ inner h.1 (λ own a1 k.
+        bind_then (chunks_of_master G s) _ inner h.1 (λ own a1 k.
         bind_then (masters_of G ss) _ inner k (λ rest a2 m.
         let joined : own ++ rest ≡ inner = cc (m) in
         let is : span_chunk F s ≡ span_chunk G s = elim a.0 [ inl is ↦ is | inr sound ↦ (let never : true ≡ false = sym h.0 ∙ not_master G s sound in absurd cc) ] in

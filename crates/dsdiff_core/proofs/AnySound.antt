@@ -18,16 +18,16 @@ use Rattle.dsd_bits.specs.Layouts.{usual_layout}
 use Rattle.dsdiff_core.specs.declared.fault.DsdiffFault.{DsdiffFault}
 use Rattle.dsdiff_core.specs.declared.fault.DsdiffFault.TheVariants as faults
 use Rattle.dsdiff_core.specs.Fields.{form_end, form_size}
-use Rattle.dsdiff_core.specs.Forms.{end_of, top_of, version_of}
+use Rattle.dsdiff_core.specs.Forms.{form_end_in, top_of, known_version}
 use Rattle.dsdiff_core.specs.Kinds.{has_id}
-use Rattle.dsdiff_core.specs.Located.{EndsAtHead, sound_size}
+use Rattle.dsdiff_core.specs.Located.{EndsAtHead, stated_size}
 use Rattle.dsdiff_core.specs.Marks.{mark_in}
 use Rattle.dsdiff_core.specs.Masters.{masters_of}
 use Rattle.dsdiff_core.specs.Others.{kept}
 use Rattle.dsdiff_core.specs.Properties.{Told, property_of}
-use Rattle.dsdiff_core.specs.Reading.{marks_of, others_told, recording_of}
-use Rattle.dsdiff_core.specs.SoundBytes.{SoundIsFree, with_sound}
-use Rattle.dsdiff_core.specs.Sounds.{sound_leads, sound_of}
+use Rattle.dsdiff_core.specs.Reading.{marks_of, kept_others, recording_of}
+use Rattle.dsdiff_core.specs.SoundBytes.{SoundIsFree, read_with_sound}
+use Rattle.dsdiff_core.specs.Sounds.{sound_leads, bytes_of_sound}
 use Rattle.dsdiff_core.specs.Spans.{data_with, once_each, span_has, top_kinds}
 use Rattle.dsdiff_core.specs.Steps.{walked}
 use Rattle.dsdiff_core.proofs.Alike.{Alike, alike_join, bind_same, inner_same, kept_alike, leads_alike, masters_same, once_alike, parts_same, property_same, same_alike, spans_same, version_alike}
@@ -41,16 +41,16 @@ use Rattle.dsdiff_core.proofs.Steps.{walked_ok}
 use Rattle.dsdiff_core.proofs.WalkLaws.{after, lead_chunks, long, sound_span, walk_across}
 
 -- a step that is the same but for the sound, and what follows from its value
-with_step : {A : Type 0} (sound : List ℕ) (r q : Result A DsdiffFault) (f g : A → Result Content DsdiffFault) → r ≡ q → ((x : A) → q ≡ Ok x → f x ≡ with_sound sound (g x)) → (r >>= f) ≡ with_sound sound (q >>= g)
+with_step : {A : Type 0} (sound : List ℕ) (r q : Result A DsdiffFault) (f g : A → Result Content DsdiffFault) → r ≡ q → ((x : A) → q ≡ Ok x → f x ≡ read_with_sound sound (g x)) → (r >>= f) ≡ read_with_sound sound (q >>= g)
 with_step sound r (Ok x) f g e h = rw e (h x refl)
 with_step sound r (Err d) f g e h = rw e refl
 
 -- sound bytes of one number are taken alike
-taken_alike : (leads : Bool) (bytes other : List ℕ) (n : ℕ) (f g : List ℕ → Result Content DsdiffFault) → length other ≡ length bytes → f other ≡ with_sound other (g bytes)
-    → (sound_of leads (Some other) n >>= f) ≡ with_sound other (sound_of leads (Some bytes) n >>= g)
+taken_alike : (leads : Bool) (bytes other : List ℕ) (n : ℕ) (f g : List ℕ → Result Content DsdiffFault) → length other ≡ length bytes → f other ≡ read_with_sound other (g bytes)
+    → (bytes_of_sound leads (Some other) n >>= f) ≡ read_with_sound other (bytes_of_sound leads (Some bytes) n >>= g)
 taken_alike leads bytes other n f g e h = rw e (by leads (not (eqb (length bytes % n) 0)) (ltb (2 ^ 36) (8 * (length bytes / n))))
   where
-    by : (a b c : Bool) → (cond a (Err faults.SoundBeforeProperty) (cond b (Err faults.PartFrame) (cond c (Err faults.TooLong) (Ok other))) >>= f) ≡ with_sound other (cond a (Err faults.SoundBeforeProperty) (cond b (Err faults.PartFrame) (cond c (Err faults.TooLong) (Ok bytes))) >>= g)
+    by : (a b c : Bool) → (cond a (Err faults.SoundBeforeProperty) (cond b (Err faults.PartFrame) (cond c (Err faults.TooLong) (Ok other))) >>= f) ≡ read_with_sound other (cond a (Err faults.SoundBeforeProperty) (cond b (Err faults.PartFrame) (cond c (Err faults.TooLong) (Ok bytes))) >>= g)
     by true b c = refl
     by false true c = refl
     by false false true = refl
@@ -68,14 +68,14 @@ after_ok front (Err d) top e = absurd cc
 
 module _ (front back : List ℕ) (h : EndsAtHead front) where
   -- the form ends at the same place, behind the sound
-  file_long : (sound : List ℕ) → length sound ≡ sound_size front → length (front ++ (sound ++ back)) ≡ length front + sound_size front + length back
+  file_long : (sound : List ℕ) → length sound ≡ stated_size front → length (front ++ (sound ++ back)) ≡ length front + stated_size front + length back
   file_long sound size = omega (arith, size, length-append front (sound ++ back), length-append sound back)
 
   size_is : (sound : List ℕ) → form_size (front ++ (sound ++ back)) ≡ form_size front
   size_is sound = number_front 8 4 front (sound ++ back) (omega (arith, long front h))
 
-  pub end_same : (sound other : List ℕ) → length sound ≡ sound_size front → length other ≡ sound_size front → end_of (front ++ (other ++ back)) ≡ end_of (front ++ (sound ++ back))
-  unfolding end_of
+  pub end_same : (sound other : List ℕ) → length sound ≡ stated_size front → length other ≡ stated_size front → form_end_in (front ++ (other ++ back)) ≡ form_end_in (front ++ (sound ++ back))
+  unfolding form_end_in
   end_same sound other size_s size_o =
       let l = long front h in
       rw (
@@ -89,10 +89,10 @@ module _ (front back : List ℕ) (h : EndsAtHead front) where
         part_front 4 12 front (other ++ back) (omega (arith, l)),
       ) refl
 
-  pub end_fits : (sound : List ℕ) (stop : ℕ) → length sound ≡ sound_size front → form_end (front ++ (sound ++ back)) ≡ stop → length front + length sound ≤ stop
+  pub end_fits : (sound : List ℕ) (stop : ℕ) → length sound ≡ stated_size front → form_end (front ++ (sound ++ back)) ≡ stop → length front + length sound ≤ stop
   end_fits sound stop size e = omega (arith, sym e, size, file_long sound size, size_is sound, h.in_form)
 
-  module _ (sound other : List ℕ) (size_s : length sound ≡ sound_size front) (size_o : length other ≡ sound_size front) where
+  module _ (sound other : List ℕ) (size_s : length sound ≡ stated_size front) (size_o : length other ≡ stated_size front) where
     abbrev F : List ℕ
     F = front ++ (other ++ back)
 
@@ -101,17 +101,17 @@ module _ (front back : List ℕ) (h : EndsAtHead front) where
 
     -- behind the sound stand the same bytes
     abbrev start : ℕ
-    start = length front + sound_size front + sound_size front % 2
+    start = length front + stated_size front + stated_size front % 2
 
     same_tail : (stop : ℕ) → slice_range F start stop ≡ slice_range G start stop
     same_tail stop =
-        let q : ℕ = sound_size front % 2 in
+        let q : ℕ = stated_size front % 2 in
         let of_F : drop start F ≡ drop q back = ap (λ (n : ℕ). drop (length front + n + q) F) (sym size_o) ∙ tail_is front other back q in
         let of_G : drop start G ≡ drop q back = ap (λ (n : ℕ). drop (length front + n + q) G) (sym size_s) ∙ tail_is front sound back q in
         ap (take (stop - start)) (of_F ∙ sym of_G)
 
     -- the chunks stand at the same places, and are alike but for the sound
-    spans_alike : (stop : ℕ) → length front + sound_size front ≤ stop → spans_in F 16 stop ≡ spans_in G 16 stop
+    spans_alike : (stop : ℕ) → length front + stated_size front ≤ stop → spans_in F 16 stop ≡ spans_in G 16 stop
     spans_alike stop fits =
         walk_across front h other back size_o stop (omega (arith, size_o, fits))
         ∙ ap (after (places 16 h.head.before ++ sound_span front h ∷ [])) (spans_same F G start stop (same_tail stop))
@@ -122,7 +122,7 @@ module _ (front back : List ℕ) (h : EndsAtHead front) where
       pub is : top ≡ places 16 h.head.before ++ sound_span front h ∷ later
       pub alike : Alike F G top
 
-    top_alike : (stop : ℕ) (top : List Span) → length front + sound_size front ≤ stop → spans_in G 16 stop ≡ Ok top → AlikeTop top
+    top_alike : (stop : ℕ) (top : List Span) → length front + stated_size front ≤ stop → spans_in G 16 stop ≡ Ok top → AlikeTop top
     top_alike stop top fits e =
         let lead : List Span = places 16 h.head.before in
         let p = after_ok (lead ++ sound_span front h ∷ []) (spans_in G start stop) top (sym (walk_across front h sound back size_s stop (omega (arith, size_s, fits))) ∙ e) in
@@ -140,7 +140,7 @@ module _ (front back : List ℕ) (h : EndsAtHead front) where
     top_same : top_of F ≡ top_of G
     unfolding top_of
     top_same =
-        bind_same (end_of F) (end_of G) _ _ (end_same sound other size_s size_o) (λ stop e1.
+        bind_same (form_end_in F) (form_end_in G) _ _ (end_same sound other size_s size_o) (λ stop e1.
         let fits = end_fits sound stop size_s (end_ok G stop e1).1 in
         bind_same (walked (spans_in F 16 stop)) (walked (spans_in G 16 stop)) _ _ (ap walked (spans_alike stop (omega (arith, fits, size_s)))) (λ top e2.
         let a = (top_alike stop top (omega (arith, fits, size_s)) (walked_ok _ top e2)).alike in
@@ -149,19 +149,19 @@ module _ (front back : List ℕ) (h : EndsAtHead front) where
     top_is : (top : List Span) → top_of G ≡ Ok top → AlikeTop top
     unfolding top_of
     top_is top e =
-        bind_then (end_of G) _ top e (λ stop e1 h1.
+        bind_then (form_end_in G) _ top e (λ stop e1 h1.
         bind_then (walked (spans_in G 16 stop)) _ top h1 (λ found e2 h2.
-        bind_then (version_of (map (span_chunk G) found)) _ top h2 (λ u e3 h3.
+        bind_then (known_version (map (span_chunk G) found)) _ top h2 (λ u e3 h3.
         bind_then (once_each (top_kinds G) [] found) _ top h3 (λ w e4 h4.
         let same : found ≡ top = cc (h4) in
         let fits = end_fits sound stop size_s (end_ok G stop e1).1 in
         subst AlikeTop same (top_alike stop found (omega (arith, fits, size_s)) (walked_ok _ found e2))))))
 
     -- the bytes of the sound
-    bytes_of : (bytes : List ℕ) (top : List Span) → length bytes ≡ sound_size front → AlikeTop top → data_with (front ++ (bytes ++ back)) DSD top ≡ Some bytes
+    bytes_of : (bytes : List ℕ) (top : List Span) → length bytes ≡ stated_size front → AlikeTop top → data_with (front ++ (bytes ++ back)) DSD top ≡ Some bytes
     bytes_of bytes top size t =
         rw (t.is, first_sound 16 h.head.before (sound_span front h) t.later h.head.no_sound refl)
-        (ap (λ (bs : List ℕ). let r : Option (List ℕ) = Some bs in r) (ap (take (sound_size front)) (drop_at front (bytes ++ back) (length front) refl) ∙ take_at bytes back (sound_size front) size))
+        (ap (λ (bs : List ℕ). let r : Option (List ℕ) = Some bs in r) (ap (take (stated_size front)) (drop_at front (bytes ++ back) (length front) refl) ∙ take_at bytes back (stated_size front) size))
 
     -- what the steps tell
     abbrev made : List ℕ → List Span → Told → List ℕ → List Span → Result Content DsdiffFault
@@ -171,14 +171,14 @@ module _ (front back : List ℕ) (h : EndsAtHead front) where
       ids = told.ids;
       layout = usual_layout (length told.ids);
       marks = marks_of file inner;
-      others = others_told file told.parts inner top;
+      others = kept_others file told.parts inner top;
       tag = [];
     })
 
-    same_made : (top inner : List Span) (told : Told) → AlikeTop top → property_of G top ≡ Ok told → masters_of G top ≡ Ok inner → made F top told other inner ≡ with_sound other (made G top told sound inner)
+    same_made : (top inner : List Span) (told : Told) → AlikeTop top → property_of G top ≡ Ok told → masters_of G top ≡ Ok inner → made F top told other inner ≡ read_with_sound other (made G top told sound inner)
     same_made top inner told t e2 e3 =
         let marks : marks_of F inner ≡ marks_of G inner = ap (λ (cs : List Chunk). map mark_in (filter (has_id MARK) cs)) (inner_same F G top inner t.alike e3) in
-        let others : others_told F told.parts inner top ≡ others_told G told.parts inner top =
+        let others : kept_others F told.parts inner top ≡ kept_others G told.parts inner top =
         ap₂ (λ (cs ds : List Chunk). kept Property cs ++ (kept Master ds ++ kept Form (map (span_chunk F) top))) (parts_same F G top told t.alike e2) (inner_same F G top inner t.alike e3)
         ∙ ap (λ (os : List OtherContent). kept Property (map (span_chunk G) told.parts) ++ (kept Master (map (span_chunk G) inner) ++ os)) (kept_alike F G top t.alike) in
         λ i. Ok (record {
@@ -191,7 +191,7 @@ module _ (front back : List ℕ) (h : EndsAtHead front) where
           tag = [];
         })
 
-    same_recording : recording_of F ≡ with_sound other (recording_of G)
+    same_recording : recording_of F ≡ read_with_sound other (recording_of G)
     unfolding recording_of
     same_recording =
         with_step other (top_of F) (top_of G) _ _ top_same (λ top e1.
@@ -206,7 +206,7 @@ module _ (front back : List ℕ) (h : EndsAtHead front) where
     sound_fits r e =
         let p = parts_ok G r e in
         let leads : Bool = sound_leads (map (span_chunk G) p.top) in
-        let taken = subst (λ (o : Option (List ℕ)). sound_of leads o (length p.told.ids) ≡ Ok p.sound) (bytes_of sound p.top size_s (top_is p.top p.at_top)) p.at_sound in
+        let taken = subst (λ (o : Option (List ℕ)). bytes_of_sound leads o (length p.told.ids) ≡ Ok p.sound) (bytes_of sound p.top size_s (top_is p.top p.at_top)) p.at_sound in
         let s = sound_ok leads (Some sound) (length p.told.ids) p.sound taken in
         let same : p.sound ≡ sound = cc (s.0) in
         let ids : length p.told.ids ≡ length r.ids = ap (λ (x : Content). length x.ids) p.made in

@@ -23,16 +23,16 @@ use Rattle.dsdiff_core.specs.declared.fault.DsdiffFault.{DsdiffFault}
 use Rattle.dsdiff_core.specs.declared.fault.DsdiffFault.TheVariants as faults
 use Rattle.dsdiff_core.specs.Cuts.{CutIsRefused, EndsAtChunk, FormIsRead, cut_fault, last_size}
 use Rattle.dsdiff_core.specs.Fields.{form_end, form_size}
-use Rattle.dsdiff_core.specs.Forms.{end_of, top_of, version_of}
-use Rattle.dsdiff_core.specs.Fronts.{behind, size_at}
+use Rattle.dsdiff_core.specs.Forms.{form_end_in, top_of, known_version}
+use Rattle.dsdiff_core.specs.Fronts.{place_after, size_at}
 use Rattle.dsdiff_core.specs.Kinds.{FRM8, has_id}
 use Rattle.dsdiff_core.specs.Located.{EndsAtHead}
 use Rattle.dsdiff_core.specs.Marks.{mark_in}
 use Rattle.dsdiff_core.specs.Masters.{masters_of}
 use Rattle.dsdiff_core.specs.Others.{kept}
 use Rattle.dsdiff_core.specs.Properties.{Told, property_of}
-use Rattle.dsdiff_core.specs.Reading.{marks_of, others_told, recording_of}
-use Rattle.dsdiff_core.specs.Sounds.{sound_leads, sound_of}
+use Rattle.dsdiff_core.specs.Reading.{marks_of, kept_others, recording_of}
+use Rattle.dsdiff_core.specs.Sounds.{sound_leads, bytes_of_sound}
 use Rattle.dsdiff_core.specs.Spans.{data_with, once_each, top_kinds}
 use Rattle.dsdiff_core.specs.Steps.{walked}
 use Rattle.dsdiff_core.proofs.Alike.{bind_same, inner_same, masters_same, once_alike, parts_same, property_same, same_alike, spans_same, version_alike}
@@ -57,7 +57,7 @@ spans_cut file at stop head inside short =
     sym (big_from-take 0 8 8 (drop 4 bytes) (omega arith)) ∙ ap (big_number 8) (range_inner file at stop 4 8 (omega arith)) ∙ big_from-take 0 8 8 (drop (at + 4) file) (omega arith) in
     rw (walk_step at bytes (omega (arith, long, head)), data_cut at bytes (omega (arith, long, head)) (omega (arith, long, size, short))) refl
 
-top_fails : (file : List ℕ) (e : ChunkFault) (stop : ℕ) → end_of file ≡ Ok stop → spans_in file 16 stop ≡ Err e → recording_of file ≡ (walked (Err e) >>= λ (u : Unit {0}). Err faults.Memory)
+top_fails : (file : List ℕ) (e : ChunkFault) (stop : ℕ) → form_end_in file ≡ Ok stop → spans_in file 16 stop ≡ Err e → recording_of file ≡ (walked (Err e) >>= λ (u : Unit {0}). Err faults.Memory)
 unfolding recording_of top_of
 top_fails file e stop end spans = rw (end, spans) refl
 
@@ -134,8 +134,8 @@ module _ (file rest : List ℕ) (long : 16 ≤ length file) (whole : 12 + form_s
   mins : min (12 + form_size file) (length F) ≡ min (12 + form_size file) (length file)
   mins = omega (arith, whole, length-append file rest)
 
-  ends_alike : end_of F ≡ end_of file
-  unfolding end_of
+  ends_alike : form_end_in F ≡ form_end_in file
+  unfolding form_end_in
   ends_alike =
       rw (
         le-ltb (length F) 16 (omega (arith, long, length-append file rest)),
@@ -156,13 +156,13 @@ module _ (file rest : List ℕ) (long : 16 ≤ length file) (whole : 12 + form_s
       let t = top_ok file top e in
       (same_spans F file 16 (form_end file) top (range_same (form_end file) (omega arith)) t.spans).1
 
-  stop_in : (stop : ℕ) → end_of file ≡ Ok stop → stop ≤ length file
+  stop_in : (stop : ℕ) → form_end_in file ≡ Ok stop → stop ≤ length file
   stop_in stop e = omega (arith, (end_ok file stop e).1)
 
   tops_alike : top_of F ≡ top_of file
   unfolding top_of
   tops_alike =
-      bind_same (end_of F) (end_of file) _ _ ends_alike (λ stop e1.
+      bind_same (form_end_in F) (form_end_in file) _ _ ends_alike (λ stop e1.
       let range = range_same stop (stop_in stop e1) in
       bind_same (walked (spans_in F 16 stop)) (walked (spans_in file 16 stop)) _ _ (ap walked (spans_same F file 16 stop range)) (λ top e2.
       let a = same_alike F file top (same_spans F file 16 stop top range (walked_ok _ top e2)).1 in
@@ -175,7 +175,7 @@ module _ (file rest : List ℕ) (long : 16 ≤ length file) (whole : 12 + form_s
     ids = told.ids;
     layout = usual_layout (length told.ids);
     marks = marks_of G inner;
-    others = others_told G told.parts inner top;
+    others = kept_others G told.parts inner top;
     tag = [];
   })
 
@@ -184,7 +184,7 @@ module _ (file rest : List ℕ) (long : 16 ≤ length file) (whole : 12 + form_s
       let a = same_alike F file top same in
       let own = inner_same F file top inner a e3 in
       let marks : marks_of F inner ≡ marks_of file inner = ap (λ (cs : List Chunk). map mark_in (filter (has_id MARK) cs)) own in
-      let others : others_told F told.parts inner top ≡ others_told file told.parts inner top =
+      let others : kept_others F told.parts inner top ≡ kept_others file told.parts inner top =
       λ i. kept Property (parts_same F file top told a e2 i) ++ (kept Master (own i) ++ kept Form (same i)) in
       λ i. Ok (record {
         rate = told.rate;
@@ -203,7 +203,7 @@ module _ (file rest : List ℕ) (long : 16 ≤ length file) (whole : 12 + form_s
       let same = top_same top e1 in
       let a = same_alike F file top same in
       bind_same (property_of F top) (property_of file top) _ _ (property_same F file top a) (λ told e2.
-      bind_same (sound_of (sound_leads (map (span_chunk F) top)) (data_with F DSD top) (length told.ids)) (sound_of (sound_leads (map (span_chunk file) top)) (data_with file DSD top) (length told.ids)) _ _ (rw (same, same_data F file DSD top same) refl) (λ sound e3.
+      bind_same (bytes_of_sound (sound_leads (map (span_chunk F) top)) (data_with F DSD top) (length told.ids)) (bytes_of_sound (sound_leads (map (span_chunk file) top)) (data_with file DSD top) (length told.ids)) _ _ (rw (same, same_data F file DSD top same) refl) (λ sound e3.
       bind_same (masters_of F top) (masters_of file top) _ _ (masters_same F file top a) (λ inner e4. made_same top inner told sound same e2 e4))))
 
 pub form_is_read : FormIsRead

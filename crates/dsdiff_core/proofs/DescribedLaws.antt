@@ -20,12 +20,12 @@ use Rattle.dsdiff_core.specs.declared.held.Held.{Held}
 use Rattle.dsdiff_core.specs.Forms.{top_of}
 use Rattle.dsdiff_core.specs.Fronts.{IsAccepted, form_of, located, seek, size_at}
 use Rattle.dsdiff_core.specs.Held.{IsHeld, IsParted, held}
-use Rattle.dsdiff_core.specs.Located.{EndsAtHead, sound_size}
+use Rattle.dsdiff_core.specs.Located.{EndsAtHead, stated_size}
 use Rattle.dsdiff_core.specs.Masters.{masters_of}
 use Rattle.dsdiff_core.specs.Properties.{Told, property_of}
-use Rattle.dsdiff_core.specs.Reading.{marks_of, others_told, recording_of}
-use Rattle.dsdiff_core.specs.SoundBytes.{description_of, with_sound}
-use Rattle.dsdiff_core.specs.Sounds.{count_told, sound_leads, sound_of}
+use Rattle.dsdiff_core.specs.Reading.{marks_of, kept_others, recording_of}
+use Rattle.dsdiff_core.specs.SoundBytes.{description_of, read_with_sound}
+use Rattle.dsdiff_core.specs.Sounds.{stated_count, sound_leads, bytes_of_sound}
 use Rattle.dsdiff_core.specs.Spans.{data_with}
 use Rattle.dsdiff_core.proofs.AnySound.{sound_fits, sound_is_free}
 use Rattle.dsdiff_core.proofs.FileLaws.{is_dsdiff, parts_again, parts_from, parts_ok}
@@ -46,12 +46,12 @@ told_so file top told count inner = record {
   ids = told.ids;
   layout = usual_layout (length told.ids);
   marks = marks_of file inner;
-  others = others_told file told.parts inner top;
+  others = kept_others file told.parts inner top;
   tag = [];
 }
 
 abbrev pub steps_of : List ℕ → Result Described DsdiffFault
-steps_of file = top_of file >>= λ top. property_of file top >>= λ told. count_told file top (length told.ids) >>= λ count. masters_of file top >>= λ inner. Ok (told_so file top told count inner)
+steps_of file = top_of file >>= λ top. property_of file top >>= λ told. stated_count file top (length told.ids) >>= λ count. masters_of file top >>= λ inner. Ok (told_so file top told count inner)
 
 -- steps behind a step
 then_same : {A B C : Type 0} (r : Result A DsdiffFault) (f : A → Result B DsdiffFault) (h : B → Result C DsdiffFault) (g : A → Result C DsdiffFault) → ((x : A) → r ≡ Ok x → (f x >>= h) ≡ g x) → ((r >>= f) >>= h) ≡ (r >>= g)
@@ -68,7 +68,7 @@ pub described_steps : (file : List ℕ) → description_of file ≡ steps_of fil
 unfolding recording_of
 described_steps file =
     then_same (top_of file) _ _ _ (λ top e1.
-    then_same (property_of file top) _ _ _ (λ told e2. by top told (some_channel file top told e2) (sound_of (sound_leads (map (span_chunk file) top)) (data_with file DSD top) (length told.ids))))
+    then_same (property_of file top) _ _ _ (λ told e2. by top told (some_channel file top told e2) (bytes_of_sound (sound_leads (map (span_chunk file) top)) (data_with file DSD top) (length told.ids))))
   where
     made : List Span → Told → List ℕ → List Span → Content
     made top told sound inner = record {
@@ -77,7 +77,7 @@ described_steps file =
       ids = told.ids;
       layout = usual_layout (length told.ids);
       marks = marks_of file inner;
-      others = others_told file told.parts inner top;
+      others = kept_others file told.parts inner top;
       tag = [];
     }
 
@@ -120,20 +120,20 @@ tells r = Ok (described r)
 same_content : (x y : Content) → (let r : Result Content DsdiffFault = Ok x in r) ≡ Ok y → x ≡ y
 same_content x y e = cc
 
-module _ (front sound back : List ℕ) (h : EndsAtHead front) (size : length sound ≡ sound_size front) where
+module _ (front sound back : List ℕ) (h : EndsAtHead front) (size : length sound ≡ stated_size front) where
   -- a recording that was read has the sound as its channels
   own_channels : (r : Content) → recording_of (front ++ (sound ++ back)) ≡ Ok r → unlaced_all sound (length r.ids) ≡ r.channels
-  own_channels r e = ap (λ (x : Content). x.channels) (same_content (record r { channels = unlaced_all sound (length r.ids) }) r (sym (ap (with_sound sound) e) ∙ sym (sound_is_free front sound sound back h size size) ∙ e))
+  own_channels r e = ap (λ (x : Content). x.channels) (same_content (record r { channels = unlaced_all sound (length r.ids) }) r (sym (ap (read_with_sound sound) e) ∙ sym (sound_is_free front sound sound back h size size) ∙ e))
 
   some_ids : (r : Content) → recording_of (front ++ (sound ++ back)) ≡ Ok r → 1 ≤ length r.ids
   some_ids r e =
       let p = parts_ok (front ++ (sound ++ back)) r e in
       subst (λ (n : ℕ). 1 ≤ n) (ap (λ (x : Content). length x.ids) p.made) (some_channel (front ++ (sound ++ back)) p.top p.told p.at_told)
 
-  pub described_alike : (other : List ℕ) → length other ≡ sound_size front → description_of (front ++ (other ++ back)) ≡ description_of (front ++ (sound ++ back))
+  pub described_alike : (other : List ℕ) → length other ≡ stated_size front → description_of (front ++ (other ++ back)) ≡ description_of (front ++ (sound ++ back))
   described_alike other size_o = ap (λ (r : Result Content DsdiffFault). r >>= tells) (sound_is_free front sound other back h size size_o) ∙ by (recording_of (front ++ (sound ++ back))) refl
     where
-      by : (r : Result Content DsdiffFault) → recording_of (front ++ (sound ++ back)) ≡ r → (with_sound other r >>= tells) ≡ (r >>= tells)
+      by : (r : Result Content DsdiffFault) → recording_of (front ++ (sound ++ back)) ≡ r → (read_with_sound other r >>= tells) ≡ (r >>= tells)
       by (Err f) e = refl
       by (Ok r) e =
           let some = some_ids r e in
@@ -141,10 +141,10 @@ module _ (front sound back : List ℕ) (h : EndsAtHead front) (size : length sou
           let count : count_of (unlaced_all other (length r.ids)) ≡ count_of r.channels = count_is other (length r.ids) some ∙ long ∙ sym (count_is sound (length r.ids) some) ∙ ap count_of (own_channels r e) in
           ap (λ (n : ℕ). let x : Result Described DsdiffFault = Ok (record (described r) { count = n }) in x) count
 
-  pub read_by : (other : List ℕ) → length other ≡ sound_size front → recording_of (front ++ (other ++ back)) ≡ (description_of (front ++ (sound ++ back)) >>= with_bits other)
+  pub read_by : (other : List ℕ) → length other ≡ stated_size front → recording_of (front ++ (other ++ back)) ≡ (description_of (front ++ (sound ++ back)) >>= with_bits other)
   read_by other size_o = sound_is_free front sound other back h size size_o ∙ by (recording_of (front ++ (sound ++ back)))
     where
-      by : (r : Result Content DsdiffFault) → with_sound other r ≡ ((r >>= tells) >>= with_bits other)
+      by : (r : Result Content DsdiffFault) → read_with_sound other r ≡ ((r >>= tells) >>= with_bits other)
       by (Ok r) = refl
       by (Err f) = refl
 
@@ -162,7 +162,7 @@ module _ (file : List ℕ) (f : Held) (sound : List ℕ) (p : IsParted file f so
       let silent : sound ≡ [] = nil_from_length sound (p.long ∙ none) in
       p.is ∙ rw (silent, end) (append-nil f.front.now) ∙ sym (held_front f none end)
 
-  at_head : EndsAtHead f.front.now × (f.hole ≡ sound_size f.front.now) → recording_of file ≡ (description_of (held f) >>= with_bits sound)
+  at_head : EndsAtHead f.front.now × (f.hole ≡ stated_size f.front.now) → recording_of file ≡ (description_of (held f) >>= with_bits sound)
   at_head a = ap recording_of p.is ∙ read_by f.front.now zeros f.back.now a.0 (long_zeros ∙ a.1) sound (p.long ∙ a.1)
 
   pub read_parted : recording_of file ≡ (description_of (held f) >>= with_bits sound)
@@ -182,7 +182,7 @@ module _ (file : List ℕ) (f : Held) (sound : List ℕ) (p : IsParted file f so
     read_is : recording_of file ≡ Ok (with_channels d (unlaced_all sound (length d.ids)))
     read_is = read_parted ∙ ap (λ (r : Result Described DsdiffFault). r >>= with_bits sound) e
 
-    head_is : EndsAtHead f.front.now × (f.hole ≡ sound_size f.front.now)
+    head_is : EndsAtHead f.front.now × (f.hole ≡ stated_size f.front.now)
     head_is = p.located (with_channels d (unlaced_all sound (length d.ids)), is_dsdiff file _ (parts_ok file _ read_is))
 
     in_file : recording_of (f.front.now ++ (sound ++ f.back.now)) ≡ Ok (with_channels d (unlaced_all sound (length d.ids)))
@@ -237,7 +237,7 @@ parted_at file at f rest sound found low high few hole inside front rest_is soun
     let rest_long : length rest ≡ length file - (at + 12) = ap length rest_is ∙ length-drop (at + 12) file in
     let long : length sound ≡ f.hole = ap length sound_is ∙ length-take-le f.hole rest (omega (arith, rest_long, inside)) in
     let place : length f.front.now - 12 ≡ at = omega (arith, front_long) in
-    let size : f.hole ≡ sound_size f.front.now = hole ∙ (ap (λ (xs : List ℕ). size_at xs at) whole ∙ number_front 8 (at + 4) f.front.now rest (omega (arith, front_long)) ∙ ap (size_at f.front.now) (sym place)) in
+    let size : f.hole ≡ stated_size f.front.now = hole ∙ (ap (λ (xs : List ℕ). size_at xs at) whole ∙ number_front 8 (at + 4) f.front.now rest (omega (arith, front_long)) ∙ ap (size_at f.front.now) (sym place)) in
     let total : length f.front.now + f.hole + length f.back.now < 2 ^ 64 = omega (arith, front_long, inside, few, rest_long, ap length split, length-append sound f.back.now, long) in
     record { is_held = inr (head, size, total); is = whole ∙ ap (λ xs. f.front.now ++ xs) split; long = long; located = λ accepted. (head, size) }
 

@@ -16,15 +16,15 @@ use Rattle.dsd_bits.specs.Lacing.{unlaced_all}
 use Rattle.dsd_bits.specs.Layouts.{usual_layout}
 use Rattle.dsdiff_core.specs.declared.fault.DsdiffFault.{DsdiffFault}
 use Rattle.dsdiff_core.specs.Fields.{form_end, ids_in}
-use Rattle.dsdiff_core.specs.Files.{IsDsdiff, TellsProperty, joined}
+use Rattle.dsdiff_core.specs.Files.{IsDsdiff, StatesProperty, joined}
 use Rattle.dsdiff_core.specs.Forms.{top_of}
 use Rattle.dsdiff_core.specs.Kinds.{has_id, is_property}
 use Rattle.dsdiff_core.specs.Marks.{IsWholeMark, mark_in}
 use Rattle.dsdiff_core.specs.Masters.{masters_of}
 use Rattle.dsdiff_core.specs.Others.{kept}
 use Rattle.dsdiff_core.specs.Properties.{Told, property_of}
-use Rattle.dsdiff_core.specs.Reading.{marks_of, others_told, recording_of}
-use Rattle.dsdiff_core.specs.Sounds.{sound_leads, sound_of}
+use Rattle.dsdiff_core.specs.Reading.{marks_of, kept_others, recording_of}
+use Rattle.dsdiff_core.specs.Sounds.{sound_leads, bytes_of_sound}
 use Rattle.dsdiff_core.specs.Spans.{data_with, holds_property, span_has}
 use Rattle.dsdiff_core.proofs.FormLaws.{IsTop, top_ok, top_again}
 use Rattle.dsdiff_core.proofs.KindLaws.{filter_chunks, leads_again, order_again, order_ok, passes}
@@ -42,7 +42,7 @@ made_of file top told sound inner = record {
   ids = told.ids;
   layout = usual_layout (length told.ids);
   marks = marks_of file inner;
-  others = others_told file told.parts inner top;
+  others = kept_others file told.parts inner top;
   tag = [];
 }
 
@@ -53,7 +53,7 @@ pub record Parts (file : List ℕ) (r : Content) : Type 0 where
   pub told : Told
   pub at_told : property_of file top ≡ Ok told
   pub sound : List ℕ
-  pub at_sound : sound_of (sound_leads (map (span_chunk file) top)) (data_with file DSD top) (length told.ids) ≡ Ok sound
+  pub at_sound : bytes_of_sound (sound_leads (map (span_chunk file) top)) (data_with file DSD top) (length told.ids) ≡ Ok sound
   pub inner : List Span
   pub at_inner : masters_of file top ≡ Ok inner
   pub made : made_of file top told sound inner ≡ r
@@ -69,7 +69,7 @@ unfolding recording_of
 parts_ok file r e =
     bind_then (top_of file) _ r e (λ top e1 h1.
     bind_then (property_of file top) _ r h1 (λ told e2 h2.
-    bind_then (sound_of (sound_leads (map (span_chunk file) top)) (data_with file DSD top) (length told.ids)) _ r h2 (λ sound e3 h3.
+    bind_then (bytes_of_sound (sound_leads (map (span_chunk file) top)) (data_with file DSD top) (length told.ids)) _ r h2 (λ sound e3 h3.
     bind_then (masters_of file top) _ r h3 (λ inner e4 h4.
     record {
       top = top;
@@ -128,7 +128,7 @@ behind_type file s =
 
 -- what was read of a sound property is what it tells
 pub record ToldProperty (file : List ℕ) (property : Span) (told : Told) : Type 0 where
-  pub tells : TellsProperty (span_chunk file property) told.rate (length told.ids)
+  pub tells : StatesProperty (span_chunk file property) told.rate (length told.ids)
   pub ids : told.ids ≡ ids_in (length told.ids) (drop 2 tells.names.content)
   pub parts : tells.parts ≡ map (span_chunk file) told.parts
 
@@ -142,7 +142,7 @@ told_property file top told p =
     let tells : IsTold (span_chunk file rates.0).content (span_chunk file names.0).content (span_chunk file kinds.0).content told.rate told.ids = rw (rates.2, names.2, kinds.2) p.is_told in
     let n : ℕ = big_number 2 (span_chunk file names.0).content in
     let number : length told.ids ≡ n = ap length tells.ids ∙ length-map-range_with_len (λ k. take 4 (drop (4 * k) (drop 2 (span_chunk file names.0).content))) 0 n in
-    let told_so : TellsProperty (span_chunk file p.property) told.rate (length told.ids) = record {
+    let told_so : StatesProperty (span_chunk file p.property) told.rate (length told.ids) = record {
       parts = parts;
       are_parts = subst (λ (bs : List ℕ). chunks bs parts) (behind_type file p.property) in_parts.0;
       rates = span_chunk file rates.0;
@@ -240,7 +240,7 @@ content_at : (file id : List ℕ) (ss : List Span) (c : Chunk) → Stands file (
 content_at file id ss c s = rw s.found (ap (λ (x : Chunk). Some x.content) s.is)
 
 -- a chunk that tells rate and channels is read so
-pub property_told : (file : List ℕ) (top parts : List Span) (span : Span) (property : Chunk) (rate number : ℕ) (t : TellsProperty property rate number) → find (holds_property file) top ≡ Some span → span_chunk file span ≡ property → parts ≡ places (span.start + 4) t.parts
+pub property_told : (file : List ℕ) (top parts : List Span) (span : Span) (property : Chunk) (rate number : ℕ) (t : StatesProperty property rate number) → find (holds_property file) top ≡ Some span → span_chunk file span ≡ property → parts ≡ places (span.start + 4) t.parts
     → IsProperty file top (told_by rate (ids_in number (drop 2 t.names.content)) parts)
 property_told file top parts span property rate number t found same e =
     let range : slice_range file (span.start + 4) (span.start + span.size) ≡ drop 4 property.content = behind_type file span ∙ ap (λ (c : Chunk). drop 4 c.content) same in
@@ -297,7 +297,7 @@ parts_from file r h =
       not_long = subst (λ (n : ℕ). 8 * (length h.sound.content / n) ≤ 2 ^ 36) (sym number) h.not_long;
     } in
     let m = masters_again file top h.masters (rw back h.are_masters) (none_cut_again (joined h.masters) h.whole_marks) in
-    let others_are : others_told file parts m.0 top ≡ r.others = rw (parts_back, m.2, back) (sym h.others) in
+    let others_are : kept_others file parts m.0 top ≡ r.others = rw (parts_back, m.2, back) (sym h.others) in
     record {
       top = top;
       at_top = top_again file top (is_top file r h top refl back);

@@ -10,7 +10,7 @@ use Rattle.chunk_core.proofs.Steps.{bind_then, guard_ok}
 use Rattle.dsd_bits.specs.Ids.{same_id, FVER, DSD}
 use Rattle.dsdiff_core.specs.declared.fault.DsdiffFault.TheVariants as faults
 use Rattle.dsdiff_core.specs.Fields.{form_size, form_end}
-use Rattle.dsdiff_core.specs.Forms.{end_of, top_of, version_of}
+use Rattle.dsdiff_core.specs.Forms.{form_end_in, top_of, known_version}
 use Rattle.dsdiff_core.specs.Kinds.{FRM8, has_id}
 use Rattle.dsdiff_core.specs.Spans.{once_each, top_kinds}
 use Rattle.dsdiff_core.specs.Steps.{walked}
@@ -29,8 +29,8 @@ pub record IsForm (file : List ℕ) : Type 0 where
   pub holds_type : 4 ≤ form_size file
   pub in_file : 12 + form_size file ≤ length file + 1
 
-pub end_ok : (file : List ℕ) (n : ℕ) → end_of file ≡ Ok n → IsForm file × (form_end file ≡ n)
-unfolding end_of
+pub end_ok : (file : List ℕ) (n : ℕ) → form_end_in file ≡ Ok n → IsForm file × (form_end file ≡ n)
+unfolding form_end_in
 end_ok file n e =
     let a = guard_ok _ _ _ _ e in
     let b = guard_ok _ _ _ _ a.1 in
@@ -48,8 +48,8 @@ end_ok file n e =
       same,
     )
 
-pub end_again : (file : List ℕ) → IsForm file → end_of file ≡ Ok (form_end file)
-unfolding end_of
+pub end_again : (file : List ℕ) → IsForm file → form_end_in file ≡ Ok (form_end file)
+unfolding form_end_in
 end_again file h =
     rw (le-ltb (length file) 16 h.long, same_again (take 4 file) FRM8 refl h.form, same_again (take 4 (drop 12 file)) DSD refl h.kind, le-ltb (form_size file) 4 h.holds_type, le-ltb (length file + 1) (12 + form_size file) h.in_file) refl
 
@@ -62,7 +62,7 @@ pub record IsVersion (cs : List Chunk) : Type 0 where
   pub long : 4 ≤ length version.content
   pub main : slice_index version.content 0 ≡ 1
 
-pub version_ok : (cs : List Chunk) (u : Unit {0}) → version_of cs ≡ Ok u → IsVersion cs
+pub version_ok : (cs : List Chunk) (u : Unit {0}) → known_version cs ≡ Ok u → IsVersion cs
 version_ok [] u e = absurd cc
 version_ok (c ∷ cs) u e =
     let a = guard_ok _ _ _ _ e in
@@ -70,7 +70,7 @@ version_ok (c ∷ cs) u e =
     let d = under_ok _ tt u faults.BadVersion b.1 in
     record { version = c; later = cs; is = refl; id = not_false _ a.0; long = ltb-false _ _ b.0; main = eqb-true _ _ d.0 }
 
-pub version_again : (cs : List Chunk) → IsVersion cs → version_of cs ≡ Ok tt
+pub version_again : (cs : List Chunk) → IsVersion cs → known_version cs ≡ Ok tt
 version_again cs v = rw (v.is, v.id, le-ltb (length v.version.content) 4 v.long, v.main) refl
 
 -- the chunks of the form
@@ -83,9 +83,9 @@ pub record IsTop (file : List ℕ) (top : List Span) : Type 0 where
 pub top_ok : (file : List ℕ) (top : List Span) → top_of file ≡ Ok top → IsTop file top
 unfolding top_of
 top_ok file top e =
-    bind_then (end_of file) _ top e (λ n e1 h1.
+    bind_then (form_end_in file) _ top e (λ n e1 h1.
     bind_then (walked (spans_in file 16 n)) _ top h1 (λ found e2 h2.
-    bind_then (version_of (map (span_chunk file) found)) _ top h2 (λ u e3 h3.
+    bind_then (known_version (map (span_chunk file) found)) _ top h2 (λ u e3 h3.
     bind_then (once_each (top_kinds file) [] found) _ top h3 (λ w e4 h4.
     let same : found ≡ top = cc (h4) in
     let f = end_ok file n e1 in
@@ -102,14 +102,14 @@ top_again file top t =
     rw (end_again file t.form, t.spans, version_again (map (span_chunk file) top) t.version, once_again (top_kinds file) [] top t.once) refl
 
 -- a form that is there
-pub form_there : (file : List ℕ) → 16 ≤ length file → not (same_id (take 4 file) FRM8) ≡ false → not (same_id (take 4 (drop 12 file)) DSD) ≡ false → 4 ≤ form_size file → 12 + form_size file ≤ length file + 1 → end_of file ≡ Ok (form_end file)
-unfolding end_of
+pub form_there : (file : List ℕ) → 16 ≤ length file → not (same_id (take 4 file) FRM8) ≡ false → not (same_id (take 4 (drop 12 file)) DSD) ≡ false → 4 ≤ form_size file → 12 + form_size file ≤ length file + 1 → form_end_in file ≡ Ok (form_end file)
+unfolding form_end_in
 form_there file long id kind holds fits = rw (le-ltb (length file) 16 long, id, kind, le-ltb (form_size file) 4 holds, le-ltb (length file + 1) (12 + form_size file) fits) refl
 
 -- a form whose size is too small, or goes past the file's end
 pub form_cut : (file : List ℕ) → 16 ≤ length file → not (same_id (take 4 file) FRM8) ≡ false → not (same_id (take 4 (drop 12 file)) DSD) ≡ false
-    → (form_size file < 4) ⊎ (length file + 1 < 12 + form_size file) → end_of file ≡ Err faults.FormCut
-unfolding end_of
+    → (form_size file < 4) ⊎ (length file + 1 < 12 + form_size file) → form_end_in file ≡ Err faults.FormCut
+unfolding form_end_in
 form_cut file long id kind (inl small) = rw (le-ltb (length file) 16 long, id, kind, lt-ltb (form_size file) 4 small) refl
 form_cut file long id kind (inr cut) =
     elim (bool_cases (ltb (form_size file) 4)) [

@@ -12,8 +12,8 @@ use Rattle.chunk_core.proofs.Steps.{bind_then}
 use Rattle.dsd_bits.specs.declared.sound.Sound.{Sound}
 use Rattle.dsd_bits.specs.Ids.{FS, CHNL, CMPR, DSD}
 use Rattle.dsdiff_core.specs.Fields.{form_size}
-use Rattle.dsdiff_core.specs.Forms.{version_of}
-use Rattle.dsdiff_core.specs.Fronts.{answer_of, form_of, frames_of, leading_of, located, seek, size_at, sound_behind, sound_in}
+use Rattle.dsdiff_core.specs.Forms.{known_version}
+use Rattle.dsdiff_core.specs.Fronts.{answer_of, form_of, frames_fit, leading_of, located, seek, size_at, sound_with_head, sound_in}
 use Rattle.dsdiff_core.specs.Kinds.{is_property}
 use Rattle.dsdiff_core.specs.Laws.{SoundEndsFront}
 use Rattle.dsdiff_core.specs.Properties.{Told, property_of}
@@ -110,18 +110,18 @@ same_property short front ss told e f =
       is_told = p.is_told;
     })
 
-same_behind : (short front : List ℕ) (at : ℕ) (s : Sound) → slice_range short 16 at ≡ slice_range front 16 at → size_at short at ≡ size_at front at → sound_behind front at ≡ Ok s → sound_behind short at ≡ Ok s
-unfolding sound_behind leading_of
+same_behind : (short front : List ℕ) (at : ℕ) (s : Sound) → slice_range short 16 at ≡ slice_range front 16 at → size_at short at ≡ size_at front at → sound_with_head front at ≡ Ok s → sound_with_head short at ≡ Ok s
+unfolding sound_with_head leading_of
 same_behind short front at s range size e =
     bind_then (leading_of front at) _ s e (λ top e1 h1.
     bind_then (property_of front top) _ s h1 (λ told e2 h2.
-    bind_then (frames_of (size_at front at) (length told.ids)) _ s h2 (λ u e3 h3.
+    bind_then (frames_fit (size_at front at) (length told.ids)) _ s h2 (λ u e3 h3.
     bind_then (walked (spans_in front 16 at)) _ top e1 (λ found e4 h4.
-    bind_then (version_of (map (span_chunk front) found)) _ top h4 (λ v e5 h5.
+    bind_then (known_version (map (span_chunk front) found)) _ top h4 (λ v e5 h5.
     bind_then (once_each (top_kinds front) [] found) _ top h5 (λ w e6 h6.
     let is : found ≡ top = cc (h6) in
     let spans = same_spans short front 16 at found range (walked_ok (spans_in front 16 at) found e4) in
-    let version : version_of (map (span_chunk short) found) ≡ Ok v = ap version_of spans.1 ∙ e5 in
+    let version : known_version (map (span_chunk short) found) ≡ Ok v = ap known_version spans.1 ∙ e5 in
     let once = once_again (top_kinds short) [] found (same_once short front found spans.1 (once_ok (top_kinds front) [] found w e6 (none_yet (top_kinds front)))) in
     let property : property_of short found ≡ Ok told = same_property short front found told spans.1 (ap (property_of front) is ∙ e2) in
     rw (spans.0, version, once, property, size, e3) h3))))))
@@ -142,7 +142,7 @@ found_again front rest at whole s =
     let here : size_at (front ++ rest) at ≡ size_at front at = number_front 8 (at + 4) front rest (omega arith) in
     seek_again (length front) 16 (form_size front) front at s.before (subst (λ (bs : List ℕ). chunks bs s.before) range s.are_before) s.no_gap s.none id whole s.onward (omega (arith, s.fits, here, size)) (omega arith)
 
-ends_at : (front rest : List ℕ) (at : ℕ) (s : Sound) → at + 12 ≤ length front → form_of (front ++ rest) ≡ Ok tt → Sought (front ++ rest) 16 (form_size (front ++ rest)) at → sound_behind (front ++ rest) at ≡ Ok s → sound_in front ≡ Ok (Some s)
+ends_at : (front rest : List ℕ) (at : ℕ) (s : Sound) → at + 12 ≤ length front → form_of (front ++ rest) ≡ Ok tt → Sought (front ++ rest) 16 (form_size (front ++ rest)) at → sound_with_head (front ++ rest) at ≡ Ok s → sound_in front ≡ Ok (Some s)
 unfolding sound_in located
 ends_at front rest at s whole form sought is =
     let form_here : form_of front ≡ Ok tt = sym (form_front front rest (omega (arith, sought.onward))) ∙ form in
@@ -159,4 +159,4 @@ ends_front front s e =
     let rest : List ℕ = drop s.start front in
     let whole : front ≡ short ++ rest = sym (take-append-drop s.start front) in
     let long : length short ≡ s.start = length-take-le s.start front (starts_inside front s e) in
-    ap answer_of (ends_at short rest l.at s (omega (arith, long, start)) (ap form_of (sym whole) ∙ l.form) (subst (λ (bs : List ℕ). Sought bs 16 (form_size bs) l.at) whole sought) (ap (λ (bs : List ℕ). sound_behind bs l.at) (sym whole) ∙ l.is))
+    ap answer_of (ends_at short rest l.at s (omega (arith, long, start)) (ap form_of (sym whole) ∙ l.form) (subst (λ (bs : List ℕ). Sought bs 16 (form_size bs) l.at) whole sought) (ap (λ (bs : List ℕ). sound_with_head bs l.at) (sym whole) ∙ l.is))

@@ -26,7 +26,7 @@ use Rattle.dsdiff_core.specs.declared.fault.DsdiffFault.{DsdiffFault}
 use Rattle.dsdiff_core.specs.declared.fault.DsdiffFault.TheVariants as faults
 use Rattle.dsdiff_core.specs.Fields.{form_end, form_size}
 use Rattle.dsdiff_core.specs.Files.{IsDsdiff}
-use Rattle.dsdiff_core.specs.Fronts.{HoldsHead, IsAccepted, answer_of, form_of, frames_of, leading_of, located, seek, size_at, sound_at, sound_behind, sound_from, sound_in, sound_told}
+use Rattle.dsdiff_core.specs.Fronts.{HoldsHead, IsAccepted, answer_of, form_of, frames_fit, leading_of, located, seek, size_at, sound_at, sound_with_head, sound_from, sound_in, stated_sound}
 use Rattle.dsdiff_core.specs.Kinds.{FRM8, has_id, is_property}
 use Rattle.dsdiff_core.specs.Properties.{property_of}
 use Rattle.dsdiff_core.specs.Spans.{span_has, top_kinds}
@@ -117,11 +117,11 @@ unlaced_count bytes n some =
     ap length (get_or-map-range_with_len (unlaced bytes n) 0 n 0 0 [] (omega arith) refl) ∙ length-map-range_with_len (laced_bit bytes n 0) 0 (8 * (length bytes / n))
 
 pub record Tells (front rest : List ℕ) (r : Content) (at : ℕ) : Type 0 where
-  pub told : sound_behind front at ≡ Ok (sound_told r.rate (length r.ids) at (size_at front at))
-  pub has : HasSound (front ++ rest) r (sound_told r.rate (length r.ids) at (size_at front at))
+  pub told : sound_with_head front at ≡ Ok (stated_sound r.rate (length r.ids) at (size_at front at))
+  pub has : HasSound (front ++ rest) r (stated_sound r.rate (length r.ids) at (size_at front at))
 
 tells : (front rest : List ℕ) (r : Content) (h : IsDsdiff (front ++ rest) r) (at : ℕ) → Led front rest 16 (form_end (front ++ rest)) h.top at → Tells front rest r at
-unfolding sound_behind leading_of
+unfolding sound_with_head leading_of
 tells front rest r h at l =
     let order = order_again h.top h.property h.sound h.property_then_sound h.property_is h.sound_is in
     let p = parted l.before l.later l.sound h.property h.sound l.none l.is_sound (ap (filter either) (sym l.is) ∙ h.property_then_sound) h.property_is in
@@ -141,7 +141,7 @@ tells front rest r h at l =
     let size_is : size_at front at ≡ length h.sound.content = sym (number_front 8 (at + 4) front rest (omega (arith, l.whole))) ∙ l.at_sound.size ∙ ap (λ (c : Chunk). length c.content) p.is_sound in
     let whole : size_at front at % length r.ids ≡ 0 = rw (size_is, number) h.whole in
     let short : 8 * (size_at front at / length r.ids) ≤ 2 ^ 36 = rw (size_is, number) h.not_long in
-    let frames : frames_of (size_at front at) (length r.ids) ≡ Ok tt = rw (eq-eqb (size_at front at % length r.ids) 0 whole, le-ltb (2 ^ 36) (8 * (size_at front at / length r.ids)) short) refl in
+    let frames : frames_fit (size_at front at) (length r.ids) ≡ Ok tt = rw (eq-eqb (size_at front at % length r.ids) 0 whole, le-ltb (2 ^ 36) (8 * (size_at front at / length r.ids)) short) refl in
     let own : length l.sound.content ≡ size_at front at = sym (size_is ∙ ap (λ (c : Chunk). length c.content) (sym p.is_sound)) in
     let bytes : List ℕ = take (size_at front at) (drop (at + 12) (front ++ rest)) in
     let content : h.sound.content ≡ bytes = ap (λ (c : Chunk). c.content) (sym p.is_sound) ∙ sym l.at_sound.content ∙ ap (λ (k : ℕ). take k (drop (at + 12) (front ++ rest))) own in
@@ -178,7 +178,7 @@ front_tells front rest r h = elim (cases_lt (length front) 16) [
         | inl wanted ↦ inr (rw (le-ltb (length front) 16 long, is_form, is_dsd, holds, wanted) refl)
         | inr found ↦
             let t = tells front rest r h found.0 found.2 in
-            inl (sound_told r.rate (length r.ids) found.0 (size_at front found.0), rw (le-ltb (length front) 16 long, is_form, is_dsd, holds, found.1, t.told) refl, t.has)
+            inl (stated_sound r.rate (length r.ids) found.0 (size_at front found.0), rw (le-ltb (length front) 16 long, is_form, is_dsd, holds, found.1, t.told) refl, t.has)
       ]
 ]
 
@@ -220,17 +220,17 @@ some_is s t e = cc
 none_some : (s : Sound) → done None ≡ done (Some s) → ⊥
 none_some s e = cc
 
-from_ok : (front : List ℕ) (place : Option ℕ) (s : Sound) → sound_from front place ≡ Ok (Some s) → (at : ℕ) × (place ≡ Some at) × (sound_behind front at ≡ Ok s)
+from_ok : (front : List ℕ) (place : Option ℕ) (s : Sound) → sound_from front place ≡ Ok (Some s) → (at : ℕ) × (place ≡ Some at) × (sound_with_head front at ≡ Ok s)
 from_ok front None s e = absurd (none_some s e)
 from_ok front (Some at) s e =
-    bind_then (sound_behind front at) (λ t. Ok (Some t)) (Some s) e (λ t e1 h1. (at, refl, e1 ∙ ap (λ (x : Sound). Ok x) (some_is t s h1)))
+    bind_then (sound_with_head front at) (λ t. Ok (Some t)) (Some s) e (λ t e1 h1. (at, refl, e1 ∙ ap (λ (x : Sound). Ok x) (some_is t s h1)))
 
 pub record Leads (front : List ℕ) (s : Sound) : Type 0 where
   pub long : 16 ≤ length front
   pub at : ℕ
   pub form : form_of front ≡ Ok tt
   pub sought : seek front ≡ Ok (Some at)
-  pub is : sound_behind front at ≡ Ok s
+  pub is : sound_with_head front at ≡ Ok s
 
 sound_ok : (front : List ℕ) (s : Sound) → sound_in front ≡ Ok (Some s) → Leads front s
 unfolding sound_in located
@@ -256,12 +256,12 @@ more_of (Err f) e = absurd cc
 pub found_leads : (front : List ℕ) (s : Sound) → sound_at front ≡ Found s → Leads front s
 found_leads front s e = sound_ok front s (found_of (sound_in front) s e)
 
-sound_limits : (front : List ℕ) (at : ℕ) (s : Sound) → sound_behind front at ≡ Ok s → IsSound s × (s.interleaving ≡ Bytes) × (s.count % 8 ≡ 0)
-unfolding sound_behind
+sound_limits : (front : List ℕ) (at : ℕ) (s : Sound) → sound_with_head front at ≡ Ok s → IsSound s × (s.interleaving ≡ Bytes) × (s.count % 8 ≡ 0)
+unfolding sound_with_head
 sound_limits front at s e =
     bind_then (leading_of front at) _ s e (λ top e1 h1.
     bind_then (property_of front top) _ s h1 (λ told e2 h2.
-    bind_then (frames_of (size_at front at) (length told.ids)) _ s h2 (λ u e3 h3.
+    bind_then (frames_fit (size_at front at) (length told.ids)) _ s h2 (λ u e3 h3.
     let p = property_ok front top told e2 in
     let size : ℕ = size_at front at in
     let n : ℕ = length told.ids in
@@ -270,7 +270,7 @@ sound_limits front at s e =
     let b = guard_ok (ltb (2 ^ 36) (8 * (size / n))) faults.TooLong (Ok tt) u a.1 in
     let whole : size % n ≡ 0 = eqb-true _ _ (not_false _ a.0) in
     let eighth : 8 * (size / n) / 8 ≡ size / n = omega arith in
-    let same : sound_told told.rate n at size ≡ s = cc (h3) in
+    let same : stated_sound told.rate n at size ≡ s = cc (h3) in
     subst (λ (t : Sound). IsSound t × (t.interleaving ≡ Bytes) × (t.count % 8 ≡ 0)) same (
       record {
         rate_low = p.is_told.rate_low;
@@ -285,13 +285,13 @@ sound_limits front at s e =
     ))))
 
 -- where the sound starts, and its size
-pub sound_is_at : (front : List ℕ) (at : ℕ) (s : Sound) → sound_behind front at ≡ Ok s → (s.start ≡ at + 12) × (s.size ≡ size_at front at)
-unfolding sound_behind
+pub sound_is_at : (front : List ℕ) (at : ℕ) (s : Sound) → sound_with_head front at ≡ Ok s → (s.start ≡ at + 12) × (s.size ≡ size_at front at)
+unfolding sound_with_head
 sound_is_at front at s e =
     bind_then (leading_of front at) _ s e (λ top e1 h1.
     bind_then (property_of front top) _ s h1 (λ told e2 h2.
-    bind_then (frames_of (size_at front at) (length told.ids)) _ s h2 (λ u e3 h3.
-    let same : sound_told told.rate (length told.ids) at (size_at front at) ≡ s = cc (h3) in
+    bind_then (frames_fit (size_at front at) (length told.ids)) _ s h2 (λ u e3 h3.
+    let same : stated_sound told.rate (length told.ids) at (size_at front at) ≡ s = cc (h3) in
     (ap (λ (x : Sound). x.start) (sym same), ap (λ (x : Sound). x.size) (sym same)))))
 
 pub in_limits : (front : List ℕ) (x : SoundAt) → x ≡ sound_at front → IfFound x (λ s. IsSound s × (s.interleaving ≡ Bytes) × (s.count % 8 ≡ 0))
@@ -325,7 +325,7 @@ not_wanted (Err f) e = absurd cc
 head_there : (front : List ℕ) (place : Option ℕ) → HoldsHead front → seek front ≡ Ok place → sound_from front place ≡ Ok None → ⊥
 unfolding seek
 head_there front None h e f = seek_ends (length front) 16 (form_size front) front h.at h.before h.are_before h.no_gap h.no_sound h.id h.whole (omega arith) e
-head_there front (Some at) h e f = not_wanted (sound_behind front at) f
+head_there front (Some at) h e f = not_wanted (sound_with_head front at) f
 
 more_wanted : (front : List ℕ) → HoldsHead front → sound_in front ≡ Ok None → ⊥
 unfolding sound_in located

@@ -15,8 +15,8 @@ use Rattle.dsdiff_core.specs.Files.{IsDsdiff}
 use Rattle.dsdiff_core.specs.Fronts.{EndsAt, form_of, seek, size_at}
 use Rattle.dsdiff_core.specs.Kinds.{FRM8}
 use Rattle.dsdiff_core.specs.Laws.{OtherSound}
-use Rattle.dsdiff_core.specs.Located.{EndsAtHead, sound_size}
-use Rattle.dsdiff_core.specs.SoundBytes.{with_sound}
+use Rattle.dsdiff_core.specs.Located.{EndsAtHead, stated_size}
+use Rattle.dsdiff_core.specs.SoundBytes.{read_with_sound}
 use Rattle.dsdiff_core.proofs.AnySound.{sound_is_free}
 use Rattle.dsdiff_core.proofs.FileLaws.{is_dsdiff, parts_again, parts_from, parts_ok}
 use Rattle.dsdiff_core.proofs.FrontLaws.{found_leads, if_found, sought_of, sound_is_at}
@@ -40,7 +40,7 @@ cut_at front rest at ends form s =
     let size : form_size (front ++ rest) ≡ form_size front = number_front 8 4 front rest (omega (arith, s.onward, ends)) in
     let range : slice_range (front ++ rest) 16 at ≡ slice_range front 16 at = part_front (at - 16) 16 front rest (omega (arith, s.onward, ends)) in
     let back : length front - 12 ≡ at = omega (arith, ends) in
-    let here : size_at (front ++ rest) at ≡ sound_size front = number_front 8 (at + 4) front rest (omega (arith, ends)) ∙ ap (size_at front) (sym back) in
+    let here : size_at (front ++ rest) at ≡ stated_size front = number_front 8 (at + 4) front rest (omega (arith, ends)) ∙ ap (size_at front) (sym back) in
     record {
       form = sym (part_front 4 0 front rest (omega (arith, s.onward, ends))) ∙ f.0;
       kind = sym (part_front 4 12 front rest (omega (arith, s.onward, ends))) ∙ f.1;
@@ -66,7 +66,7 @@ head_cut file at form sought =
     cut_at front rest at (sym (length-take-le (at + 12) file s.whole)) (ap form_of (sym whole) ∙ form) (subst (λ (bs : List ℕ). Sought bs 16 (form_size bs) at) whole s)
 
 -- a front that ends at its sound
-pub ends_at_head : (front : List ℕ) (s : Sound) → EndsAt front s → EndsAtHead front × (s.size ≡ sound_size front)
+pub ends_at_head : (front : List ℕ) (s : Sound) → EndsAt front s → EndsAtHead front × (s.size ≡ stated_size front)
 ends_at_head front s e =
     let lead = found_leads front s e.found in
     let place = sound_is_at front lead.at s lead.is in
@@ -81,7 +81,7 @@ other_sound front sound other back s r e size_s size_o h =
     let p = ends_at_head front s e in
     let file : List ℕ = front ++ (sound ++ back) in
     let sounds = (if_found front (Found s) (sym e.found)) (sound ++ back) r h in
-    let read = sound_is_free front sound other back p.0 (size_s ∙ p.1) (size_o ∙ p.1) ∙ ap (with_sound other) (parts_again file r (parts_from file r h)) in
+    let read = sound_is_free front sound other back p.0 (size_s ∙ p.1) (size_o ∙ p.1) ∙ ap (read_with_sound other) (parts_again file r (parts_from file r h)) in
     let named : length r.ids ≡ h.number = ap length h.ids ∙ length-map-range_with_len (λ k. take 4 (drop (4 * k) (drop 2 h.tells.names.content))) 0 h.number in
     let number : length r.ids ≡ s.channels = named ∙ sym (ap length h.channels ∙ length-map-range_with_len (unlaced h.sound.content h.number) 0 h.number) ∙ sounds.number in
     subst (λ (n : ℕ). IsDsdiff (front ++ (other ++ back)) (record r { channels = unlaced_all other n })) number (is_dsdiff (front ++ (other ++ back)) (record r { channels = unlaced_all other (length r.ids) }) (parts_ok (front ++ (other ++ back)) (record r { channels = unlaced_all other (length r.ids) }) read))

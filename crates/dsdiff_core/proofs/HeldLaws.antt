@@ -22,8 +22,8 @@ use Rattle.dsdiff_core.specs.declared.fault.DsdiffFault.{DsdiffFault}
 use Rattle.dsdiff_core.specs.declared.held.Held.{Held}
 use Rattle.dsdiff_core.specs.Fields.{form_end}
 use Rattle.dsdiff_core.specs.Fronts.{size_at}
-use Rattle.dsdiff_core.specs.Held.{IsAround, IsHeld, MayStand, StandsFor, StandsIn, held}
-use Rattle.dsdiff_core.specs.Located.{sound_size}
+use Rattle.dsdiff_core.specs.Held.{IsAround, IsHeld, MayBeInMemory, IsInMemoryFor, IsInMemory, held}
+use Rattle.dsdiff_core.specs.Located.{stated_size}
 use Rattle.dsdiff_core.specs.Steps.{Fails, chunk_fault, walked}
 use Rattle.dsdiff_core.proofs.AnySound.{end_fits}
 use Rattle.dsdiff_core.proofs.Alike.{spans_same}
@@ -49,7 +49,7 @@ back_part f at le =
     ap (λ n. drop n (held f)) here ∙ tail_is f.front.now zeros f.back.now (at - length f.front.now - f.hole)
 
 -- what is kept of a place is held
-pub kept_stands : (p : Place) (f : Held) (s : Span) → StandsFor p f s → has_part p s.id (span_chunk (held f) s).content ≡ false → StandsIn f s
+pub kept_stands : (p : Place) (f : Held) (s : Span) → IsInMemoryFor p f s → has_part p s.id (span_chunk (held f) s).content ≡ false → IsInMemory f s
 kept_stands Property f s h e = h
 kept_stands Master f s h e = h
 kept_stands Form f s (inl h) e = h
@@ -60,8 +60,8 @@ kept_stands Form f s (inr h) e = (let part : has_part Form s.id (span_chunk (hel
     not_true false e = absurd cc
 
 -- the chunks in the data of a chunk that is held are held
-pub inside_stand : (f : Held) (s : Span) (start stop : ℕ) (ss : List Span) → StandsIn f s → s.start ≤ start → stop ≤ s.start + s.size → All (LiesIn start stop) ss → All (StandsIn f) ss
-inside_stand f s start stop ss h low high all = All-weaker (LiesIn start stop) (StandsIn f) (λ x lies. record {
+pub inside_stand : (f : Held) (s : Span) (start stop : ℕ) (ss : List Span) → IsInMemory f s → s.start ≤ start → stop ≤ s.start + s.size → All (LiesIn start stop) ss → All (IsInMemory f) ss
+inside_stand f s start stop ss h low high all = All-weaker (LiesIn start stop) (IsInMemory f) (λ x lies. record {
   short = omega (arith, lies.ends, high, h.short);
   side = elim h.side [
     | inl front ↦ inl (omega (arith, lies.ends, high, front))
@@ -85,10 +85,10 @@ inside_spans f s start part low is =
     range_spans (held f) (slice_range part k (length part)) start (s.start + s.size) (sym (rest ∙ ap (drop k) content ∙ range_after (held f) s.start (s.start + s.size) k ∙ ap (λ n. slice_range (held f) n (s.start + s.size)) place))
 
 -- the data of a chunk are as long as it says
-pub may_long : (f : Held) (s : Span) → MayStand f s → length (span_chunk (held f) s).content ≡ s.size
+pub may_long : (f : Held) (s : Span) → MayBeInMemory f s → length (span_chunk (held f) s).content ≡ s.size
 may_long f s may = omega (arith, length-take s.size (drop s.start (held f)), length-drop s.start (held f), by may)
   where
-    by : MayStand f s → s.start + s.size ≤ length (held f)
+    by : MayBeInMemory f s → s.start + s.size ≤ length (held f)
     by (inr sound) = sound.1
     by (inl here) = elim here.side [
       | inl front ↦ omega (arith, front, held_long f)
@@ -99,8 +99,8 @@ may_long f s may = omega (arith, length-take s.size (drop s.start (held f)), len
 pub front_spans : (f : Held) (at : ℕ) → 16 ≤ at → at ≤ length f.front.now → spans_in (held f) 16 at ≡ spans_in f.front.now 16 at
 front_spans f at low high = spans_same (held f) f.front.now 16 at (front_part f 16 (at - 16) (omega (arith, low, high)))
 
-pub lead_may : (f : Held) (at : ℕ) (ss : List Span) → at < 2 ^ 64 → at ≤ length f.front.now → All (LiesIn 16 at) ss → All (MayStand f) ss
-lead_may f at ss few le all = All-weaker (LiesIn 16 at) (MayStand f) (λ s lies. inl (record { short = omega (arith, lies.ends, few); side = inl (omega (arith, lies.ends, le)) })) ss all
+pub lead_may : (f : Held) (at : ℕ) (ss : List Span) → at < 2 ^ 64 → at ≤ length f.front.now → All (LiesIn 16 at) ss → All (MayBeInMemory f) ss
+lead_may f at ss few le all = All-weaker (LiesIn 16 at) (MayBeInMemory f) (λ s lies. inl (record { short = omega (arith, lies.ends, few); side = inl (omega (arith, lies.ends, le)) })) ss all
 
 pub size_held : (f : Held) (at : ℕ) → at + 12 ≤ length f.front.now → size_at (held f) at ≡ size_at f.front.now at
 size_held f at le = number_front 8 (at + 4) f.front.now (replicate f.hole 0 ++ f.back.now) (omega arith)
@@ -131,7 +131,7 @@ module _ (f : Held) (a : IsAround f) (stop : ℕ) (is : stop ≡ form_end (held 
   abbrev pad : ℕ
   pad = min (f.hole % 2) (stop - behind)
 
-  zeros_long : length {A = ℕ} (replicate f.hole 0) ≡ sound_size f.front.now
+  zeros_long : length {A = ℕ} (replicate f.hole 0) ≡ stated_size f.front.now
   zeros_long = length-replicate {A = ℕ} f.hole 0 ∙ a.1
 
   pub around_end : (length f.front.now + f.hole ≤ stop) × (stop ≤ length f.front.now + f.hole + length f.back.now)
@@ -163,22 +163,22 @@ module _ (f : Held) (a : IsAround f) (stop : ℕ) (is : stop ≡ form_end (held 
 
   pub around_spans : spans_in (held f) 16 stop ≡ after (places 16 a.0.head.before ++ sound_span f.front.now a.0 ∷ []) (spans_at (behind + pad) (slice_range f.back.now pad (stop - behind)))
   around_spans =
-      let from : length f.front.now + sound_size f.front.now + sound_size f.front.now % 2 ≡ behind + f.hole % 2 = ap (λ (n : ℕ). length f.front.now + n + n % 2) (sym a.1) in
+      let from : length f.front.now + stated_size f.front.now + stated_size f.front.now % 2 ≡ behind + f.hole % 2 = ap (λ (n : ℕ). length f.front.now + n + n % 2) (sym a.1) in
       let lead : List Span = places 16 a.0.head.before ++ sound_span f.front.now a.0 ∷ [] in
       walk_across f.front.now a.0 (replicate f.hole 0) f.back.now zeros_long stop (omega (arith, around_end.0, length-replicate {A = ℕ} f.hole 0))
       ∙ ap (λ (n : ℕ). after lead (spans_in (held f) n stop)) from ∙ ap (after lead) later_spans
 
   -- chunks in the front, the sound, and chunks behind it
-  pub front_may : (ss : List Span) → All (LiesIn 16 (length f.front.now - 12)) ss → All (MayStand f) ss
-  front_may ss all = All-weaker (LiesIn 16 (length f.front.now - 12)) (MayStand f) (λ s lies. inl (record { short = omega (arith, lies.ends, a.2); side = inl (omega (arith, lies.ends)) })) ss all
+  pub front_may : (ss : List Span) → All (LiesIn 16 (length f.front.now - 12)) ss → All (MayBeInMemory f) ss
+  front_may ss all = All-weaker (LiesIn 16 (length f.front.now - 12)) (MayBeInMemory f) (λ s lies. inl (record { short = omega (arith, lies.ends, a.2); side = inl (omega (arith, lies.ends)) })) ss all
 
-  pub later_may : (ss : List Span) (from : ℕ) (part : List ℕ) → behind ≤ from → from + length part ≤ stop → All (LiesIn from (from + length part)) ss → All (MayStand f) ss
-  later_may ss from part low high all = All-weaker (LiesIn from (from + length part)) (MayStand f) (λ s lies. inl (record {
+  pub later_may : (ss : List Span) (from : ℕ) (part : List ℕ) → behind ≤ from → from + length part ≤ stop → All (LiesIn from (from + length part)) ss → All (MayBeInMemory f) ss
+  later_may ss from part low high all = All-weaker (LiesIn from (from + length part)) (MayBeInMemory f) (λ s lies. inl (record {
     short = omega (arith, lies.ends, high, around_end.1, a.2);
     side = inr (omega (arith, lies.begins, low), omega (arith, lies.ends, high, around_end.1));
   })) ss all
 
-  pub sound_may : MayStand f (record { id = DSD; start = length f.front.now; size = f.hole })
+  pub sound_may : MayBeInMemory f (record { id = DSD; start = length f.front.now; size = f.hole })
   sound_may = inr (refl, omega (arith, held_long f))
 
 -- the place of a sound

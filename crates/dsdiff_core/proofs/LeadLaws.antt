@@ -13,7 +13,7 @@ use Rattle.chunk_core.proofs.ReadingLaws.{First, first_joins, first_parts}
 use Rattle.dsd_bits.specs.Ids.{same_id, DSD}
 use Rattle.dsdiff_core.specs.declared.fault.DsdiffFault.{DsdiffFault}
 use Rattle.dsdiff_core.specs.declared.fault.DsdiffFault.TheVariants as faults
-use Rattle.dsdiff_core.specs.Fronts.{behind, seek_for, size_at}
+use Rattle.dsdiff_core.specs.Fronts.{place_after, seek_for, size_at}
 use Rattle.dsdiff_core.specs.Kinds.{has_id}
 use Rattle.dsdiff_core.proofs.KindLaws.{bool_cases, id_is}
 
@@ -96,7 +96,7 @@ pub record Led (front rest : List ℕ) (from stop : ℕ) (cs : List Chunk) (at :
   pub none : filter (has_id DSD) before ≡ []
   pub is_sound : has_id DSD sound ≡ true
   pub are_before : chunks (slice_range front from at) before
-  pub no_gap : behind from before ≡ at
+  pub no_gap : place_after from before ≡ at
   pub onward : from ≤ at
   pub whole : at + 12 ≤ length front
   pub at_sound : At (front ++ rest) at stop sound
@@ -191,12 +191,12 @@ none_first c cs e = elim (bool_cases (has_id DSD c)) [
   | inr other ↦ (other, rw other at e)
 ]
 
-pub behind_on : (at : ℕ) (cs : List Chunk) → at ≤ behind at cs
+pub behind_on : (at : ℕ) (cs : List Chunk) → at ≤ place_after at cs
 behind_on at [] = omega arith
 behind_on at (c ∷ cs) = omega (arith, behind_on (at + width c) cs)
 
 -- more bytes are wanted only where the head of the sound is not there
-pub seek_ends : (steps from size : ℕ) (front : List ℕ) (at : ℕ) (before : List Chunk) → chunks (slice_range front from at) before → behind from before ≡ at → filter (has_id DSD) before ≡ [] → take 4 (drop at front) ≡ DSD → at + 12 ≤ length front
+pub seek_ends : (steps from size : ℕ) (front : List ℕ) (at : ℕ) (before : List Chunk) → chunks (slice_range front from at) before → place_after from before ≡ at → filter (has_id DSD) before ≡ [] → take 4 (drop at front) ≡ DSD → at + 12 ≤ length front
     → length front < from + steps → seek_for steps from front size ≡ Ok None → ⊥
 unfolding seek_for
 seek_ends zero from size front at [] h gap none id whole enough e = absurd (omega (arith, gap))
@@ -233,7 +233,7 @@ seek_ends (suc steps) from size front at (c ∷ cs) h gap none id whole enough e
 pub record Sought (front : List ℕ) (from size at : ℕ) : Type 0 where
   pub before : List Chunk
   pub are_before : chunks (slice_range front from at) before
-  pub no_gap : behind from before ≡ at
+  pub no_gap : place_after from before ≡ at
   pub none : filter (has_id DSD) before ≡ []
   pub onward : from ≤ at
   pub whole : at + 12 ≤ length front
@@ -273,7 +273,7 @@ sought_on front from size at held other s =
     record {
       before = c ∷ s.before;
       are_before = range_joins front from at c s.before here (subst (λ (k : ℕ). chunks (slice_range front k at) s.before) next s.are_before);
-      no_gap = subst (λ (k : ℕ). behind k s.before ≡ at) next s.no_gap;
+      no_gap = subst (λ (k : ℕ). place_after k s.before ≡ at) next s.no_gap;
       none = rw other s.none;
       onward = omega (arith, s.onward);
       whole = s.whole;
@@ -305,7 +305,7 @@ seek_ok (suc steps) from size front at e = elim (cases_lt size from) [
 ]
 
 -- and such a head is found
-pub seek_again : (steps from size : ℕ) (front : List ℕ) (at : ℕ) (before : List Chunk) → chunks (slice_range front from at) before → behind from before ≡ at → filter (has_id DSD) before ≡ [] → take 4 (drop at front) ≡ DSD → at + 12 ≤ length front
+pub seek_again : (steps from size : ℕ) (front : List ℕ) (at : ℕ) (before : List Chunk) → chunks (slice_range front from at) before → place_after from before ≡ at → filter (has_id DSD) before ≡ [] → take 4 (drop at front) ≡ DSD → at + 12 ≤ length front
     → from ≤ at → at + size_at front at ≤ size → length front < from + steps → seek_for steps from front size ≡ Ok (Some at)
 unfolding seek_for
 seek_again zero from size front at before h gap none id whole onward fits enough = absurd (omega arith)

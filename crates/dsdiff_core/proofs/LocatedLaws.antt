@@ -11,8 +11,8 @@ use Rattle.dsdiff_core.specs.declared.fault.DsdiffFault.TheVariants as faults
 use Rattle.dsdiff_core.specs.declared.locating.Located.{Located}
 use Rattle.dsdiff_core.specs.declared.locating.Located.TheVariants as answers
 use Rattle.dsdiff_core.specs.Fields.{form_end, form_size}
-use Rattle.dsdiff_core.specs.Forms.{end_of, top_of}
-use Rattle.dsdiff_core.specs.Fronts.{answer_of, form_of, located, seek, sound_at, sound_behind, sound_from, sound_in}
+use Rattle.dsdiff_core.specs.Forms.{form_end_in, top_of}
+use Rattle.dsdiff_core.specs.Fronts.{answer_of, form_of, located, seek, sound_at, sound_with_head, sound_from, sound_in}
 use Rattle.dsdiff_core.specs.Kinds.{FRM8}
 use Rattle.dsdiff_core.specs.Reading.{recording_of}
 use Rattle.dsdiff_core.specs.Walks.{IsLocated, IsTold, without_fault}
@@ -51,17 +51,17 @@ abbrev told_by : Result Sound DsdiffFault → Result (Option Sound) DsdiffFault
 told_by r = r >>= λ s. Ok (Some s)
 
 module _ (front : List ℕ) (at : ℕ) (long : 16 ≤ length front) (form : form_of front ≡ Ok tt) (sought : seek front ≡ Ok (Some at)) where
-  behind_is : (told : Result Sound DsdiffFault) → sound_behind front at ≡ told → sound_at front ≡ answer_of (told_by told)
+  behind_is : (told : Result Sound DsdiffFault) → sound_with_head front at ≡ told → sound_at front ≡ answer_of (told_by told)
   behind_is told e = sound_by front (Ok (Some at)) (sought_is front (Ok (Some at)) long form sought) ∙ ap (λ (r : Result Sound DsdiffFault). answer_of (told_by r)) e
 
-  pub told_exact : (x : Located) → IsTold (sound_behind front at) at x → without_fault x ≡ sound_at front
+  pub told_exact : (x : Located) → IsTold (sound_with_head front at) at x → without_fault x ≡ sound_at front
   told_exact (answers.Found s) h = sym (behind_is (Ok s) h)
   told_exact (answers.More place) h = absurd h
   told_exact (answers.Refused e) h = absurd h
   told_exact (answers.Untold place) h = sym (behind_is (Err h.1.0) h.1.1)
   told_exact answers.NoSound h = absurd h
 
-  pub told_located : (x : Located) → IsTold (sound_behind front at) at x → IsLocated front x
+  pub told_located : (x : Located) → IsTold (sound_with_head front at) at x → IsLocated front x
   told_located (answers.Found s) h = behind_is (Ok s) h
   told_located (answers.More place) h = absurd h
   told_located (answers.Refused e) h = absurd h
@@ -82,13 +82,13 @@ end_by true false c d n e h = err_same (Unit {0}) ℕ faults.NotDsdiff e h
 end_by true true true d n e h = err_same (Unit {0}) ℕ faults.FormCut e h
 end_by true true false d n e h = absurd cc
 
-end_refused : (file : List ℕ) (e : DsdiffFault) → 16 ≤ length file → form_of file ≡ Err e → end_of file ≡ Err e
-unfolding form_of end_of
+end_refused : (file : List ℕ) (e : DsdiffFault) → 16 ≤ length file → form_of file ≡ Err e → form_end_in file ≡ Err e
+unfolding form_of form_end_in
 end_refused file e long form =
     rw (le-ltb (length file) 16 long)
     (end_by (same_id (take 4 file) FRM8) (same_id (take 4 (drop 12 file)) DSD) (ltb (form_size file) 4) (ltb (length file + 1) (12 + form_size file)) (form_end file) e form)
 
-pub end_is_read : (file : List ℕ) (e : DsdiffFault) → end_of file ≡ Err e → recording_of file ≡ Err e
+pub end_is_read : (file : List ℕ) (e : DsdiffFault) → form_end_in file ≡ Err e → recording_of file ≡ Err e
 unfolding recording_of top_of
 end_is_read file e h = rw h refl
 

@@ -14,7 +14,7 @@ use Rattle.dsd_bits.specs.Ids.{DIIN}
 use Rattle.dsdiff_core.specs.declared.fault.DsdiffFault.TheVariants as faults
 use Rattle.dsdiff_core.specs.Files.{joined}
 use Rattle.dsdiff_core.specs.Kinds.{has_id}
-use Rattle.dsdiff_core.specs.Masters.{has_no_cut_mark, is_no_cut_mark, master_of, masters_of}
+use Rattle.dsdiff_core.specs.Masters.{has_no_cut_mark, is_no_cut_mark, chunks_of_master, masters_of}
 use Rattle.dsdiff_core.specs.Steps.{walked}
 use Rattle.dsdiff_core.proofs.KindLaws.{and_both, bool_cases}
 use Rattle.dsdiff_core.proofs.MasterLoop.{none_cut}
@@ -34,8 +34,8 @@ pub record AreMasters (file : List ℕ) (top spans : List Span) : Type 0 where
 pub whole_range : (file : List ℕ) (s : Span) → slice_range file s.start (s.start + s.size) ≡ (span_chunk file s).content
 whole_range file s = let size : s.start + s.size - s.start ≡ s.size = omega arith in ap (λ (n : ℕ). take n (drop s.start file)) size
 
-master_ok : (file : List ℕ) (s : Span) (inner : List Span) → master_of file s ≡ Ok inner → chunks (span_chunk file s).content (map (span_chunk file) inner) × (has_no_cut_mark (map (span_chunk file) inner) ≡ true)
-unfolding master_of
+master_ok : (file : List ℕ) (s : Span) (inner : List Span) → chunks_of_master file s ≡ Ok inner → chunks (span_chunk file s).content (map (span_chunk file) inner) × (has_no_cut_mark (map (span_chunk file) inner) ≡ true)
+unfolding chunks_of_master
 master_ok file s inner e =
     bind_then (walked (spans_in file s.start (s.start + s.size))) _ inner e (λ x h k.
     let f = under_ok (has_no_cut_mark (map (span_chunk file) x)) x inner faults.BadMark k in
@@ -47,9 +47,9 @@ pub masters_ok : (file : List ℕ) (ss inner : List Span) → masters_of file ss
 unfolding masters_of
 masters_ok file [] inner e = let none : [] ≡ inner = cc (e) in rw (← none) (record { masters = []; each = tt; inner = refl; none_is_cut = refl })
 masters_ok file (s ∷ ss) inner e =
-    elim (chosen (has_id DIIN (span_chunk file s)) (master_of file s >>= λ own. masters_of file ss >>= λ rest. Ok (own ++ rest)) (masters_of file ss) (Ok inner) e) [
+    elim (chosen (has_id DIIN (span_chunk file s)) (chunks_of_master file s >>= λ own. masters_of file ss >>= λ rest. Ok (own ++ rest)) (masters_of file ss) (Ok inner) e) [
       | inl h ↦
-          bind_then (master_of file s) _ inner h.1 (λ own a k.
+          bind_then (chunks_of_master file s) _ inner h.1 (λ own a k.
           bind_then (masters_of file ss) _ inner k (λ rest b m.
           let same : own ++ rest ≡ inner = cc (m) in
           let ih = masters_ok file ss rest b in
@@ -74,8 +74,8 @@ front_uncut (c ∷ cs) ds e =
     let q = front_uncut cs ds p.1 in
     (rw (p.0, q.0) refl, q.1)
 
-master_again : (file : List ℕ) (s : Span) (cs : List Chunk) → chunks (span_chunk file s).content cs → has_no_cut_mark cs ≡ true → (own : List Span) × (master_of file s ≡ Ok own) × (map (span_chunk file) own ≡ cs)
-unfolding master_of
+master_again : (file : List ℕ) (s : Span) (cs : List Chunk) → chunks (span_chunk file s).content cs → has_no_cut_mark cs ≡ true → (own : List Span) × (chunks_of_master file s ≡ Ok own) × (map (span_chunk file) own ≡ cs)
+unfolding chunks_of_master
 master_again file s cs h e =
     let g = spans_again file s.start (s.start + s.size) cs (subst (λ (bytes : List ℕ). chunks bytes cs) (sym (whole_range file s)) h) in
     let uncut : has_no_cut_mark (map (span_chunk file) (places s.start cs)) ≡ true = rw g.1 e in

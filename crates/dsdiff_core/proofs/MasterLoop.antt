@@ -7,7 +7,7 @@ use Rattle.chunk_core.specs.Steps.{◌>>=◌}
 use Rattle.dsd_bits.specs.Ids.{DIIN}
 use Rattle.dsdiff_core.specs.declared.fault.DsdiffFault.{DsdiffFault}
 use Rattle.dsdiff_core.specs.Kinds.{has_id}
-use Rattle.dsdiff_core.specs.Masters.{has_no_cut_mark, is_no_cut_mark, master_of, masters_of}
+use Rattle.dsdiff_core.specs.Masters.{has_no_cut_mark, is_no_cut_mark, chunks_of_master, masters_of}
 use Rattle.dsdiff_core.specs.Steps.{Fails}
 use Rattle.dsdiff_core.proofs.Steps.{step_fails}
 
@@ -20,7 +20,7 @@ regroup front inner (Ok r) = ap (λ (ds : List Span). Ok ds) (simp append_assoc)
 regroup front inner (Err f) = refl
 
 abbrev step : List ℕ → Span → Result (List Span) DsdiffFault → Result (List Span) DsdiffFault
-step file s later = cond (has_id DIIN (span_chunk file s)) (master_of file s >>= λ inner. later >>= λ rest. Ok (inner ++ rest)) later
+step file s later = cond (has_id DIIN (span_chunk file s)) (chunks_of_master file s >>= λ inner. later >>= λ rest. Ok (inner ++ rest)) later
 
 masters_more : (file : List ℕ) (ss : List Span) (i : ℕ) (d : Span) → i < length ss → masters_of file (drop i ss) ≡ step file (get_or ss i d) (masters_of file (drop (i + 1) ss))
 unfolding masters_of
@@ -31,7 +31,7 @@ unfolding masters_of
 masters_end file ss i front le = at_drop_all (λ (xs : List Span). with_front front (masters_of file xs)) ss i le ∙ ap (λ (x : List Span). Ok x) (append-nil front)
 
 pub goes_on : (file : List ℕ) (ss : List Span) (i : ℕ) (d : Span) (front inner : List Span) (total : Result (List Span) DsdiffFault) → i < length ss → has_id DIIN (span_chunk file (get_or ss i d)) ≡ true
-    → master_of file (get_or ss i d) ≡ Ok inner → with_front front (masters_of file (drop i ss)) ≡ total → with_front (front ++ inner) (masters_of file (drop (i + 1) ss)) ≡ total
+    → chunks_of_master file (get_or ss i d) ≡ Ok inner → with_front front (masters_of file (drop i ss)) ≡ total → with_front (front ++ inner) (masters_of file (drop (i + 1) ss)) ≡ total
 goes_on file ss i d front inner total lt is m so_far =
     let one : with_front front (masters_of file (drop i ss)) ≡ with_front (front ++ inner) (masters_of file (drop (i + 1) ss)) =
     rw (masters_more file ss i d lt, is, m) (regroup front inner (masters_of file (drop (i + 1) ss))) in
@@ -44,10 +44,10 @@ passes_on file ss i d front total lt other so_far =
     sym one ∙ so_far
 
 pub master_fails : (e : DsdiffFault) (file : List ℕ) (ss : List Span) (i : ℕ) (d : Span) (front : List Span) (total : Result (List Span) DsdiffFault) → i < length ss → has_id DIIN (span_chunk file (get_or ss i d)) ≡ true
-    → Fails e (master_of file (get_or ss i d)) → with_front front (masters_of file (drop i ss)) ≡ total → Fails e total
+    → Fails e (chunks_of_master file (get_or ss i d)) → with_front front (masters_of file (drop i ss)) ≡ total → Fails e total
 master_fails e file ss i d front total lt is h so_far =
     let s : Span = get_or ss i d in
-    let a : Fails e (master_of file s >>= λ inner. masters_of file (drop (i + 1) ss) >>= λ rest. Ok (inner ++ rest)) = step_fails e (master_of file s) _ h in
+    let a : Fails e (chunks_of_master file s >>= λ inner. masters_of file (drop (i + 1) ss) >>= λ rest. Ok (inner ++ rest)) = step_fails e (chunks_of_master file s) _ h in
     let b : Fails e (masters_of file (drop i ss)) = rw (masters_more file ss i d lt, is) a in
     subst (λ (r : Result (List Span) DsdiffFault). Fails e r) so_far (step_fails e (masters_of file (drop i ss)) _ b)
 

@@ -11,7 +11,7 @@ use Rattle.chunk_core.proofs.Steps.{bind_ok, bind_then, guard_ok}
 use Rattle.dsd_bits.specs.Ids.{same_id, FS, CHNL, CMPR, DSD}
 use Rattle.dsdiff_core.specs.declared.fault.DsdiffFault.TheVariants as faults
 use Rattle.dsdiff_core.specs.Fields.{ids_in}
-use Rattle.dsdiff_core.specs.Properties.{Told, fields_of, limits_of, names_of, property_of, rate_of, raw_of}
+use Rattle.dsdiff_core.specs.Properties.{Told, fields_of, limits_of, ids_and_number, property_of, rate_of, raw_of}
 use Rattle.dsdiff_core.specs.Spans.{data_with, holds_property, once_each, property_kinds, span_has}
 use Rattle.dsdiff_core.specs.Steps.{some_or, walked}
 use Rattle.dsdiff_core.proofs.KindLaws.{id_is}
@@ -34,7 +34,7 @@ rate_ok : (o : Option (List ℕ)) (n : ℕ) → rate_of o ≡ Ok n → (bytes : 
 rate_ok None n e = absurd cc
 rate_ok (Some bytes) n e = let a = guard_ok _ _ _ _ e in let same : big_number 4 bytes ≡ n = cc (a.1) in (bytes, refl, ltb-false _ _ a.0, sym same)
 
-names_ok : (o : Option (List ℕ)) (x : ℕ × List ℕ) → names_of o ≡ Ok x → (bytes : List ℕ) × (o ≡ Some bytes) × (2 + 4 * big_number 2 bytes ≤ length bytes) × (x ≡ (big_number 2 bytes, drop 2 bytes))
+names_ok : (o : Option (List ℕ)) (x : ℕ × List ℕ) → ids_and_number o ≡ Ok x → (bytes : List ℕ) × (o ≡ Some bytes) × (2 + 4 * big_number 2 bytes ≤ length bytes) × (x ≡ (big_number 2 bytes, drop 2 bytes))
 names_ok None x e = absurd cc
 names_ok (Some bytes) x e =
     let made : ℕ × List ℕ = (big_number 2 bytes, drop 2 bytes) in
@@ -61,7 +61,7 @@ fields_ok : (rates names kinds : Option (List ℕ)) (x : ℕ × List (List ℕ))
 unfolding fields_of
 fields_ok rates names kinds x e =
     let a = bind_ok (rate_of rates) _ _ e in
-    let b = bind_ok (names_of names) _ _ a.2 in
+    let b = bind_ok (ids_and_number names) _ _ a.2 in
     let c = bind_ok (raw_of kinds) _ _ b.2 in
     let d = bind_ok (limits_of a.0 b.0.0) _ _ c.2 in
     let r = rate_ok rates a.0 a.1 in

@@ -9,8 +9,8 @@ use Rattle.chunk_core.proofs.Steps.{guard_ok}
 use Rattle.dsd_bits.specs.Ids.{DSD}
 use Rattle.dsdiff_core.specs.declared.fault.DsdiffFault.{DsdiffFault}
 use Rattle.dsdiff_core.specs.declared.fault.DsdiffFault.TheVariants as faults
-use Rattle.dsdiff_core.specs.Fronts.{frames_of}
-use Rattle.dsdiff_core.specs.Sounds.{count_told, sound_leads, sound_of}
+use Rattle.dsdiff_core.specs.Fronts.{frames_fit}
+use Rattle.dsdiff_core.specs.Sounds.{stated_count, sound_leads, bytes_of_sound}
 use Rattle.dsdiff_core.specs.Spans.{span_has}
 use Rattle.dsdiff_core.proofs.Steps.{not_false}
 
@@ -20,7 +20,7 @@ pub record IsSound (leads : Bool) (bytes : List ℕ) (number : ℕ) : Type 0 whe
   pub whole : length bytes % number ≡ 0
   pub not_long : 8 * (length bytes / number) ≤ 2 ^ 36
 
-pub sound_ok : (leads : Bool) (o : Option (List ℕ)) (n : ℕ) (x : List ℕ) → sound_of leads o n ≡ Ok x → (o ≡ Some x) × IsSound leads x n
+pub sound_ok : (leads : Bool) (o : Option (List ℕ)) (n : ℕ) (x : List ℕ) → bytes_of_sound leads o n ≡ Ok x → (o ≡ Some x) × IsSound leads x n
 sound_ok leads None n x e = absurd cc
 sound_ok leads (Some bytes) n x e =
     let a = guard_ok _ _ _ _ e in
@@ -29,16 +29,16 @@ sound_ok leads (Some bytes) n x e =
     let same : bytes ≡ x = cc (c.1) in
     subst (λ (y : List ℕ). (Some bytes ≡ Some y) × IsSound leads y n) same (refl, record { behind = a.0; whole = eqb-true _ _ (not_false _ b.0); not_long = ltb-false _ _ c.0 })
 
-pub sound_again : (leads : Bool) (bytes : List ℕ) (n : ℕ) → IsSound leads bytes n → sound_of leads (Some bytes) n ≡ Ok bytes
+pub sound_again : (leads : Bool) (bytes : List ℕ) (n : ℕ) → IsSound leads bytes n → bytes_of_sound leads (Some bytes) n ≡ Ok bytes
 sound_again leads bytes n s = rw (s.behind, s.whole, le-ltb (2 ^ 36) (8 * (length bytes / n)) s.not_long) refl
 
 -- the count of the sound that is found behind the property
 abbrev counts : ℕ → Result ℕ DsdiffFault
 counts n = Ok n
 
-counted : (bytes : List ℕ) (size n : ℕ) → length bytes ≡ size → (sound_of false (Some bytes) n >>= λ (sound : List ℕ). counts (8 * (length sound / n))) ≡ (frames_of size n >>= λ (u : Unit {0}). counts (8 * (size / n)))
+counted : (bytes : List ℕ) (size n : ℕ) → length bytes ≡ size → (bytes_of_sound false (Some bytes) n >>= λ (sound : List ℕ). counts (8 * (length sound / n))) ≡ (frames_fit size n >>= λ (u : Unit {0}). counts (8 * (size / n)))
 counted bytes size n e =
-    subst (λ (k : ℕ). (sound_of false (Some bytes) n >>= λ (sound : List ℕ). counts (8 * (length sound / n))) ≡ (frames_of k n >>= λ (u : Unit {0}). counts (8 * (k / n)))) e (by (not (eqb (length bytes % n) 0)) (ltb (2 ^ 36) (8 * (length bytes / n))))
+    subst (λ (k : ℕ). (bytes_of_sound false (Some bytes) n >>= λ (sound : List ℕ). counts (8 * (length sound / n))) ≡ (frames_fit k n >>= λ (u : Unit {0}). counts (8 * (k / n)))) e (by (not (eqb (length bytes % n) 0)) (ltb (2 ^ 36) (8 * (length bytes / n))))
   where
     by : (a b : Bool) → (cond a (Err faults.PartFrame) (cond b (Err faults.TooLong) (Ok bytes)) >>= λ (sound : List ℕ). counts (8 * (length sound / n))) ≡ (cond a (Err faults.PartFrame) (cond b (Err faults.TooLong) (Ok tt)) >>= λ (u : Unit {0}). counts (8 * (length bytes / n)))
     by true b = refl
@@ -46,5 +46,5 @@ counted bytes size n e =
     by false false = refl
 
 pub count_is : (file : List ℕ) (top : List Span) (n : ℕ) (s : Span) → find (span_has DSD) top ≡ Some s → sound_leads (map (span_chunk file) top) ≡ false → length (span_chunk file s).content ≡ s.size
-    → count_told file top n ≡ (frames_of s.size n >>= λ (u : Unit {0}). counts (8 * (s.size / n)))
+    → stated_count file top n ≡ (frames_fit s.size n >>= λ (u : Unit {0}). counts (8 * (s.size / n)))
 count_is file top n s found behind size = rw (found, behind) (counted (span_chunk file s).content s.size n size)

@@ -19,10 +19,10 @@ use Rattle.dsdiff_core.specs.declared.fault.DsdiffFault.{DsdiffFault}
 use Rattle.dsdiff_core.specs.declared.fault.DsdiffFault.TheVariants as faults
 use Rattle.dsdiff_core.specs.Fields.{form_size, ids_in}
 use Rattle.dsdiff_core.specs.Files.{IsDsdiff}
-use Rattle.dsdiff_core.specs.Forms.{version_of}
-use Rattle.dsdiff_core.specs.Fronts.{TellsSound, answer_of, form_of, frames_of, leading_of, located, seek, size_at, sound_at, sound_behind, sound_in, sound_told}
+use Rattle.dsdiff_core.specs.Forms.{known_version}
+use Rattle.dsdiff_core.specs.Fronts.{StatesSound, answer_of, form_of, frames_fit, leading_of, located, seek, size_at, sound_at, sound_with_head, sound_in, stated_sound}
 use Rattle.dsdiff_core.specs.Kinds.{FRM8, has_id, is_property}
-use Rattle.dsdiff_core.specs.Laws.{FoundIsTold, SoundIsTold}
+use Rattle.dsdiff_core.specs.Laws.{FoundIsStated, SoundIsStated}
 use Rattle.dsdiff_core.specs.Properties.{property_of}
 use Rattle.dsdiff_core.specs.Spans.{once_each, span_has, top_kinds}
 use Rattle.dsdiff_core.specs.Steps.{walked}
@@ -46,7 +46,7 @@ leading_ok : (front : List ℕ) (at : ℕ) (top : List Span) → leading_of fron
 unfolding leading_of
 leading_ok front at top e =
     bind_then (walked (spans_in front 16 at)) _ top e (λ found e1 h1.
-    bind_then (version_of (map (span_chunk front) found)) _ top h1 (λ u e2 h2.
+    bind_then (known_version (map (span_chunk front) found)) _ top h1 (λ u e2 h2.
     bind_then (once_each (top_kinds front) [] found) _ top h2 (λ w e3 h3.
     let same : found ≡ top = cc (h3) in
     subst (IsLeading front at) same (record {
@@ -68,7 +68,7 @@ form_ok front e =
     let b = guard_ok _ _ _ _ a.1 in
     (id_is _ _ (not_false _ a.0), id_is _ _ (not_false _ b.0))
 
-frames_ok : (size number : ℕ) (u : Unit {0}) → frames_of size number ≡ Ok u → (size % number ≡ 0) × (8 * (size / number) ≤ 2 ^ 36)
+frames_ok : (size number : ℕ) (u : Unit {0}) → frames_fit size number ≡ Ok u → (size % number ≡ 0) × (8 * (size / number) ≤ 2 ^ 36)
 frames_ok size number u e =
     let a = guard_ok (not (eqb (size % number) 0)) faults.PartFrame (cond (ltb (2 ^ 36) (8 * (size / number))) (Err faults.TooLong) (Ok tt)) u e in
     let b = guard_ok (ltb (2 ^ 36) (8 * (size / number))) faults.TooLong (Ok tt) u a.1 in
@@ -77,19 +77,19 @@ frames_ok size number u e =
 same_spans : (ss rs : List Span) → (let x : Result (List Span) ChunkFault = Ok ss in x) ≡ Ok rs → ss ≡ rs
 same_spans ss rs e = cc
 
-told_at : (front : List ℕ) (at : ℕ) (s : Sound) → (take 4 front ≡ FRM8) × (take 4 (drop 12 front) ≡ DSD) → Sought front 16 (form_size front) at → sound_behind front at ≡ Ok s → TellsSound front s
-unfolding sound_behind
+told_at : (front : List ℕ) (at : ℕ) (s : Sound) → (take 4 front ≡ FRM8) × (take 4 (drop 12 front) ≡ DSD) → Sought front 16 (form_size front) at → sound_with_head front at ≡ Ok s → StatesSound front s
+unfolding sound_with_head
 told_at front at s form t e =
     bind_then (leading_of front at) _ s e (λ top e1 h1.
     bind_then (property_of front top) _ s h1 (λ told e2 h2.
-    bind_then (frames_of (size_at front at) (length told.ids)) _ s h2 (λ u e3 h3.
+    bind_then (frames_fit (size_at front at) (length told.ids)) _ s h2 (λ u e3 h3.
     let l = leading_ok front at top e1 in
     let p = property_ok front top told e2 in
     let f = frames_ok (size_at front at) (length told.ids) u e3 in
-    let same : sound_told told.rate (length told.ids) at (size_at front at) ≡ s = cc (h3) in
+    let same : stated_sound told.rate (length told.ids) at (size_at front at) ≡ s = cc (h3) in
     let again = spans_again front 16 at t.before t.are_before in
     let is_top : map (span_chunk front) top ≡ t.before = ap (map (span_chunk front)) (same_spans top (places 16 t.before) (sym l.spans ∙ again.0)) ∙ again.1 in
-    subst (TellsSound front) same (record {
+    subst (StatesSound front) same (record {
       form = form.0;
       kind = form.1;
       at = at;
@@ -117,7 +117,7 @@ told_at front at s form t e =
       interleaving = refl;
     }))))
 
-found_told : (front : List ℕ) (s : Sound) → sound_at front ≡ Found s → TellsSound front s
+found_told : (front : List ℕ) (s : Sound) → sound_at front ≡ Found s → StatesSound front s
 found_told front s e =
     let l = found_leads front s e in
     told_at front l.at s (form_ok front l.form) (sought_of front l.at l.sought) l.is
@@ -131,8 +131,8 @@ form_again front form kind holds = rw (same_again (take 4 front) FRM8 refl form,
 abbrev done : Sound → Result Sound DsdiffFault
 done s = Ok s
 
-behind_again : (front : List ℕ) (s : Sound) (t : TellsSound front s) → sound_behind front t.at ≡ Ok s
-unfolding sound_behind
+behind_again : (front : List ℕ) (s : Sound) (t : StatesSound front s) → sound_with_head front t.at ≡ Ok s
+unfolding sound_with_head
 behind_again front s t =
     let top : List Span = places 16 t.before in
     let again = spans_again front 16 t.at t.before t.are_before in
@@ -157,15 +157,15 @@ behind_again front s t =
     let count : 8 * (size / length ids) ≡ s.count = ap (λ (k : ℕ). 8 * (size / k)) number ∙ ap (λ (k : ℕ). 8 * (k / s.channels)) (sym t.size) ∙ sym t.count in
     let whole : size % length ids ≡ 0 = ap (λ (k : ℕ). size % k) number ∙ ap (λ (k : ℕ). k % s.channels) (sym t.size) ∙ t.whole in
     let short : 8 * (size / length ids) ≤ 2 ^ 36 = subst (λ (k : ℕ). k ≤ 2 ^ 36) (sym count) t.not_long in
-    let frames : frames_of size (length ids) ≡ Ok tt = rw (eq-eqb (size % length ids) 0 whole, le-ltb (2 ^ 36) (8 * (size / length ids)) short) refl in
-    let same : sound_told s.rate (length ids) t.at size ≡ s = λ i. record { rate = s.rate; channels = number i; count = count i; start = sym t.start i; size = sym t.size i; interleaving = sym t.interleaving i } in
+    let frames : frames_fit size (length ids) ≡ Ok tt = rw (eq-eqb (size % length ids) 0 whole, le-ltb (2 ^ 36) (8 * (size / length ids)) short) refl in
+    let same : stated_sound s.rate (length ids) t.at size ≡ s = λ i. record { rate = s.rate; channels = number i; count = count i; start = sym t.start i; size = sym t.size i; interleaving = sym t.interleaving i } in
     rw (leading, property, frames) (ap done same)
 
-seek_there : (front : List ℕ) (s : Sound) (t : TellsSound front s) → 16 ≤ t.at → seek front ≡ Ok (Some t.at)
+seek_there : (front : List ℕ) (s : Sound) (t : StatesSound front s) → 16 ≤ t.at → seek front ≡ Ok (Some t.at)
 unfolding seek
 seek_there front s t onward = seek_again (length front) 16 (form_size front) front t.at t.before t.are_before t.no_gap t.no_sound t.id t.whole_head onward t.in_form (omega arith)
 
-told_found : (front : List ℕ) (s : Sound) → TellsSound front s → sound_at front ≡ Found s
+told_found : (front : List ℕ) (s : Sound) → StatesSound front s → sound_at front ≡ Found s
 unfolding sound_in located
 told_found front s t =
     let onward : 16 ≤ t.at = omega (arith, behind_on 16 t.before, t.no_gap) in
@@ -175,10 +175,10 @@ told_found front s t =
 
 -- ---- the laws
 
-pub found_is_told : FoundIsTold
+pub found_is_told : FoundIsStated
 found_is_told front s = (found_told front s, told_found front s)
 
-pub sound_is_told : SoundIsTold
+pub sound_is_told : SoundIsStated
 sound_is_told file r h = elim (answers file [] r (subst (λ (f : List ℕ). IsDsdiff f r) (sym (append-nil file)) h)) [
   | inl told ↦ (told.0, found_told file told.0 told.1, subst (λ (f : List ℕ). HasSound f r told.0) (append-nil file) told.2)
   | inr more ↦ absurd (if_more file More (sym more) (has_head file (r, h)))

@@ -11,8 +11,8 @@ use Rattle.chunk_core.specs.Steps.{◌>>=◌}
 use Rattle.chunk_core.proofs.Ranges.{range_after}
 use Rattle.chunk_core.proofs.ReadingLaws.{First, first_again, walk_step}
 use Rattle.dsd_bits.specs.Ids.{DSD}
-use Rattle.dsdiff_core.specs.Fronts.{behind}
-use Rattle.dsdiff_core.specs.Located.{EndsAtHead, sound_size}
+use Rattle.dsdiff_core.specs.Fronts.{place_after}
+use Rattle.dsdiff_core.specs.Located.{EndsAtHead, stated_size}
 use Rattle.dsdiff_core.proofs.LeadLaws.{At, at_first, behind_on, number_front, part_front, range_parts}
 
 -- spans behind others, where those are found
@@ -46,7 +46,7 @@ widen : (bytes : List ℕ) (at until stop : ℕ) (c : Chunk) → until ≤ stop 
 widen bytes at until stop c le a = record { fits = omega (arith, a.fits); inside = a.inside; id = a.id; size = a.size; content = a.content }
 
 -- over chunks that lead up to a place
-pub walk_over : (bytes : List ℕ) (from at stop : ℕ) (cs : List Chunk) → at ≤ stop → chunks (slice_range bytes from at) cs → behind from cs ≡ at → spans_in bytes from stop ≡ after (places from cs) (spans_in bytes at stop)
+pub walk_over : (bytes : List ℕ) (from at stop : ℕ) (cs : List Chunk) → at ≤ stop → chunks (slice_range bytes from at) cs → place_after from cs ≡ at → spans_in bytes from stop ≡ after (places from cs) (spans_in bytes at stop)
 walk_over bytes from at stop [] le h gap = rw gap (sym (after_none (spans_in bytes at stop)))
 walk_over bytes from at stop (c ∷ cs) le h gap =
     let p = range_parts bytes from at c cs h in
@@ -58,12 +58,12 @@ walk_over bytes from at stop (c ∷ cs) le h gap =
 module _ (front : List ℕ) (h : EndsAtHead front) where
   -- the place of the sound
   abbrev pub sound_span : Span
-  sound_span = record { id = DSD; start = length front; size = sound_size front }
+  sound_span = record { id = DSD; start = length front; size = stated_size front }
 
   pub long : 28 ≤ length front
   long = omega (arith, behind_on 16 h.head.before, h.head.no_gap, h.ends)
 
-  module _ (sound back : List ℕ) (size : length sound ≡ sound_size front) where
+  module _ (sound back : List ℕ) (size : length sound ≡ stated_size front) where
     abbrev file : List ℕ
     file = front ++ (sound ++ back)
 
@@ -84,10 +84,10 @@ module _ (front : List ℕ) (h : EndsAtHead front) where
 
     -- the chunks before the sound, the sound, and what is behind it
     pub walk_across : (stop : ℕ) → length front + length sound ≤ stop
-        → spans_in (front ++ (sound ++ back)) 16 stop ≡ after (places 16 h.head.before ++ sound_span ∷ []) (spans_in (front ++ (sound ++ back)) (length front + sound_size front + sound_size front % 2) stop)
+        → spans_in (front ++ (sound ++ back)) 16 stop ≡ after (places 16 h.head.before ++ sound_span ∷ []) (spans_in (front ++ (sound ++ back)) (length front + stated_size front + stated_size front % 2) stop)
     walk_across stop fits =
         let c : Chunk = record { id = DSD; content = sound } in
-        let behind_it : h.head.at + width c ≡ length front + sound_size front + sound_size front % 2 = ap (λ (n : ℕ). h.head.at + (12 + n + n % 2)) size ∙ omega (arith, h.ends) in
+        let behind_it : h.head.at + width c ≡ length front + stated_size front + stated_size front % 2 = ap (λ (n : ℕ). h.head.at + (12 + n + n % 2)) size ∙ omega (arith, h.ends) in
         let here : place h.head.at c ≡ sound_span = λ i. record { id = DSD; start = h.ends i; size = size i } in
         walk_over file 16 h.head.at stop h.head.before (omega (arith, h.ends, fits)) lead_chunks h.head.no_gap
         ∙ ap (after (places 16 h.head.before)) (walk_on file h.head.at stop c (sound_at_place stop fits))

@@ -10,21 +10,21 @@ use Rattle.std.proofs.lemmas.Grind.{flat_map-append}
 use Rattle.std.proofs.lemmas.Nat.{div-mul-add, mod-mul-add}
 use Rattle.byteorder.specs.Endian.{big_number, big_bytes}
 use Rattle.byteorder.specs.Numbers.{big_number-reads_back}
-use Rattle.chunk_core.specs.Chunks.{Chunk, Fits, chunks, spell}
+use Rattle.chunk_core.specs.Chunks.{Chunk, CanBeWritten, chunks, spell}
 use Rattle.chunk_core.specs.Laws.{SpelledAgain}
 use Rattle.dsd_bits.specs.declared.marks.Place.{Place}
 use Rattle.dsd_bits.specs.declared.marks.Place.TheVariants.{Property, Master, Form}
 use Rattle.dsd_bits.specs.Channels.{count_of}
 use Rattle.dsd_bits.specs.Contents.{Content, MarkContent, OtherContent}
 use Rattle.dsd_bits.specs.Ids.{same_id, FVER, PROP, SND, FS, CHNL, CMPR, DSD, DIIN, MARK}
-use Rattle.dsd_bits.specs.Lacing.{LacedReadAgain, frames_of, laced_byte, laced}
+use Rattle.dsd_bits.specs.Lacing.{LacedReadAgain, frame_number, laced_byte, laced}
 use Rattle.dsd_bits.specs.Shape.{HasShape, same_place, at_place, has_part}
 use Rattle.dsdiff_core.specs.Fields.{ids_in}
 use Rattle.dsdiff_core.specs.Files.{IsDsdiff, joined}
 use Rattle.dsdiff_core.specs.Kinds.{has_id, is_property}
 use Rattle.dsdiff_core.specs.Marks.{IsWholeMark, mark_in}
 use Rattle.dsdiff_core.specs.Others.{other_in, kept}
-use Rattle.dsdiff_core.specs.ReadAgain.{FitsFields, FitsMark, WrittenReadAgain, as_told}
+use Rattle.dsdiff_core.specs.ReadAgain.{FitsFields, FitsMark, WrittenReadAgain, as_stored}
 use Rattle.dsdiff_core.specs.Writing.{version_chunk, rate_chunk, channels_chunk, compression_chunk, mark_chunk, other_chunk, others_of, property_chunks, property_chunk, sound_chunk, master_chunks, edited_master, last_chunks, form_chunks, form_text}
 use Rattle.dsdiff_core.proofs.WrittenForms.{joined_ids, joined_long, ids_again, length-form_text, form_again, all_fit, master_shorter}
 use Rattle.dsdiff_core.proofs.WrittenMarks.{mark_whole, marks_again}
@@ -41,7 +41,7 @@ joined_lists [] = refl
 joined_lists (c ∷ cs) = append-nil (c ∷ cs)
 
 -- each master is made of its chunks
-masters_zip : SpelledAgain → (cs : List Chunk) → All Fits cs → AllZip (λ c list. chunks c.content list) (edited_master cs) (lists_of cs)
+masters_zip : SpelledAgain → (cs : List Chunk) → All CanBeWritten cs → AllZip (λ c list. chunks c.content list) (edited_master cs) (lists_of cs)
 masters_zip law [] fits = tt
 masters_zip law (c ∷ cs) fits = (law (c ∷ cs) fits, tt)
 
@@ -167,9 +167,9 @@ module _ (r : Content) (h : HasShape r) (f : FitsFields r) where
 
   -- the chunks of each list have sizes that can be written
   record AllFit : Type 0 where
-    top : All Fits (form_chunks r)
-    parts : All Fits (property_chunks r)
-    master : All Fits (master_chunks r)
+    top : All CanBeWritten (form_chunks r)
+    parts : All CanBeWritten (property_chunks r)
+    master : All CanBeWritten (master_chunks r)
 
   -- the chunks of the edited master are fewer bytes than the form
   master_short : length (flat_map spell (master_chunks r)) ≤ length (flat_map spell (form_chunks r))
@@ -188,23 +188,23 @@ module _ (r : Content) (h : HasShape r) (f : FitsFields r) where
       let top = all_fit (form_chunks r) top_named short in
       let property_size : length (property_chunk r).content < 2 ^ 64 = top.1.0.size in
       record {
-        top = All-from_recursion Fits (form_chunks r) top;
-        parts = All-from_recursion Fits (property_chunks r) (all_fit (property_chunks r) parts_named (omega arith));
-        master = All-from_recursion Fits (master_chunks r) (all_fit (master_chunks r) master_named (omega (arith, master_short)));
+        top = All-from_recursion CanBeWritten (form_chunks r) top;
+        parts = All-from_recursion CanBeWritten (property_chunks r) (all_fit (property_chunks r) parts_named (omega arith));
+        master = All-from_recursion CanBeWritten (master_chunks r) (all_fit (master_chunks r) master_named (omega (arith, master_short)));
       }
 
   -- ---- the sound
-  sound_long : length (laced r.channels) ≡ frames_of r.channels * length r.channels
+  sound_long : length (laced r.channels) ≡ frame_number r.channels * length r.channels
   sound_long = length-map-range_with_len (laced_byte r.channels) 0 _
 
   whole_frames : length (laced r.channels) % length r.channels ≡ 0
-  whole_frames = rw (sound_long, ← add-zero (frames_of r.channels * length r.channels)) (mod-mul-add (frames_of r.channels) (length r.channels) 0 h.some_channel)
+  whole_frames = rw (sound_long, ← add-zero (frame_number r.channels * length r.channels)) (mod-mul-add (frame_number r.channels) (length r.channels) 0 h.some_channel)
 
-  frames_again : length (laced r.channels) / length r.channels ≡ frames_of r.channels
-  frames_again = rw (sound_long, ← add-zero (frames_of r.channels * length r.channels)) (div-mul-add (frames_of r.channels) (length r.channels) 0 h.some_channel)
+  frames_again : length (laced r.channels) / length r.channels ≡ frame_number r.channels
+  frames_again = rw (sound_long, ← add-zero (frame_number r.channels * length r.channels)) (div-mul-add (frame_number r.channels) (length r.channels) 0 h.some_channel)
 
   -- ---- the file
-  is_written : SpelledAgain → LacedReadAgain → count_of r.channels % 8 ≡ 0 → length (form_text (form_chunks r)) < 2 ^ 63 → IsDsdiff (form_text (form_chunks r)) (as_told r)
+  is_written : SpelledAgain → LacedReadAgain → count_of r.channels % 8 ≡ 0 → length (form_text (form_chunks r)) < 2 ^ 63 → IsDsdiff (form_text (form_chunks r)) (as_stored r)
   is_written spelled_law laced_law whole short =
       let top : List Chunk = form_chunks r in
       let body_short : 16 + length (flat_map spell top) < 2 ^ 63 = omega (arith, length-form_text top) in
@@ -277,5 +277,5 @@ pub written_again : SpelledAgain → LacedReadAgain → WrittenReadAgain
 written_again spelled_law laced_law r file h f text short =
     let found = some_text (count_of r.channels % 8 == 0) (form_text (form_chunks r)) file text in
     let IsShort : List ℕ → Type 0 = λ bytes. length bytes < 2 ^ 63 in
-    subst (λ (bytes : List ℕ). IsDsdiff bytes (as_told r)) found.1
+    subst (λ (bytes : List ℕ). IsDsdiff bytes (as_stored r)) found.1
     (is_written r h f spelled_law laced_law (eqb-true (count_of r.channels % 8) 0 found.0) (subst IsShort (sym found.1) short))

@@ -5,7 +5,7 @@ use Rattle.std.specs.List.{range_with_len, AllByRecursion}
 use Rattle.std.proofs.lemmas.List.{append-nil, take_at, drop_at, take_all, length-append, length-replicate}
 use Rattle.byteorder.specs.Endian.{big_bytes}
 use Rattle.byteorder.specs.Numbers.{big_number-reads_back}
-use Rattle.chunk_core.specs.Chunks.{Chunk, Fits, spell, width}
+use Rattle.chunk_core.specs.Chunks.{Chunk, CanBeWritten, spell, width}
 use Rattle.dsd_bits.specs.Ids.{DSD, DIIN}
 use Rattle.dsdiff_core.specs.Fields.{form_size, form_end, ids_in}
 use Rattle.dsdiff_core.specs.Writing.{form_text, edited_master}
@@ -56,7 +56,7 @@ spell_long c e =
     omega (arith, length-append (c.id ++ big_bytes 8 (length c.content) ++ c.content) (replicate (length c.content % 2) 0), length-append (c.id ++ big_bytes 8 (length c.content)) c.content, length-append c.id (big_bytes 8 (length c.content)), length-replicate {A = ℕ} (length c.content % 2) 0)
 
 -- chunks that stand in few bytes have a size that can be written
-pub all_fit : (cs : List Chunk) → AllByRecursion (λ c. length c.id ≡ 4) cs → length (flat_map spell cs) < 2 ^ 64 → AllByRecursion Fits cs
+pub all_fit : (cs : List Chunk) → AllByRecursion (λ c. length c.id ≡ 4) cs → length (flat_map spell cs) < 2 ^ 64 → AllByRecursion CanBeWritten cs
 all_fit [] h short = tt
 all_fit (c ∷ cs) h short =
     let sum = length-append (spell c) (flat_map spell cs) in

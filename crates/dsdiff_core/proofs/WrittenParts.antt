@@ -9,7 +9,7 @@ use Rattle.chunk_core.specs.Chunks.{spell}
 use Rattle.dsd_bits.specs.Channels.{count_of}
 use Rattle.dsd_bits.specs.Contents.{Content}
 use Rattle.dsd_bits.specs.Ids.{DSD}
-use Rattle.dsd_bits.specs.Lacing.{frames_of, laced, laced_byte}
+use Rattle.dsd_bits.specs.Lacing.{frame_number, laced, laced_byte}
 use Rattle.dsdiff_core.specs.Kinds.{FRM8}
 use Rattle.dsdiff_core.specs.ReadAgain.{WrittenInParts}
 use Rattle.dsdiff_core.specs.Writing.{dsdiff_text, form_chunks, form_text, head_text, last_chunks, property_chunk, size_around, tail_text, version_chunk}
@@ -60,7 +60,7 @@ in_parts r channels whole =
 
 -- how many bytes the sound has
 pub sound_size : (channels : List (List Bool)) (count number : ℕ) → count ≡ count_of channels → number ≡ length channels → count / 8 * number ≡ length (laced channels)
-sound_size channels count number e f = rw (e, f) (sym (length-map-range_with_len (laced_byte channels) 0 (frames_of channels * length channels)))
+sound_size channels count number e f = rw (e, f) (sym (length-map-range_with_len (laced_byte channels) 0 (frame_number channels * length channels)))
 
 -- the file
 pub text_is : (r : Content) (size : ℕ) (head tail now-1 now-2 : List ℕ) → count_of r.channels % 8 ≡ 0 → size ≡ length (laced r.channels) → head ≡ head_text r size → tail ≡ tail_text r size → now-1 ≡ head ++ laced r.channels → now-2 ≡ now-1 ++ tail

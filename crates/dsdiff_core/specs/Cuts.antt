@@ -6,7 +6,7 @@ use Rattle.dsd_bits.specs.Ids.{DSD}
 use Rattle.dsdiff_core.specs.declared.fault.DsdiffFault.{DsdiffFault}
 use Rattle.dsdiff_core.specs.declared.fault.DsdiffFault.TheVariants.{FormCut, Chunk as ChunkFails}
 use Rattle.dsdiff_core.specs.Fields.{form_end, form_size}
-use Rattle.dsdiff_core.specs.Fronts.{behind, size_at}
+use Rattle.dsdiff_core.specs.Fronts.{place_after, size_at}
 use Rattle.dsdiff_core.specs.Kinds.{FRM8}
 use Rattle.dsdiff_core.specs.Reading.{recording_of}
 
@@ -17,7 +17,7 @@ pub record EndsAtChunk (front : List ℕ) : Type 0 where
   pub at : ℕ
   pub before : List Chunk
   pub are_before : chunks (slice_range front 16 at) before
-  pub no_gap : behind 16 before ≡ at
+  pub no_gap : place_after 16 before ≡ at
   pub ends : at + 12 ≡ length front
   pub head_in_form : at ≤ form_size front
 

@@ -19,7 +19,7 @@ abbrev pub joined : List (List Chunk) → List Chunk
 joined masters = flat_map (λ cs. cs) masters
 
 -- the chunk, a property of the sound, has this rate and this number of channels, uncompressed
-pub record TellsProperty (property : Chunk) (rate number : ℕ) : Type 0 where
+pub record StatesProperty (property : Chunk) (rate number : ℕ) : Type 0 where
   -- among the chunks after its type one each for the rate, the channels' names and the compression
   pub parts : List Chunk
   pub are_parts : chunks (drop 4 property.content) parts
@@ -64,7 +64,7 @@ pub record IsDsdiff (file : List ℕ) (r : Content) : Type 0 where
   pub sound_is : has_id DSD sound ≡ true
   -- the property has the rate, and the channels with their names
   pub number : ℕ
-  pub tells : TellsProperty property r.rate number
+  pub tells : StatesProperty property r.rate number
   pub ids : r.ids ≡ ids_in number (drop 2 tells.names.content)
   -- whole frames of sound, one byte of each channel in turn
   pub whole : length sound.content % number ≡ 0

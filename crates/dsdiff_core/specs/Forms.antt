@@ -14,8 +14,8 @@ use Rattle.dsdiff_core.specs.Spans.{once_each, top_kinds}
 use Rattle.dsdiff_core.specs.Steps.{walked}
 
 -- where the form ends; one byte may be missing, the last pad
-unfoldable pub end_of : List ℕ → Result ℕ DsdiffFault
-end_of file =
+unfoldable pub form_end_in : List ℕ → Result ℕ DsdiffFault
+form_end_in file =
     if nat_lt (length file) 16 then Err NotDsdiff
     else if not (same_id (take 4 file) FRM8) then Err NotDsdiff
     else if not (same_id (take 4 (drop 12 file)) DSD) then Err NotDsdiff
@@ -24,9 +24,9 @@ end_of file =
     else Ok (form_end file)
 
 -- the first chunk is a version that is known
-abbrev pub version_of : List Chunk → Result (Unit {0}) DsdiffFault
-version_of [] = Err NoVersion
-version_of (c ∷ cs) =
+abbrev pub known_version : List Chunk → Result (Unit {0}) DsdiffFault
+known_version [] = Err NoVersion
+known_version (c ∷ cs) =
     if not (has_id FVER c) then Err NoVersion
     else if nat_lt (length c.content) 4 then Err NoVersion
     else if nat_eq (slice_index c.content 0) 1 then Ok tt
@@ -35,8 +35,8 @@ version_of (c ∷ cs) =
 -- the chunks of the form
 unfoldable pub top_of : List ℕ → Result (List Span) DsdiffFault
 top_of file = do
-  stop ← end_of file
+  stop ← form_end_in file
   top ← walked (spans_in file 16 stop)
-  known ← version_of (map (span_chunk file) top)
+  known ← known_version (map (span_chunk file) top)
   once ← once_each (top_kinds file) [] top
   Ok top

@@ -17,8 +17,8 @@ use Rattle.dsd_bits.specs.Limits.{most_bits}
 use Rattle.dsdiff_core.specs.declared.fault.DsdiffFault.{DsdiffFault}
 use Rattle.dsdiff_core.specs.declared.fault.DsdiffFault.TheVariants.{NotDsdiff, FormCut, Chunk as ChunkFails, NoSound, PartFrame, TooLong}
 use Rattle.dsdiff_core.specs.Fields.{form_size}
-use Rattle.dsdiff_core.specs.Files.{IsDsdiff, TellsProperty}
-use Rattle.dsdiff_core.specs.Forms.{version_of}
+use Rattle.dsdiff_core.specs.Files.{IsDsdiff, StatesProperty}
+use Rattle.dsdiff_core.specs.Forms.{known_version}
 use Rattle.dsdiff_core.specs.Kinds.{FRM8, has_id, is_property}
 use Rattle.dsdiff_core.specs.Properties.{property_of}
 use Rattle.dsdiff_core.specs.Spans.{once_each, top_kinds}
@@ -33,23 +33,23 @@ abbrev pub size_at : List ℕ → ℕ → ℕ
 size_at front at = big_number 8 (drop (at + 4) front)
 
 -- the place after chunks that follow each other from a place on, each with its pad
-abbrev pub behind : ℕ → List Chunk → ℕ
-behind at [] = at
-behind at (c ∷ cs) = behind (at + width c) cs
+abbrev pub place_after : ℕ → List Chunk → ℕ
+place_after at [] = at
+place_after at (c ∷ cs) = place_after (at + width c) cs
 
 -- the bytes hold the header of the sound: chunks of the form, none of which is a sound, lead up to it
 pub record HoldsHead (front : List ℕ) : Type 0 where
   pub at : ℕ
   pub before : List Chunk
   pub are_before : chunks (slice_range front 16 at) before
-  pub no_gap : behind 16 before ≡ at
+  pub no_gap : place_after 16 before ≡ at
   pub no_sound : filter (has_id DSD) before ≡ []
   pub id : take 4 (drop at front) ≡ DSD
   pub whole : at + 12 ≤ length front
 
 -- the front of a file describes this sound: it has a form, chunks none of which is a sound, the header of the sound,
 -- and what version and sound property say
-pub record TellsSound (front : List ℕ) (s : Sound) : Type 0 where
+pub record StatesSound (front : List ℕ) (s : Sound) : Type 0 where
   -- the form begins
   pub form : take 4 front ≡ FRM8
   pub kind : take 4 (drop 12 front) ≡ DSD
@@ -57,7 +57,7 @@ pub record TellsSound (front : List ℕ) (s : Sound) : Type 0 where
   pub at : ℕ
   pub before : List Chunk
   pub are_before : chunks (slice_range front 16 at) before
-  pub no_gap : behind 16 before ≡ at
+  pub no_gap : place_after 16 before ≡ at
   pub no_sound : filter (has_id DSD) before ≡ []
   pub version : Chunk
   pub later : List Chunk
@@ -67,7 +67,7 @@ pub record TellsSound (front : List ℕ) (s : Sound) : Type 0 where
   pub version_main : slice_index version.content 0 ≡ 1
   pub property : Chunk
   pub one_property : filter is_property before ≡ property ∷ []
-  pub property_tells : TellsProperty property s.rate s.channels
+  pub property_tells : StatesProperty property s.rate s.channels
   -- the header of the sound, whose bytes end in the form, if not in the front: whole frames of them
   pub id : take 4 (drop at front) ≡ DSD
   pub whole_head : at + 12 ≤ length front
@@ -112,15 +112,15 @@ located front = if nat_lt (length front) 16 then Ok None else do
   seek front
 
 -- the size is that of whole frames of n channels, within the limit
-abbrev pub frames_of : ℕ → ℕ → Result (Unit {0}) DsdiffFault
-frames_of size number =
+abbrev pub frames_fit : ℕ → ℕ → Result (Unit {0}) DsdiffFault
+frames_fit size number =
     if not (nat_eq (size % number) 0) then Err PartFrame
     else if nat_lt most_bits (8 * (size / number)) then Err TooLong
     else Ok tt
 
 -- the sound of this rate, channel number and size whose header is at a place
-abbrev pub sound_told : ℕ → ℕ → ℕ → ℕ → Sound
-sound_told rate number at size = record {
+abbrev pub stated_sound : ℕ → ℕ → ℕ → ℕ → Sound
+stated_sound rate number at size = record {
   rate = rate;
   channels = number;
   count = 8 * (size / number);
@@ -133,22 +133,22 @@ sound_told rate number at size = record {
 unfoldable pub leading_of : List ℕ → ℕ → Result (List Span) DsdiffFault
 leading_of front at = do
   top ← walked (spans_in front 16 at)
-  known ← version_of (map (span_chunk front) top)
+  known ← known_version (map (span_chunk front) top)
   once ← once_each (top_kinds front) [] top
   Ok top
 
 -- the sound whose header is at a place, if the chunks before it say what it is
-unfoldable pub sound_behind : List ℕ → ℕ → Result Sound DsdiffFault
-sound_behind front at = do
+unfoldable pub sound_with_head : List ℕ → ℕ → Result Sound DsdiffFault
+sound_with_head front at = do
   top ← leading_of front at
   told ← property_of front top
-  frames ← frames_of (size_at front at) (length told.ids)
-  Ok (sound_told told.rate (length told.ids) at (size_at front at))
+  frames ← frames_fit (size_at front at) (length told.ids)
+  Ok (stated_sound told.rate (length told.ids) at (size_at front at))
 
 -- the sound that the front of a file leads to; none if more bytes are needed
 abbrev pub sound_from : List ℕ → Option ℕ → Result (Option Sound) DsdiffFault
 sound_from front None = Ok None
-sound_from front (Some at) = sound_behind front at >>= λ s. Ok (Some s)
+sound_from front (Some at) = sound_with_head front at >>= λ s. Ok (Some s)
 
 -- the same from the first byte on, in the order of reading: the form begins, the header of the sound is found, the
 -- chunks before it say what it is
@@ -175,8 +175,8 @@ pub record EndsAt (front : List ℕ) (s : Sound) : Type 0 where
 -- ---- behind the sound
 
 -- the number of bytes of the form after a sound of this size, of which the last may be missing
-abbrev pub left_behind : List ℕ → ℕ → ℕ
-left_behind front size = 12 + form_size front - (length front + size)
+abbrev pub left_after : List ℕ → ℕ → ℕ
+left_after front size = 12 + form_size front - (length front + size)
 
 -- the front of a file describes a sound, and ends where that starts
 abbrev pub EndsAtSound : List ℕ → Type 0

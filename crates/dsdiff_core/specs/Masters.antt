@@ -22,8 +22,8 @@ has_no_cut_mark [] = true
 has_no_cut_mark (c ∷ cs) = is_no_cut_mark c && has_no_cut_mark cs
 
 -- the chunks of one edited master
-unfoldable pub master_of : List ℕ → Span → Result (List Span) DsdiffFault
-master_of file s = do
+unfoldable pub chunks_of_master : List ℕ → Span → Result (List Span) DsdiffFault
+chunks_of_master file s = do
   inner ← walked (spans_in file s.start (s.start + s.size))
   if has_no_cut_mark (map (span_chunk file) inner) then Ok inner else Err BadMark
 
@@ -31,6 +31,6 @@ master_of file s = do
 unfoldable pub masters_of : List ℕ → List Span → Result (List Span) DsdiffFault
 masters_of file [] = Ok []
 masters_of file (s ∷ ss) = if has_id DIIN (span_chunk file s) then (do
-  inner ← master_of file s
+  inner ← chunks_of_master file s
   rest ← masters_of file ss
   Ok (inner ++ rest)) else masters_of file ss

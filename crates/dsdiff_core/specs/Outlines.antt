@@ -8,8 +8,8 @@ use Rattle.dsdiff_core.specs.Fronts.{IsAccepted}
 
 -- what front and back say about a file, besides its bits: it is not accepted, whatever its sound; or the recording of
 -- each such file, with empty channels in place of its own
-abbrev pub TellsOutline : List ℕ → Sound → List ℕ → Option Content → Type 0
-TellsOutline front s back None = (sound : List ℕ) → length sound ≡ s.size → IsAccepted (front ++ (sound ++ back)) → ⊥
-TellsOutline front s back (Some o) =
+abbrev pub StatesOutline : List ℕ → Sound → List ℕ → Option Content → Type 0
+StatesOutline front s back None = (sound : List ℕ) → length sound ≡ s.size → IsAccepted (front ++ (sound ++ back)) → ⊥
+StatesOutline front s back (Some o) =
     (o.channels ≡ replicate s.channels [])
     × ((sound : List ℕ) → length sound ≡ s.size → IsDsdiff (front ++ (sound ++ back)) (record o { channels = unlaced_all sound s.channels }))

@@ -29,9 +29,9 @@ rate_of None = Err NoRate
 rate_of (Some bytes) = if nat_lt (length bytes) 4 then Err NoRate else Ok (big_number 4 bytes)
 
 -- the channel number and the bytes of the IDs in the data of their chunk
-abbrev pub names_of : Option (List ℕ) → Result (ℕ × List ℕ) DsdiffFault
-names_of None = Err NoChannels
-names_of (Some bytes) =
+abbrev pub ids_and_number : Option (List ℕ) → Result (ℕ × List ℕ) DsdiffFault
+ids_and_number None = Err NoChannels
+ids_and_number (Some bytes) =
     if nat_lt (length bytes) 2 then Err NoChannels
     else if nat_lt (length bytes) (2 + 4 * big_number 2 bytes) then Err NoChannels
     else Ok (big_number 2 bytes, drop 2 bytes)
@@ -57,7 +57,7 @@ limits_of rate number =
 unfoldable pub fields_of : Option (List ℕ) → Option (List ℕ) → Option (List ℕ) → Result (ℕ × List (List ℕ)) DsdiffFault
 fields_of rates names kinds = do
   rate ← rate_of rates
-  channels ← names_of names
+  channels ← ids_and_number names
   raw ← raw_of kinds
   limits ← limits_of rate channels.0
   Ok (rate, ids_in channels.0 channels.1)

@@ -28,12 +28,12 @@ pub record FitsFields (r : Content) : Type 0 where
   pub others : All (λ o. length o.id ≡ 4) r.others
 
 -- the recording without what a file does not store: the layout is that for the number of channels, and the tag is empty
-abbrev pub as_told : Content → Content
-as_told r = record r { layout = usual_layout (length r.channels); tag = [] }
+abbrev pub as_stored : Content → Content
+as_stored r = record r { layout = usual_layout (length r.channels); tag = [] }
 
 -- law: a file that was written for a recording holds that recording, without what a file does not store
 abbrev pub WrittenReadAgain : Type 0
-WrittenReadAgain = (r : Content) (file : List ℕ) → HasShape r → FitsFields r → dsdiff_text r ≡ Some file → length file < 2 ^ 63 → IsDsdiff file (as_told r)
+WrittenReadAgain = (r : Content) (file : List ℕ) → HasShape r → FitsFields r → dsdiff_text r ≡ Some file → length file < 2 ^ 63 → IsDsdiff file (as_stored r)
 
 -- law: the file of channels of whole bytes is a head, their bytes and a tail; head and tail are the same for any
 -- recording that is the same but for its channels

@@ -15,7 +15,7 @@ use Rattle.dsdiff_core.specs.Marks.{mark_in}
 use Rattle.dsdiff_core.specs.Masters.{masters_of}
 use Rattle.dsdiff_core.specs.Others.{kept}
 use Rattle.dsdiff_core.specs.Properties.{property_of}
-use Rattle.dsdiff_core.specs.Sounds.{sound_leads, sound_of}
+use Rattle.dsdiff_core.specs.Sounds.{sound_leads, bytes_of_sound}
 use Rattle.dsdiff_core.specs.Spans.{data_with}
 
 -- the marks among the chunks of the edited masters
@@ -23,8 +23,8 @@ abbrev pub marks_of : List ℕ → List Span → List MarkContent
 marks_of file inner = map mark_in (filter (has_id MARK) (map (span_chunk file) inner))
 
 -- what is kept of the chunks of the sound property, of the edited masters and of the form
-abbrev pub others_told : List ℕ → List Span → List Span → List Span → List OtherContent
-others_told file parts inner top =
+abbrev pub kept_others : List ℕ → List Span → List Span → List Span → List OtherContent
+kept_others file parts inner top =
     kept Property (map (span_chunk file) parts) ++ (kept Master (map (span_chunk file) inner) ++ kept Form (map (span_chunk file) top))
 
 -- the recording in a file, or the first fault
@@ -32,7 +32,7 @@ unfoldable pub recording_of : List ℕ → Result Content DsdiffFault
 recording_of file = do
   top ← top_of file
   told ← property_of file top
-  sound ← sound_of (sound_leads (map (span_chunk file) top)) (data_with file DSD top) (length told.ids)
+  sound ← bytes_of_sound (sound_leads (map (span_chunk file) top)) (data_with file DSD top) (length told.ids)
   inner ← masters_of file top
   Ok (record {
     rate = told.rate;
@@ -40,6 +40,6 @@ recording_of file = do
     ids = told.ids;
     layout = usual_layout (length told.ids);
     marks = marks_of file inner;
-    others = others_told file told.parts inner top;
+    others = kept_others file told.parts inner top;
     tag = [];
   })

@@ -4,13 +4,13 @@ use Rattle.chunk_core.specs.Steps.{◌>>=◌}
 use Rattle.dsd_bits.specs.Contents.{Content, Described, described}
 use Rattle.dsd_bits.specs.Lacing.{unlaced_all}
 use Rattle.dsdiff_core.specs.declared.fault.DsdiffFault.{DsdiffFault}
-use Rattle.dsdiff_core.specs.Located.{EndsAtHead, sound_size}
+use Rattle.dsdiff_core.specs.Located.{EndsAtHead, stated_size}
 use Rattle.dsdiff_core.specs.Reading.{recording_of}
 
 -- what was read of a file, with these sound bytes
-abbrev pub with_sound : List ℕ → Result Content DsdiffFault → Result Content DsdiffFault
-with_sound sound (Ok r) = Ok (record r { channels = unlaced_all sound (length r.ids) })
-with_sound sound (Err e) = Err e
+abbrev pub read_with_sound : List ℕ → Result Content DsdiffFault → Result Content DsdiffFault
+read_with_sound sound (Ok r) = Ok (record r { channels = unlaced_all sound (length r.ids) })
+read_with_sound sound (Err e) = Err e
 
 -- what a file holds besides the bits of its sound, or the first fault
 abbrev pub description_of : List ℕ → Result Described DsdiffFault
@@ -18,10 +18,10 @@ description_of file = recording_of file >>= λ r. Ok (described r)
 
 -- the file around a sound of zeros
 abbrev pub with_zeros : List ℕ → List ℕ → List ℕ
-with_zeros front back = front ++ (replicate (sound_size front) 0 ++ back)
+with_zeros front back = front ++ (replicate (stated_size front) 0 ++ back)
 
 -- replacing the sound bytes by as many others changes nothing of what is read but the channels
 abbrev pub SoundIsFree : Type 0
 SoundIsFree =
-    (front sound other back : List ℕ) → EndsAtHead front → length sound ≡ sound_size front → length other ≡ sound_size front
-    → recording_of (front ++ (other ++ back)) ≡ with_sound other (recording_of (front ++ (sound ++ back)))
+    (front sound other back : List ℕ) → EndsAtHead front → length sound ≡ stated_size front → length other ≡ stated_size front
+    → recording_of (front ++ (other ++ back)) ≡ read_with_sound other (recording_of (front ++ (sound ++ back)))

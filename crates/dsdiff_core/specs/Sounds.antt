@@ -17,14 +17,14 @@ sound_leads [] = false
 sound_leads (c ∷ cs) = if is_property c then false else if has_id DSD c then true else sound_leads cs
 
 -- the sound bytes of n channels
-abbrev pub sound_of : Bool → Option (List ℕ) → ℕ → Result (List ℕ) DsdiffFault
-sound_of leads None number = Err NoSound
-sound_of leads (Some bytes) number =
+abbrev pub bytes_of_sound : Bool → Option (List ℕ) → ℕ → Result (List ℕ) DsdiffFault
+bytes_of_sound leads None number = Err NoSound
+bytes_of_sound leads (Some bytes) number =
     if leads then Err SoundBeforeProperty
     else if not (nat_eq (length bytes % number) 0) then Err PartFrame
     else if nat_lt most_bits (8 * (length bytes / number)) then Err TooLong
     else Ok bytes
 
 -- the number of bits of a channel of the sound among the chunks
-abbrev pub count_told : List ℕ → List Span → ℕ → Result ℕ DsdiffFault
-count_told file top number = sound_of (sound_leads (map (span_chunk file) top)) (data_with file DSD top) number >>= λ sound. Ok (8 * (length sound / number))
+abbrev pub stated_count : List ℕ → List Span → ℕ → Result ℕ DsdiffFault
+stated_count file top number = bytes_of_sound (sound_leads (map (span_chunk file) top)) (data_with file DSD top) number >>= λ sound. Ok (8 * (length sound / number))

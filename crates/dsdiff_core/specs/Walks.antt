@@ -4,8 +4,8 @@ use Rattle.dsd_bits.specs.declared.sound.Sound.{Sound}
 use Rattle.dsd_bits.specs.declared.sound.SoundAt.{SoundAt}
 use Rattle.dsd_bits.specs.declared.sound.SoundAt.TheVariants as sounds
 use Rattle.dsdiff_core.specs.declared.fault.DsdiffFault.{DsdiffFault}
-use Rattle.dsdiff_core.specs.declared.front.Place.{Place}
-use Rattle.dsdiff_core.specs.declared.front.Place.TheVariants as places
+use Rattle.dsdiff_core.specs.declared.header.Place.{Place}
+use Rattle.dsdiff_core.specs.declared.header.Place.TheVariants as places
 use Rattle.dsdiff_core.specs.declared.locating.Located.{Located}
 use Rattle.dsdiff_core.specs.declared.locating.Located.TheVariants as answers
 use Rattle.dsdiff_core.specs.Fields.{form_size}

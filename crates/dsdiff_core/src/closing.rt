@@ -5,9 +5,9 @@ ghost use Rattle.std.specs.Result.{result_ok};
 ghost use Rattle.dsd_bits.specs.declared.sound.Sound.{Sound};
 ghost use Rattle.dsdiff_core.specs.Cuts.{EndsAtChunk, cut_fault, last_size};
 ghost use Rattle.dsdiff_core.specs.Fields.{form_end};
-ghost use Rattle.dsdiff_core.specs.Fronts.{EndsAt, EndsAtSound, IsAccepted, left_behind, size_at};
-ghost use Rattle.dsdiff_core.specs.Located.{EndsAtHead, sound_size};
-ghost use Rattle.dsdiff_core.specs.Outlines.{TellsOutline};
+ghost use Rattle.dsdiff_core.specs.Fronts.{EndsAt, EndsAtSound, IsAccepted, left_after, size_at};
+ghost use Rattle.dsdiff_core.specs.Located.{EndsAtHead, stated_size};
+ghost use Rattle.dsdiff_core.specs.Outlines.{StatesOutline};
 ghost use Rattle.dsdiff_core.specs.Reading.{recording_of};
 ghost use Rattle.dsdiff_core.specs.SoundBytes.{description_of, with_zeros};
 ghost use Rattle.dsdiff_core.specs.Steps.{Fails};
@@ -24,8 +24,8 @@ use std::alloc::{AllocError, Global};
 /// It takes no memory.
 pub fn bytes_behind(front: &[u8]) -> u64
     requires { EndsAtHead front.now }
-    ensures value { result ≡ left_behind front.now (sound_size front.now) }
-    ensures told { (s : Sound) → EndsAt front.now s → result ≡ left_behind front.now s.size }
+    ensures value { result ≡ left_after front.now (stated_size front.now) }
+    ensures told { (s : Sound) → EndsAt front.now s → result ≡ left_after front.now s.size }
 {
     let at = front.len() - 12;
     size_at(front, 0) - at as u64 - size_at(front, at)
@@ -58,8 +58,8 @@ pub fn closes(alloc: Global, front: &[u8], back: &[u8]) -> Result<bool, AllocErr
 /// `Memory` may come in place of any of them.
 pub fn outline(alloc: Global, front: &[u8], back: &[u8]) -> Result<Recording, DsdiffFault>
     requires { EndsAtSound front.now }
-    ensures told { (s : Sound) → EndsAt front.now s → IfOk result (λ r. TellsOutline front.now s back.now (Some r)) }
-    ensures fault { IfErr result (λ e. (sound : List ℕ) → length sound ≡ sound_size front.now
+    ensures told { (s : Sound) → EndsAt front.now s → IfOk result (λ r. StatesOutline front.now s back.now (Some r)) }
+    ensures fault { IfErr result (λ e. (sound : List ℕ) → length sound ≡ stated_size front.now
         → Fails e (recording_of (front.now ++ (sound ++ back.now)))) }
 {
     let description = describe(alloc, front, back)?;

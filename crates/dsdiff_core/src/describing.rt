@@ -2,7 +2,7 @@
 
 ghost use Rattle.std.specs.Prelude.{◌≡◌, ◌++◌, List, ℕ, length};
 ghost use Rattle.dsdiff_core.specs.Held.{IsHeld, held};
-ghost use Rattle.dsdiff_core.specs.Located.{EndsAtHead, sound_size};
+ghost use Rattle.dsdiff_core.specs.Located.{EndsAtHead, stated_size};
 ghost use Rattle.dsdiff_core.specs.SoundBytes.{description_of, with_zeros};
 ghost use Rattle.dsdiff_core.specs.Steps.{Gives};
 
@@ -25,7 +25,7 @@ use std::alloc::Global;
 /// `Memory` may come in place of any of them, and comes if the file would have `2^64` bytes or more.
 pub fn describe(alloc: Global, front: &[u8], back: &[u8]) -> Result<Description, DsdiffFault>
     requires { EndsAtHead front.now }
-    ensures { (sound : List ℕ) → length sound ≡ sound_size front.now
+    ensures { (sound : List ℕ) → length sound ≡ stated_size front.now
         → Gives (λ d. d) result (description_of (front.now ++ (sound ++ back.now))) }
 {
     describe_around(alloc, front, back)

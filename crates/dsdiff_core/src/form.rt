@@ -3,9 +3,9 @@
 ghost use Rattle.std.specs.Prelude.{◌≡◌, ◌≤◌, All, IfOk, length, map};
 ghost use Rattle.chunk_core.specs.Places.{span_chunk};
 ghost use Rattle.dsdiff_core.specs.Fields.{form_end};
-ghost use Rattle.dsdiff_core.specs.Forms.{end_of, top_of, version_of};
+ghost use Rattle.dsdiff_core.specs.Forms.{form_end_in, top_of, known_version};
 ghost use Rattle.dsdiff_core.specs.Fronts.{leading_of};
-ghost use Rattle.dsdiff_core.specs.Held.{IsHeld, MayStand, held};
+ghost use Rattle.dsdiff_core.specs.Held.{IsHeld, MayBeInMemory, held};
 ghost use Rattle.dsdiff_core.specs.Steps.{Gives};
 
 use crate::fault::DsdiffFault;
@@ -19,7 +19,7 @@ use std::alloc::Global;
 pub(crate) fn form_chunks(alloc: Global, file: Held) -> Result<Vec<Span>, DsdiffFault>
     requires { IsHeld file }
     ensures exact { Gives (λ v. v.items) result (top_of (held file.entry)) }
-    ensures inside { IfOk result (λ v. All (MayStand file.entry) v.items) }
+    ensures inside { IfOk result (λ v. All (MayBeInMemory file.entry) v.items) }
 {
     let end = form_end(file)?;
     let top = walk_form(alloc, file, end)?;
@@ -38,7 +38,7 @@ pub(crate) fn leading_chunks(
 ) -> Result<Vec<Span>, DsdiffFault>
     requires { (16 ≤ at) × (at ≤ length front.front.now) }
     ensures exact { Gives (λ v. v.items) result (leading_of (held front.entry) at) }
-    ensures inside { IfOk result (λ v. All (MayStand front.entry) v.items) }
+    ensures inside { IfOk result (λ v. All (MayBeInMemory front.entry) v.items) }
 {
     let top = walk(alloc, front.front, 16, at)?;
     require_version(front, &top)?;
@@ -47,10 +47,10 @@ pub(crate) fn leading_chunks(
 }
 
 // Where the form ends. Its size counts from byte 12, and one byte may be missing: a last pad.
-#[tactic(auto, unfolding(crate::specs::Forms::end_of))]
+#[tactic(auto, unfolding(crate::specs::Forms::form_end_in))]
 fn form_end(file: Held) -> Result<usize, DsdiffFault>
     requires { IsHeld file }
-    ensures exact { Gives (λ n. n) result (end_of (held file.entry)) }
+    ensures exact { Gives (λ n. n) result (form_end_in (held file.entry)) }
     ensures from { IfOk result (λ n. 16 ≤ n) }
     ensures value { IfOk result (λ n. n ≡ form_end (held file.entry)) }
 {
@@ -72,8 +72,8 @@ fn form_end(file: Held) -> Result<usize, DsdiffFault>
 
 // Refuses a first chunk that is not a version 1.
 fn require_version(file: Held, top: &[Span]) -> Result<(), DsdiffFault>
-    requires { All (MayStand file) top.now }
-    ensures { Gives (λ _. tt) result (version_of (map (span_chunk (held file.entry)) top.now)) }
+    requires { All (MayBeInMemory file) top.now }
+    ensures { Gives (λ _. tt) result (known_version (map (span_chunk (held file.entry)) top.now)) }
 {
     let [first, ..] = top else {
         return Err(DsdiffFault::NoVersion);

@@ -6,7 +6,7 @@ ghost use Rattle.chunk_core.specs.Reading.{spans_in};
 ghost use Rattle.chunk_core.specs.Steps.{Gives as WalkGives};
 ghost use Rattle.dsdiff_core.specs.Fields.{form_end};
 ghost use Rattle.dsdiff_core.specs.Steps.{Gives, walked};
-ghost use Rattle.dsdiff_core.specs.Held.{IsAround, IsHeld, MayStand, StandsIn, held};
+ghost use Rattle.dsdiff_core.specs.Held.{IsAround, IsHeld, MayBeInMemory, IsInMemory, held};
 
 use crate::fault::DsdiffFault;
 use chunk_core::{ChunkFault, Span, walk, walk_at};
@@ -44,7 +44,7 @@ pub(crate) fn len(file: Held) -> usize
 
 /// A chunk's data.
 pub(crate) fn data_of(file: Held, span: Span) -> &[u8]
-    requires { StandsIn file span }
+    requires { IsInMemory file span }
     ensures value { result.now ≡ (span_chunk (held file.entry) span).content }
     ensures len { length result.now ≡ span.size }
 {
@@ -64,10 +64,10 @@ pub(crate) fn walk_inside(
     span: Span,
     start: usize,
 ) -> Result<Vec<Span>, ChunkFault>
-    requires stands { StandsIn file span }
+    requires stands { IsInMemory file span }
     requires start { (span.start ≤ start) × (start ≤ span.start + span.size) }
     ensures exact { WalkGives (λ spans. spans.items) result (spans_in (held file.entry) start (span.start + span.size)) }
-    ensures inside { IfOk result (λ spans. All (StandsIn file.entry) spans.items) }
+    ensures inside { IfOk result (λ spans. All (IsInMemory file.entry) spans.items) }
 {
     let data = data_of(file, span);
     walk_at(alloc, &data[start - span.start..], start)
@@ -79,7 +79,7 @@ pub(crate) fn walk_form(alloc: Global, file: Held, end: usize) -> Result<Vec<Spa
     requires from { 16 ≤ end }
     requires end { end ≡ form_end (held file) }
     ensures exact { Gives (λ spans. spans.items) result (walked (spans_in (held file.entry) 16 end)) }
-    ensures inside { IfOk result (λ spans. All (MayStand file.entry) spans.items) }
+    ensures inside { IfOk result (λ spans. All (MayBeInMemory file.entry) spans.items) }
 {
     if file.hole == 0 && file.back.is_empty() {
         return Ok(walk(alloc, file.front, 16, end)?);
@@ -92,7 +92,7 @@ fn walk_around(alloc: Global, file: Held, end: usize) -> Result<Vec<Span>, Dsdif
     requires around { IsAround file }
     requires end { end ≡ form_end (held file) }
     ensures exact { Gives (λ spans. spans.items) result (walked (spans_in (held file.entry) 16 end)) }
-    ensures inside { IfOk result (λ spans. All (MayStand file.entry) spans.items) }
+    ensures inside { IfOk result (λ spans. All (MayBeInMemory file.entry) spans.items) }
 {
     let start = file.front.len();
     let sound = Span {

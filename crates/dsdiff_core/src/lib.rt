@@ -22,8 +22,8 @@
 //! - `IsDsdiff file r` (`specs/Files.antt`): the file holds the recording `r`. It is stated in lists of chunks, part by
 //!   part, without walking through the file.
 //! - `recording_of file` (`specs/Reading.antt`): reads in a fixed order, to the recording or the first fault. Its steps
-//!   are `top_of` (`specs/Forms.antt`), `property_of` (`specs/Properties.antt`), `sound_of` (`specs/Sounds.antt`) and
-//!   `masters_of` (`specs/Masters.antt`).
+//!   are `top_of` (`specs/Forms.antt`), `property_of` (`specs/Properties.antt`), `bytes_of_sound` (`specs/Sounds.antt`)
+//!   and `masters_of` (`specs/Masters.antt`).
 //! - `mark_in` (`specs/Marks.antt`) and `kept` (`specs/Others.antt`): the mark in a chunk, and which chunks are kept as
 //!   they are.
 //! - `Gives` (`specs/Steps.antt`): what a function returns of a reading if memory may run out.
@@ -32,11 +32,11 @@
 //!   the form, each written by `spell`. `form_text` puts the header before them.
 //! - `head_text r size`, `tail_text r size` (`specs/Writing.antt`): the bytes before and after a sound of `size` bytes.
 //!   They don't depend on the channels.
-//! - `TellsOutline front s back` (`specs/Outlines.antt`): what the bytes around a sound say about a file.
+//! - `StatesOutline front s back` (`specs/Outlines.antt`): what the bytes around a sound say about a file.
 //! - `mark_bytes m` (`specs/MarkBytes.antt`): the bytes of a mark.
 //! - `place_of m rate` (`specs/MarkPlaces.antt`): the place of a mark, a whole number that may be below zero.
 //!   `title_mark place rate text` is the mark of a title, and `IsAt m rate place` says where a mark is.
-//! - `as_told r` (`specs/ReadAgain.antt`): the recording without what a file does not store, its layout and tag.
+//! - `as_stored r` (`specs/ReadAgain.antt`): the recording without what a file does not store, its layout and tag.
 //!
 //! What it promises: what is read is what the file holds. Any recording that a file holds is read. Any other file is
 //! refused with the first fault of the stated order. Only `Memory` may come in place of these. A file holds at most one
@@ -59,7 +59,7 @@ mod describing;
 mod fault;
 mod fields;
 mod form;
-mod front;
+mod header;
 mod held;
 mod laws;
 mod locating;
@@ -81,9 +81,9 @@ pub use describing::describe;
 pub use fault::DsdiffFault;
 pub use fields::fields_fit;
 pub use laws::{
-    accepted_files_have_a_head, accepted_files_tell_their_sound,
+    accepted_files_have_a_head, accepted_files_state_their_sound,
     bytes_behind_the_form_do_not_matter, bytes_of_sound_do_not_matter, front_ends_at_sound,
-    one_recording, what_is_told_is_found,
+    one_recording, what_is_stated_is_found,
 };
 pub use locating::{Located, locate, sound_at};
 pub use places::{mark_at, place};

@@ -5,11 +5,11 @@ ghost use Rattle.dsd_bits.specs.declared.interleaving.Interleaving.TheVariants a
 ghost use Rattle.dsd_bits.specs.Contents.{Content};
 ghost use Rattle.dsd_bits.specs.Sounds.{HasSound, IfFound, IfMore, IfRefused, IsSound};
 ghost use Rattle.dsdiff_core.specs.Files.{IsDsdiff};
-ghost use Rattle.dsdiff_core.specs.Fronts.{HoldsHead, IsAccepted, seek, sound_at, sound_behind};
+ghost use Rattle.dsdiff_core.specs.Fronts.{HoldsHead, IsAccepted, seek, sound_at, sound_with_head};
 ghost use Rattle.dsdiff_core.specs.Walks.{IsLocated, IsTold, IsWalked, without_fault};
 
 use crate::fault::DsdiffFault;
-use crate::front::{Place, check_form, find_head, read_sound};
+use crate::header::{Place, check_form, find_head, read_sound};
 use crate::held::whole;
 use chunk_core::{Order, u64_at};
 use dsd_bits::{Sound, SoundAt};
@@ -58,7 +58,7 @@ pub fn locate(alloc: Global, front: &[u8], from: usize) -> Result<Located, Alloc
 // What the chunks before the head of a sound tell of it.
 fn tell_sound(alloc: Global, front: &[u8], at: usize) -> Result<Located, AllocError>
     requires { (16 ≤ at) × (at + 12 ≤ length front.now) }
-    ensures { IfOk result (IsTold (sound_behind front.now at) at) }
+    ensures { IfOk result (IsTold (sound_with_head front.now at) at) }
 {
     match read_sound(alloc, whole(front), at) {
         Ok(sound) => Ok(Located::Found(sound)),

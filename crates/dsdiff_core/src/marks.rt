@@ -6,7 +6,7 @@ ghost use Rattle.dsd_bits.specs.Contents.{mark_content};
 ghost use Rattle.dsdiff_core.specs.Marks.{mark_of_bytes, text_size};
 ghost use Rattle.dsdiff_core.specs.Masters.{has_no_cut_mark};
 ghost use Rattle.dsdiff_core.specs.Reading.{marks_of};
-ghost use Rattle.dsdiff_core.specs.Held.{StandsIn, held};
+ghost use Rattle.dsdiff_core.specs.Held.{IsInMemory, held};
 
 use crate::held::{Held, data_of};
 use chunk_core::Order::Big;
@@ -19,7 +19,7 @@ pub(crate) const MARK_FIELDS: usize = 22;
 
 /// The marks among the chunks of the edited masters.
 pub(crate) fn read_marks(alloc: Global, file: Held, inner: &[Span]) -> Result<Vec<Mark>, AllocError>
-    requires inside { All (StandsIn file) inner.now }
+    requires inside { All (IsInMemory file) inner.now }
     requires whole { has_no_cut_mark (map (span_chunk (held file)) inner.now) ≡ true }
     ensures marks { IfOk result (λ v. map mark_content v.items ≡ marks_of (held file.entry) inner.now) }
     ensures short { IfOk result (λ v. All (λ mark. length mark.text.items < 2 ^ 32) v.items) }

@@ -2,8 +2,8 @@
 
 ghost use Rattle.std.specs.Prelude.{◌≡◌, All, IfOk, map, not, true};
 ghost use Rattle.chunk_core.specs.Places.{span_chunk};
-ghost use Rattle.dsdiff_core.specs.Masters.{has_no_cut_mark, is_no_cut_mark, master_of, masters_of};
-ghost use Rattle.dsdiff_core.specs.Held.{MayStand, StandsIn, held};
+ghost use Rattle.dsdiff_core.specs.Masters.{has_no_cut_mark, is_no_cut_mark, chunks_of_master, masters_of};
+ghost use Rattle.dsdiff_core.specs.Held.{MayBeInMemory, IsInMemory, held};
 ghost use Rattle.dsdiff_core.specs.Steps.{Gives};
 
 use crate::fault::DsdiffFault;
@@ -18,9 +18,9 @@ pub(crate) fn master_chunks(
     file: Held,
     top: &[Span],
 ) -> Result<Vec<Span>, DsdiffFault>
-    requires { All (MayStand file) top.now }
+    requires { All (MayBeInMemory file) top.now }
     ensures exact { Gives (λ v. v.items) result (masters_of (held file.entry) top.now) }
-    ensures inside { IfOk result (λ v. All (StandsIn file.entry) v.items) }
+    ensures inside { IfOk result (λ v. All (IsInMemory file.entry) v.items) }
     ensures whole { IfOk result (λ v. has_no_cut_mark (map (span_chunk (held file.entry)) v.items) ≡ true) }
 {
     let mut found = Vec::new(alloc);
@@ -33,11 +33,11 @@ pub(crate) fn master_chunks(
     Ok(found)
 }
 
-#[tactic(auto, unfolding(crate::specs::Masters::master_of))]
+#[tactic(auto, unfolding(crate::specs::Masters::chunks_of_master))]
 fn read_master(alloc: Global, file: Held, span: Span) -> Result<Vec<Span>, DsdiffFault>
-    requires { StandsIn file span }
-    ensures exact { Gives (λ v. v.items) result (master_of (held file.entry) span) }
-    ensures inside { IfOk result (λ v. All (StandsIn file.entry) v.items) }
+    requires { IsInMemory file span }
+    ensures exact { Gives (λ v. v.items) result (chunks_of_master (held file.entry) span) }
+    ensures inside { IfOk result (λ v. All (IsInMemory file.entry) v.items) }
     ensures whole { IfOk result (λ v. has_no_cut_mark (map (span_chunk (held file.entry)) v.items) ≡ true) }
 {
     let inner = walk_inside(alloc, file, span, span.start)?;
@@ -48,7 +48,7 @@ fn read_master(alloc: Global, file: Held, span: Span) -> Result<Vec<Span>, Dsdif
 }
 
 fn no_mark_is_cut(file: Held, spans: &[Span]) -> bool
-    requires { All (StandsIn file) spans.now }
+    requires { All (IsInMemory file) spans.now }
     ensures { result ≡ has_no_cut_mark (map (span_chunk (held file.entry)) spans.now) }
 {
     for span in spans {
@@ -61,7 +61,7 @@ fn no_mark_is_cut(file: Held, spans: &[Span]) -> bool
 
 // Whether the chunk is a mark with fewer bytes than its fields and their text.
 fn is_cut_mark(file: Held, span: Span) -> bool
-    requires { StandsIn file span }
+    requires { IsInMemory file span }
     ensures { result ≡ not (is_no_cut_mark (span_chunk (held file.entry) span)) }
 {
     if span.id != *b"MARK" {

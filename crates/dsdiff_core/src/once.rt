@@ -1,7 +1,7 @@
 //! Chunks of kinds that may be there once.
 
 ghost use Rattle.std.specs.Prelude.{◌≡◌, ◌&&◌, [], All, find, is_some};
-ghost use Rattle.dsdiff_core.specs.Held.{MayStand, held};
+ghost use Rattle.dsdiff_core.specs.Held.{MayBeInMemory, held};
 ghost use Rattle.dsdiff_core.specs.Spans.{is_second, once_each, property_kinds, span_has, top_kinds};
 ghost use Rattle.dsdiff_core.specs.Steps.{Gives};
 
@@ -12,7 +12,7 @@ use chunk_core::Span;
 
 /// Refuses a second version, sound property or sound among the form's chunks.
 pub(crate) fn refuse_second_in_form(file: Held, top: &[Span]) -> Result<(), DsdiffFault>
-    requires { All (MayStand file) top.now }
+    requires { All (MayBeInMemory file) top.now }
     ensures { Gives (λ _. tt) result (once_each (top_kinds (held file.entry)) [] top.now) }
 {
     for i in 0..top.len() {
@@ -24,8 +24,8 @@ pub(crate) fn refuse_second_in_form(file: Held, top: &[Span]) -> Result<(), Dsdi
 }
 
 fn is_second_in_form(file: Held, before: &[Span], span: Span) -> bool
-    requires before { All (MayStand file) before.now }
-    requires span { MayStand file span }
+    requires before { All (MayBeInMemory file) before.now }
+    requires span { MayBeInMemory file span }
     ensures { result ≡ is_second (top_kinds (held file.entry)) before.now span }
 {
     repeats(before, span, *b"FVER")

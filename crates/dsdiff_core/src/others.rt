@@ -5,8 +5,8 @@ ghost use Rattle.chunk_core.specs.Places.{span_chunk};
 ghost use Rattle.dsd_bits.specs.Contents.{other_content};
 ghost use Rattle.dsd_bits.specs.Shape.{has_part};
 ghost use Rattle.dsdiff_core.specs.Others.{kept};
-ghost use Rattle.dsdiff_core.specs.Reading.{others_told};
-ghost use Rattle.dsdiff_core.specs.Held.{MayStand, StandsFor, StandsIn, held};
+ghost use Rattle.dsdiff_core.specs.Reading.{kept_others};
+ghost use Rattle.dsdiff_core.specs.Held.{MayBeInMemory, IsInMemoryFor, IsInMemory, held};
 
 use crate::held::{Held, data_of};
 use crate::spans::is_sound_property;
@@ -22,10 +22,10 @@ pub(crate) fn kept_chunks(
     inner: &[Span],
     top: &[Span],
 ) -> Result<Vec<Other>, AllocError>
-    requires parts { All (StandsIn file) parts.now }
-    requires inner { All (StandsIn file) inner.now }
-    requires top { All (MayStand file) top.now }
-    ensures { IfOk result (λ v. map other_content v.items ≡ others_told (held file.entry) parts.now inner.now top.now) }
+    requires parts { All (IsInMemory file) parts.now }
+    requires inner { All (IsInMemory file) inner.now }
+    requires top { All (MayBeInMemory file) top.now }
+    ensures { IfOk result (λ v. map other_content v.items ≡ kept_others (held file.entry) parts.now inner.now top.now) }
 {
     let mut others = Vec::new(alloc);
     push_kept(alloc, &mut others, Place::Property, file, parts)?;
@@ -42,7 +42,7 @@ fn push_kept(
     file: Held,
     spans: &[Span],
 ) -> Result<(), AllocError>
-    requires { All (StandsFor place file) spans.now }
+    requires { All (IsInMemoryFor place file) spans.now }
     ensures { OnOk result (map other_content others.new.items
         ≡ map other_content others.old.items ++ kept place (map (span_chunk (held file.entry)) spans.now)) }
 {
@@ -58,7 +58,7 @@ fn push_kept(
 
 // Whether a recording has a part of its own for a chunk of this place.
 fn is_read(place: Place, file: Held, span: Span) -> bool
-    requires { StandsFor place file span }
+    requires { IsInMemoryFor place file span }
     ensures { result ≡ has_part place (span_chunk (held file.entry) span).id (span_chunk (held file.entry) span).content }
 {
     match place {

@@ -3,8 +3,8 @@
 ghost use Rattle.std.specs.Prelude.{◌≡◌, ◌≤◌, ◌<◌, ◌*◌, All, IfOk, length, option_map};
 ghost use Rattle.dsd_bits.specs.Limits.{IsRate};
 ghost use Rattle.dsdiff_core.specs.Fields.{ids_in};
-ghost use Rattle.dsdiff_core.specs.Properties.{fields_of, limits_of, names_of, property_of, rate_of, raw_of, told_of};
-ghost use Rattle.dsdiff_core.specs.Held.{MayStand, StandsIn, held};
+ghost use Rattle.dsdiff_core.specs.Properties.{fields_of, limits_of, ids_and_number, property_of, rate_of, raw_of, told_of};
+ghost use Rattle.dsdiff_core.specs.Held.{MayBeInMemory, IsInMemory, held};
 ghost use Rattle.dsdiff_core.specs.Steps.{Gives};
 
 use crate::fault::DsdiffFault;
@@ -33,9 +33,9 @@ pub(crate) fn read_property(
     file: Held,
     top: &[Span],
 ) -> Result<SoundProperty, DsdiffFault>
-    requires { All (MayStand file) top.now }
+    requires { All (MayBeInMemory file) top.now }
     ensures exact { Gives told_of result (property_of (held file.entry) top.now) }
-    ensures inside { IfOk result (λ p. All (StandsIn file.entry) p.parts.items) }
+    ensures inside { IfOk result (λ p. All (IsInMemory file.entry) p.parts.items) }
     ensures rate { IfOk result (λ p. IsRate p.rate) }
     ensures number { IfOk result (λ p. (1 ≤ length p.ids.items) × (length p.ids.items ≤ 6)) }
 {
@@ -89,7 +89,7 @@ fn read_rate(bytes: Option<&[u8]>) -> Result<u32, DsdiffFault>
 
 // The channel number, and the bytes of the IDs and after them.
 fn read_names(bytes: Option<&[u8]>) -> Result<(u16, &[u8]), DsdiffFault>
-    ensures exact { Gives (λ x. (x.0, x.1.now)) result (names_of (option_map (λ x. x.now) bytes.entry)) }
+    ensures exact { Gives (λ x. (x.0, x.1.now)) result (ids_and_number (option_map (λ x. x.now) bytes.entry)) }
     ensures long { IfOk result (λ x. 4 * x.0 ≤ length x.1.now) }
 {
     let Some(bytes) = bytes else {

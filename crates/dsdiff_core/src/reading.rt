@@ -10,7 +10,7 @@ ghost use Rattle.dsdiff_core.specs.Steps.{Gives};
 
 use crate::describing::describe_held;
 use crate::fault::DsdiffFault;
-use crate::front::find_sound;
+use crate::header::find_sound;
 use crate::held::{Held, whole};
 use crate::sound::channels_of;
 use chunk_core::{Order, u64_at};

@@ -4,9 +4,9 @@ ghost use Rattle.std.specs.Prelude.{◌≡◌, ◌≤◌, ◌*◌, ◌/◌, ◌%
 ghost use Rattle.chunk_core.specs.Places.{span_chunk};
 ghost use Rattle.dsd_bits.specs.Lacing.{unlaced_all};
 ghost use Rattle.dsd_bits.specs.Limits.{most_bits};
-ghost use Rattle.dsdiff_core.specs.Fronts.{frames_of};
-ghost use Rattle.dsdiff_core.specs.Held.{MayStand, held};
-ghost use Rattle.dsdiff_core.specs.Sounds.{count_told, sound_leads};
+ghost use Rattle.dsdiff_core.specs.Fronts.{frames_fit};
+ghost use Rattle.dsdiff_core.specs.Held.{MayBeInMemory, held};
+ghost use Rattle.dsdiff_core.specs.Sounds.{stated_count, sound_leads};
 ghost use Rattle.dsdiff_core.specs.Steps.{Gives};
 
 use crate::fault::DsdiffFault;
@@ -17,11 +17,11 @@ use dsd_bits::{Bits, LaceFault, MOST_BITS, unlace_bytes};
 use std::alloc::{AllocError, Global};
 
 /// How many bits each of `number` channels of the sound among the form's chunks has.
-#[tactic(auto, unfolding(crate::specs::Sounds::count_told))]
+#[tactic(auto, unfolding(crate::specs::Sounds::stated_count))]
 pub(crate) fn count_sound(file: Held, top: &[Span], number: usize) -> Result<usize, DsdiffFault>
-    requires inside { All (MayStand file) top.now }
+    requires inside { All (MayBeInMemory file) top.now }
     requires some { 1 ≤ number }
-    ensures exact { Gives (λ count. count) result (count_told (held file.entry) top.now number) }
+    ensures exact { Gives (λ count. count) result (stated_count (held file.entry) top.now number) }
     ensures in_limit { IfOk result (λ count. count ≤ most_bits) }
 {
     let Some(span) = first_with(top, *b"DSD ") else {
@@ -37,7 +37,7 @@ pub(crate) fn count_sound(file: Held, top: &[Span], number: usize) -> Result<usi
 /// Refuses a size that is not that of whole frames of `number` channels, within the limit.
 pub(crate) fn check_frames(size: u64, number: usize) -> Result<(), DsdiffFault>
     requires { 1 ≤ number }
-    ensures { Gives (λ _. tt) result (frames_of size number) }
+    ensures { Gives (λ _. tt) result (frames_fit size number) }
 {
     if size % number as u64 != 0 {
         return Err(DsdiffFault::PartFrame);
@@ -68,7 +68,7 @@ pub(crate) fn channels_of(
 
 // Whether the sound comes before the sound property.
 fn leads(file: Held, top: &[Span]) -> bool
-    requires { All (MayStand file) top.now }
+    requires { All (MayBeInMemory file) top.now }
     ensures { result ≡ sound_leads (map (span_chunk (held file.entry)) top.now) }
 {
     for span in top {

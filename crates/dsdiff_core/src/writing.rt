@@ -9,7 +9,7 @@ ghost use Rattle.dsd_bits.specs.Ids.{SND};
 ghost use Rattle.dsd_bits.specs.Shape.{HasShape, same_place};
 ghost use Rattle.dsdiff_core.specs.Files.{IsDsdiff};
 ghost use Rattle.dsdiff_core.specs.MarkBytes.{mark_bytes};
-ghost use Rattle.dsdiff_core.specs.ReadAgain.{as_told};
+ghost use Rattle.dsdiff_core.specs.ReadAgain.{as_stored};
 ghost use Rattle.dsdiff_core.specs.Writing.{channels_chunk, dsdiff_text, edited_master, first_chunks, head_text, mark_chunk, master_chunks, others_of, property_chunks, tail_text};
 
 use crate::fields::{fields_fit, keeps_shape};
@@ -37,7 +37,7 @@ use std::alloc::{AllocError, Global};
 pub fn write(alloc: Global, recording: &Recording) -> Result<Vec<u8>, WriteFault>
     ensures text { IfOk result (λ file. dsdiff_text recording.now ≡ Some file.items) }
     // What is read from it is the recording, without what a file does not store.
-    ensures read_again { IfOk result (λ file. IsDsdiff file.items (as_told recording.now)) }
+    ensures read_again { IfOk result (λ file. IsDsdiff file.items (as_stored recording.now)) }
 
     ensures not_whole_bytes { (result ≡ Err WriteFault.NotWholeBytes) ↔ (dsdiff_text recording.now ≡ None) }
 {
@@ -51,7 +51,7 @@ pub fn write(alloc: Global, recording: &Recording) -> Result<Vec<u8>, WriteFault
 fn file_of(alloc: Global, recording: &Recording) -> Result<Vec<u8>, AllocError>
     requires { count_of recording.now.channels % 8 ≡ 0 }
     ensures text { IfOk result (λ file. dsdiff_text recording.now ≡ Some file.items) }
-    ensures read_again { IfOk result (λ file. IsDsdiff file.items (as_told recording.now)) }
+    ensures read_again { IfOk result (λ file. IsDsdiff file.items (as_stored recording.now)) }
 {
     let channels = recording.channels();
     let size = recording.count() / 8 * channels.len();
@@ -66,8 +66,8 @@ fn file_of(alloc: Global, recording: &Recording) -> Result<Vec<u8>, AllocError>
 }
 
 /// The bytes before the sound in the file that [`write`] returns for a recording whose sound has `size` bytes, followed
-/// by `behind` bytes, those of [`write_tail`]. The recording's own channels are not used: an outline of it has the same
-/// head.
+/// by `place_after` bytes, those of [`write_tail`]. The recording's own channels are not used: an outline of it has the
+/// same head.
 pub fn write_head(
     alloc: Global,
     recording: &Recording,

@@ -13,11 +13,11 @@ use Rattle.dsd_bits.specs.Ids.{same_id, DSD}
 use Rattle.dsd_bits.specs.Sounds.{IsSound}
 use Rattle.dsf_core.specs.declared.fault.DsfFault.{DsfFault}
 use Rattle.dsf_core.specs.declared.fault.DsfFault.TheVariants.{DataCut}
-use Rattle.dsf_core.specs.declared.front.Front.{Front}
+use Rattle.dsf_core.specs.declared.header.Header.{Header}
 use Rattle.dsf_core.specs.Fields.{FMT, DATA, first_size, format_size, version, format, channel_number, rate, bits_per_sample, count, block_size, data_place, data_size, needed, tag_from}
-use Rattle.dsf_core.specs.Files.{bits_of, IsDsf}
+use Rattle.dsf_core.specs.Files.{sample_bits, IsDsf}
 use Rattle.dsf_core.specs.Fronts.{HoldsHead}
-use Rattle.dsf_core.specs.Reading.{channels_by, chunks_of, described_by, end_of, ends_of, front_of, front_told, order_of, order_told, recording_of, sound_told}
+use Rattle.dsf_core.specs.Reading.{channels_by, chunks_of, described_by, end_of, ends_fit, file_header, stated_header, order_of, stated_order, recording_of, stated_sound}
 
 not_false : (b : Bool) → not b ≡ false → b ≡ true
 not_false true e = refl
@@ -77,7 +77,7 @@ chunks_again file h within =
 told_order : ℕ → BitOrder
 told_order bits = cond (eqb bits 1) LeastFirst MostFirst
 
-bits_ok : (bits : ℕ) → (not (eqb bits 1) && not (eqb bits 8)) ≡ false → bits ≡ bits_of (told_order bits)
+bits_ok : (bits : ℕ) → (not (eqb bits 1) && not (eqb bits 8)) ≡ false → bits ≡ sample_bits (told_order bits)
 unfolding told_order
 bits_ok bits e = elim (cases_eq bits 1) [
   | inl one ↦ rw (eq-eqb bits 1 one) one
@@ -93,12 +93,12 @@ pub record Limits (file : List ℕ) (order : BitOrder) : Type 0 where
   pub six_channels : channel_number file ≤ 6
   pub rate_low : 1000000 ≤ rate file
   pub rate_high : rate file ≤ 50000000
-  pub order_is : bits_per_sample file ≡ bits_of order
+  pub order_is : bits_per_sample file ≡ sample_bits order
   pub block_is : block_size file ≡ 4096
   pub not_long : count file ≤ 2 ^ 36
 
 pub order_ok : (file : List ℕ) (order : BitOrder) → order_of file ≡ Ok order → Limits file order
-unfolding order_told told_order
+unfolding stated_order told_order
 order_ok file order e =
     let a = guard_ok _ _ _ _ e in
     let b = guard_ok _ _ _ _ a.1 in
@@ -115,17 +115,17 @@ order_ok file order e =
       six_channels = ltb-false _ _ c.0;
       rate_low = ltb-false _ _ d.0;
       rate_high = ltb-false _ _ f.0;
-      order_is = bits_ok (bits_per_sample file) g.0 ∙ ap bits_of same;
+      order_is = bits_ok (bits_per_sample file) g.0 ∙ ap sample_bits same;
       block_is = eqb-true _ _ (not_false _ h.0);
       not_long = ltb-false _ _ i.0;
     }
 
-bits_again : (bits : ℕ) (order : BitOrder) → bits ≡ bits_of order → ((not (eqb bits 1) && not (eqb bits 8)) ≡ false) × (cond (eqb bits 1) LeastFirst MostFirst ≡ order)
+bits_again : (bits : ℕ) (order : BitOrder) → bits ≡ sample_bits order → ((not (eqb bits 1) && not (eqb bits 8)) ≡ false) × (cond (eqb bits 1) LeastFirst MostFirst ≡ order)
 bits_again bits LeastFirst e = rw e (refl, refl)
 bits_again bits MostFirst e = rw e (refl, refl)
 
 pub order_again : (file : List ℕ) (order : BitOrder) → Limits file order → order_of file ≡ Ok order
-unfolding order_told
+unfolding stated_order
 order_again file order h =
     let bits = bits_again (bits_per_sample file) order h.order_is in
     rw (eq-eqb (version file) 1 h.version_is, le-ltb (channel_number file) 1 h.some_channel, le-ltb 6 (channel_number file) h.six_channels, le-ltb (rate file) 1000000 h.rate_low, le-ltb 50000000 (rate file) h.rate_high, bits.0, eq-eqb (block_size file) 4096 h.block_is, le-ltb (2 ^ 36) (count file) h.not_long, bits.1) refl
@@ -139,18 +139,18 @@ pub record Leads (file : List ℕ) (s : Sound) : Type 0 where
   pub limits : Limits file order
   pub fits : needed file ≤ data_size file - 12
   pub holds : HoldsHead file
-  pub told : s ≡ sound_told file order
+  pub told : s ≡ stated_sound file order
 
-abbrev pub front_done : Front → Result Front DsfFault
+abbrev pub front_done : Header → Result Header DsfFault
 front_done front = Ok front
 
-pub front_ok : (file : List ℕ) (front : Front) → front_of file ≡ Ok front → (l : Leads file front.sound) × (front ≡ front_told file l.order)
-unfolding front_of
+pub front_ok : (file : List ℕ) (front : Header) → file_header file ≡ Ok front → (l : Leads file front.sound) × (front ≡ stated_header file l.order)
+unfolding file_header
 front_ok file front e =
     bind_then (chunks_of file) _ front e (λ place e1 h1.
     bind_then (order_of file) _ front h1 (λ order e2 h2.
-    let g = guard_ok (ltb (data_size file) (needed file + 12)) DataCut (Ok (front_told file order)) front h2 in
-    let same : front ≡ front_told file order = cc (g.1) in
+    let g = guard_ok (ltb (data_size file) (needed file + 12)) DataCut (Ok (stated_header file order)) front h2 in
+    let same : front ≡ stated_header file order = cc (g.1) in
     let chunks = chunks_ok file place e1 in
     let fits : needed file + 12 ≤ data_size file = ltb-false _ _ g.0 in (
       record {
@@ -159,21 +159,21 @@ front_ok file front e =
         limits = order_ok file order e2;
         fits = omega (arith, fits);
         holds = chunks.1;
-        told = ap (λ (f : Front). f.sound) same;
+        told = ap (λ (f : Header). f.sound) same;
       },
       same,
     )))
 
 module _ (file : List ℕ) (data_at : ℕ) (order : BitOrder) (chunks : chunks_of file ≡ Ok data_at) (fields : order_of file ≡ Ok order) where
-  pub front_cut : data_size file < needed file + 12 → front_of file ≡ Err DataCut
-  unfolding front_of
+  pub front_cut : data_size file < needed file + 12 → file_header file ≡ Err DataCut
+  unfolding file_header
   front_cut cut = rw (chunks, fields, lt-ltb (data_size file) (needed file + 12) cut) refl
 
-  pub front_is : needed file + 12 ≤ data_size file → front_of file ≡ Ok (front_told file order)
-  unfolding front_of
+  pub front_is : needed file + 12 ≤ data_size file → file_header file ≡ Ok (stated_header file order)
+  unfolding file_header
   front_is fits = rw (chunks, fields, le-ltb (data_size file) (needed file + 12) fits) refl
 
-pub front_again : (file : List ℕ) (order : BitOrder) → Heads file → Limits file order → HoldsHead file → needed file ≤ data_size file - 12 → front_of file ≡ Ok (front_told file order)
+pub front_again : (file : List ℕ) (order : BitOrder) → Heads file → Limits file order → HoldsHead file → needed file ≤ data_size file - 12 → file_header file ≡ Ok (stated_header file order)
 front_again file order heads limits holds fits = front_is file (data_place file) order (chunks_again file heads holds.head) (order_again file order limits) (omega (arith, fits, heads.third_long))
 
 -- the sound lies in its limits
@@ -190,12 +190,12 @@ is_sound file s l = subst IsSound (sym l.told) (record {
 -- ---- the ends
 
 -- the sound ends in a file of so many bytes, and the tag stands behind it
-pub record Ends (front : Front) (total : ℕ) : Type 0 where
+pub record Ends (front : Header) (total : ℕ) : Type 0 where
   pub enough : end_of front ≤ total
   pub tag : (front.tag_at ≡ 0) ⊎ ((end_of front ≤ front.tag_at) × (front.tag_at ≤ total))
 
-pub ends_ok : (front : Front) (total : ℕ) (x : Unit {0}) → ends_of front total ≡ Ok x → Ends front total
-unfolding ends_of
+pub ends_ok : (front : Header) (total : ℕ) (x : Unit {0}) → ends_fit front total ≡ Ok x → Ends front total
+unfolding ends_fit
 ends_ok front total x e =
     let a = guard_ok _ _ _ _ e in
     record {
@@ -206,8 +206,8 @@ ends_ok front total x e =
       ];
     }
 
-pub ends_again : (front : Front) (total : ℕ) → Ends front total → ends_of front total ≡ Ok tt
-unfolding ends_of
+pub ends_again : (front : Header) (total : ℕ) → Ends front total → ends_fit front total ≡ Ok tt
+unfolding ends_fit
 ends_again front total h = elim (cases_eq front.tag_at 0) [
   | inl none ↦ rw (le-ltb total (end_of front) h.enough, eq-eqb front.tag_at 0 none) refl
   | inr some ↦ elim h.tag [
@@ -217,19 +217,19 @@ ends_again front total h = elim (cases_eq front.tag_at 0) [
 ]
 
 -- what a front and ends without a fault say of a file
-pub record InFile (file : List ℕ) (front : Front) : Type 0 where
+pub record InFile (file : List ℕ) (front : Header) : Type 0 where
   pub sound : IsSound front.sound
   pub size : front.sound.size ≡ blocks_size front.sound.channels front.sound.count
   pub whole : front.sound.start + front.sound.size ≤ length file
   pub tag : front.tag_at ≤ length file
 
-pub in_file : (file : List ℕ) (front : Front) (u : Unit {0}) → Ok front ≡ front_of file → Ok u ≡ ends_of front (length file) → InFile file front
+pub in_file : (file : List ℕ) (front : Header) (u : Unit {0}) → Ok front ≡ file_header file → Ok u ≡ ends_fit front (length file) → InFile file front
 in_file file front u reads ended =
     let l = front_ok file front (sym reads) in
     let ends = ends_ok front (length file) u (sym ended) in
     record {
       sound = is_sound file front.sound l.0;
-      size = subst (λ (f : Front). f.sound.size ≡ blocks_size f.sound.channels f.sound.count) (sym l.1) refl;
+      size = subst (λ (f : Header). f.sound.size ≡ blocks_size f.sound.channels f.sound.count) (sym l.1) refl;
       whole = ends.enough;
       tag = elim ends.tag [ inl none ↦ omega (arith, none) | inr there ↦ there.1 ];
     }
@@ -249,11 +249,11 @@ same_reading r s order other e =
     (ap (λ (x : Content × BitOrder). x.0) both, ap (λ (x : Content × BitOrder). x.1) both)
 
 -- what a file tells whose front leads to this
-abbrev pub told : List ℕ → Front → Content
+abbrev pub told : List ℕ → Header → Content
 told file front = with_channels (described_by front (tag_from front.tag_at file)) (channels_by front (drop front.sound.start file))
 
 -- a file of these chunks and fields, whose sound and tag stand in it, holds what it tells
-pub is_file : (file : List ℕ) (s : Sound) (l : Leads file s) → Ends (front_told file l.order) (length file) → IsDsf file (told file (front_told file l.order)) l.order
+pub is_file : (file : List ℕ) (s : Sound) (l : Leads file s) → Ends (stated_header file l.order) (length file) → IsDsf file (told file (stated_header file l.order)) l.order
 is_file file s l ends = record {
   first = l.heads.first;
   first_is = l.heads.first_is;
@@ -285,16 +285,16 @@ is_file file s l ends = record {
 pub is_dsf : (file : List ℕ) (x : Content × BitOrder) → recording_of file ≡ Ok x → IsDsf file x.0 x.1
 unfolding recording_of
 is_dsf file x e =
-    bind_then (front_of file) _ x e (λ front e1 h1.
-    bind_then (ends_of front (length file)) _ x h1 (λ unit e2 h2.
+    bind_then (file_header file) _ x e (λ front e1 h1.
+    bind_then (ends_fit front (length file)) _ x h1 (λ unit e2 h2.
     let leads = front_ok file front e1 in
     let made : (told file front, front.order) ≡ x = sym (ok_is (told file front, front.order) x h2) in
-    let again : (told file (front_told file leads.0.order), leads.0.order) ≡ x = ap (λ (f : Front). (told file f, f.order)) (sym leads.1) ∙ made in
+    let again : (told file (stated_header file leads.0.order), leads.0.order) ≡ x = ap (λ (f : Header). (told file f, f.order)) (sym leads.1) ∙ made in
     let P : Content × BitOrder → Type 0 = λ y. IsDsf file y.0 y.1 in
-    subst P again (is_file file front.sound leads.0 (subst (λ (f : Front). Ends f (length file)) leads.1 (ends_ok front (length file) unit e2)))))
+    subst P again (is_file file front.sound leads.0 (subst (λ (f : Header). Ends f (length file)) leads.1 (ends_ok front (length file) unit e2)))))
 
 -- the front of such a file leads to its sound
-abbrev pub leads_of : (file : List ℕ) (r : Content) (order : BitOrder) → IsDsf file r order → Leads file (sound_told file order)
+abbrev pub leads_of : (file : List ℕ) (r : Content) (order : BitOrder) → IsDsf file r order → Leads file (stated_sound file order)
 leads_of file r order h = record {
   order = order;
   heads = record { first = h.first; first_is = h.first_is; second = h.second; second_long = h.second_long; third = h.third; third_long = h.third_long; format_is = h.format_is };
@@ -304,13 +304,13 @@ leads_of file r order h = record {
   told = refl;
 }
 
-pub front_read : (file : List ℕ) (r : Content) (order : BitOrder) → IsDsf file r order → front_of file ≡ Ok (front_told file order)
+pub front_read : (file : List ℕ) (r : Content) (order : BitOrder) → IsDsf file r order → file_header file ≡ Ok (stated_header file order)
 front_read file r order h = let l = leads_of file r order h in front_again file order l.heads l.limits l.holds l.fits
 
 pub dsf_is_read : (file : List ℕ) (r : Content) (order : BitOrder) → IsDsf file r order → recording_of file ≡ Ok (r, order)
 unfolding recording_of
 dsf_is_read file r order h =
-    let made : told file (front_told file order) ≡ r = λ i. record {
+    let made : told file (stated_header file order) ≡ r = λ i. record {
       rate = sym h.rate_read i;
       channels = sym h.channels_read i;
       ids = sym h.ids_read i;
@@ -319,4 +319,4 @@ dsf_is_read file r order h =
       others = sym h.no_others i;
       tag = sym h.tag_read i;
     } in
-    rw (front_read file r order h, ends_again (front_told file order) (length file) (record { enough = h.in_file; tag = h.behind })) (ap (λ (c : Content). done (c, order)) made)
+    rw (front_read file r order h, ends_again (stated_header file order) (length file) (record { enough = h.in_file; tag = h.behind })) (ap (λ (c : Content). done (c, order)) made)

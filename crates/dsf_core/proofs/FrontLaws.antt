@@ -23,13 +23,13 @@ use Rattle.dsd_bits.proofs.SoundLemmas.{unblocked_all-take}
 use Rattle.dsf_core.specs.declared.fault.DsfFault.{DsfFault}
 use Rattle.dsf_core.specs.declared.fault.DsfFault.TheVariants as faults
 use Rattle.dsf_core.specs.declared.fault.DsfFault.TheVariants.{DataCut, HeadCut}
-use Rattle.dsf_core.specs.declared.front.Front.{Front}
+use Rattle.dsf_core.specs.declared.header.Header.{Header}
 use Rattle.dsf_core.specs.declared.locating.Located.{Located}
 use Rattle.dsf_core.specs.declared.locating.Located.TheVariants as answers
 use Rattle.dsf_core.specs.Fields.{u64_at, FMT, DATA, first_size, pointer, format_size, version, format, channel_number, rate, bits_per_sample, count, block_size, data_place, data_size, sound_place, needed}
 use Rattle.dsf_core.specs.Files.{IsDsf}
 use Rattle.dsf_core.specs.Fronts.{HoldsHead, IsAccepted, IsLocated, answer_of, is_cut, located, sound_at, without_fault}
-use Rattle.dsf_core.specs.Reading.{chunks_of, front_of, front_told, order_of, order_told, recording_of, sound_told}
+use Rattle.dsf_core.specs.Reading.{chunks_of, file_header, stated_header, order_of, stated_order, recording_of, stated_sound}
 use Rattle.dsf_core.proofs.FileLaws.{Leads, done, dsf_is_read, front_done, front_ok, front_read, is_sound}
 
 -- ---- fields in the front of a file
@@ -78,9 +78,9 @@ module _ (front rest : List ℕ) (h : HoldsHead front) where
       rw (le-ltb (length (front ++ rest)) 4 (omega (arith, h.fields, long)), le-ltb (length front) 4 (omega (arith, h.fields)), id_front 0 front rest (omega (arith, h.fields)), le-ltb (length (front ++ rest)) 80 (omega (arith, h.fields, long)), le-ltb (length front) 80 h.fields, number_front 8 4 front rest (omega (arith, h.fields)), id_front 28 front rest (omega (arith, h.fields)), third, data_is, size_is, le-ltb (length (front ++ rest)) (data_place front + 12) (omega (arith, h.head, long)), le-ltb (length front) (data_place front + 12) h.head, number_front 4 44 front rest (omega (arith, h.fields))) refl
 
   order_same : order_of (front ++ rest) ≡ order_of front
-  order_same = λ j. order_told (number_front 4 40 front rest (omega (arith, h.fields)) j) (number_is j) (rate_is j) (number_front 4 60 front rest (omega (arith, h.fields)) j) (number_front 4 72 front rest (omega (arith, h.fields)) j) (count_is j)
+  order_same = λ j. stated_order (number_front 4 40 front rest (omega (arith, h.fields)) j) (number_is j) (rate_is j) (number_front 4 60 front rest (omega (arith, h.fields)) j) (number_front 4 72 front rest (omega (arith, h.fields)) j) (count_is j)
 
-  told_same : (order : BitOrder) → front_told (front ++ rest) order ≡ front_told front order
+  told_same : (order : BitOrder) → stated_header (front ++ rest) order ≡ stated_header front order
   told_same order = λ j. record {
     sound = record { rate = rate_is j; channels = number_is j; count = count_is j; start = 28 + size_is j + 12; size = needed_is j; interleaving = Blocks order };
     order = order;
@@ -89,8 +89,8 @@ module _ (front rest : List ℕ) (h : HoldsHead front) where
   }
 
   -- and so is what it tells
-  pub front_same : front_of (front ++ rest) ≡ front_of front
-  unfolding front_of
+  pub front_same : file_header (front ++ rest) ≡ file_header front
+  unfolding file_header
   front_same = λ j. chunks_same j >>= (λ place. order_same j >>= (λ order. cond (ltb (data_is j) (needed_is j + 12)) (Err DataCut) (front_done (told_same order j))))
 
 -- ---- a front without its whole head
@@ -128,8 +128,8 @@ module _ (front rest : List ℕ) (some : 4 ≤ length front) where
   ]
 
   -- what a front tells that is not cut is told of every file that begins so
-  pub front_agrees : (front_of front ≡ Err HeadCut) ⊎ (front_of (front ++ rest) ≡ front_of front)
-  unfolding front_of
+  pub front_agrees : (file_header front ≡ Err HeadCut) ⊎ (file_header (front ++ rest) ≡ file_header front)
+  unfolding file_header
   front_agrees = elim (cases_lt (length front) 80) [
     | inl short ↦ by (chunks_cut (λ h. omega (arith, h.fields, short)))
     | inr fields ↦ elim (cases_lt (length front) (sound_place front)) [
@@ -138,7 +138,7 @@ module _ (front rest : List ℕ) (some : 4 ≤ length front) where
     ]
   ]
     where
-      by : CutOr (chunks_of front) (chunks_of (front ++ rest)) → (front_of front ≡ Err HeadCut) ⊎ (front_of (front ++ rest) ≡ front_of front)
+      by : CutOr (chunks_of front) (chunks_of (front ++ rest)) → (file_header front ≡ Err HeadCut) ⊎ (file_header (front ++ rest) ≡ file_header front)
       by (inl cut) = inl (rw cut refl)
       by (inr (e, one, other)) = inr (rw (one, other) refl)
 
@@ -173,7 +173,7 @@ chunks_whole front holds =
     (other (not (eqb (format front) 0)) faults.BadFormat _ refl (ok_whole (data_place front))))))))))
 
 order_whole : (front : List ℕ) → Whole (order_of front)
-unfolding order_told
+unfolding stated_order
 order_whole front =
     other (not (eqb (version front) 1)) faults.BadVersion _ refl
     (other (ltb (channel_number front) 1) faults.BadChannelNumber _ refl
@@ -185,12 +185,12 @@ order_whole front =
     (other (ltb (2 ^ 36) (count front)) faults.TooLong _ refl (ok_whole (cond (eqb (bits_per_sample front) 1) LeastFirst MostFirst)))))))))
 
 -- more bytes are wanted only where the head is not whole
-front_whole : (front : List ℕ) → HoldsHead front → Whole (front_of front)
-unfolding front_of
+front_whole : (front : List ℕ) → HoldsHead front → Whole (file_header front)
+unfolding file_header
 front_whole front holds =
     bind_whole (chunks_of front) _ (chunks_whole front holds) (λ place.
     bind_whole (order_of front) _ (order_whole front) (λ order.
-    other (ltb (data_size front) (needed front + 12)) DataCut _ refl (ok_whole (front_told front order))))
+    other (ltb (data_size front) (needed front + 12)) DataCut _ refl (ok_whole (stated_header front order))))
 
 -- ---- what the first bytes tell
 
@@ -198,20 +198,20 @@ abbrev pub found : Sound → SoundAt
 found s = Found s
 
 -- a sound is found by what a front of four bytes and more tells
-pub found_front : (front : List ℕ) (s : Sound) → sound_at front ≡ Found s → (4 ≤ length front) × (f : Front) × (front_of front ≡ Ok f) × (f.sound ≡ s)
+pub found_front : (front : List ℕ) (s : Sound) → sound_at front ≡ Found s → (4 ≤ length front) × (f : Header) × (file_header front ≡ Ok f) × (f.sound ≡ s)
 unfolding sound_at located
 found_front front s e = elim (cases_lt (length front) 4) [
   | inl short ↦ let none : More ≡ Found s = rw (lt-ltb (length front) 4 short) at e in absurd cc
   | inr long ↦
-      let told : without_fault (answer_of (front_of front)) ≡ Found s = rw (le-ltb (length front) 4 long) at e in
-      (let f = by (front_of front) told in (long, f.0, f.1, f.2))
+      let told : without_fault (answer_of (file_header front)) ≡ Found s = rw (le-ltb (length front) 4 long) at e in
+      (let f = by (file_header front) told in (long, f.0, f.1, f.2))
 ]
   where
     none : (cut : Bool) (d : DsfFault) → without_fault (cond cut (answers.More d) (answers.Refused d)) ≡ Found s → ⊥
     none true d e = cc
     none false d e = cc
 
-    by : (x : Result Front DsfFault) → without_fault (answer_of x) ≡ Found s → (f : Front) × (x ≡ Ok f) × (f.sound ≡ s)
+    by : (x : Result Header DsfFault) → without_fault (answer_of x) ≡ Found s → (f : Header) × (x ≡ Ok f) × (f.sound ≡ s)
     by (Ok f) e = (f, refl, cc)
     by (Err d) e = absurd (none (is_cut d) d e)
 
@@ -221,36 +221,36 @@ found_leads front s e =
     subst (Leads front) f.3 (front_ok front f.1 f.2).0
 
 -- and a front that leads to a sound finds it
-pub front_found : (front : List ℕ) (order : BitOrder) → HoldsHead front → front_of front ≡ Ok (front_told front order) → sound_at front ≡ Found (sound_told front order)
+pub front_found : (front : List ℕ) (order : BitOrder) → HoldsHead front → file_header front ≡ Ok (stated_header front order) → sound_at front ≡ Found (stated_sound front order)
 unfolding sound_at located
 front_found front order holds e = rw (le-ltb (length front) 4 (omega (arith, holds.fields)), e) refl
 
-short_front : (front : List ℕ) → length front < 4 → front_of front ≡ Err faults.NotDsf
-unfolding front_of chunks_of
+short_front : (front : List ℕ) → length front < 4 → file_header front ≡ Err faults.NotDsf
+unfolding file_header chunks_of
 short_front front short = rw (lt-ltb (length front) 4 short) refl
 
 pub is_located : (front : List ℕ) → IsLocated front (located front)
 unfolding located sound_at recording_of
 is_located front = elim (cases_lt (length front) 4) [
   | inl short ↦ rw (lt-ltb (length front) 4 short) (λ holds. omega (arith, holds.fields, short), rw (short_front front short) refl)
-  | inr long ↦ rw (le-ltb (length front) 4 long) (by long (front_of front) refl)
+  | inr long ↦ rw (le-ltb (length front) 4 long) (by long (file_header front) refl)
 ]
   where
-    refused : (d : DsfFault) → 4 ≤ length front → front_of front ≡ Err d → (cut : Bool) → cut ≡ is_cut d → IsLocated front (cond cut (answers.More d) (answers.Refused d))
+    refused : (d : DsfFault) → 4 ≤ length front → file_header front ≡ Err d → (cut : Bool) → cut ≡ is_cut d → IsLocated front (cond cut (answers.More d) (answers.Refused d))
     refused d long e true is = (λ holds. (let no = (front_whole front holds).no d e in absurd cc), rw e refl)
     refused d long e false is = λ rest. elim (front_agrees front rest long) [
       | inl cut ↦ (let same : d ≡ HeadCut = cc in let yes : false ≡ true = is ∙ ap is_cut same in absurd cc)
       | inr same ↦ rw (same, e) refl
     ]
 
-    by : 4 ≤ length front → (x : Result Front DsfFault) → front_of front ≡ x → IsLocated front (answer_of x)
+    by : 4 ≤ length front → (x : Result Header DsfFault) → file_header front ≡ x → IsLocated front (answer_of x)
     by long (Ok f) e = rw (le-ltb (length front) 4 long, e) refl
     by long (Err d) e = refused d long e (is_cut d) refl
 
 -- ---- the sound that is found
 
 -- a file that holds a recording has the sound that it tells of
-pub told_sound : (file : List ℕ) (r : Content) (order : BitOrder) → IsDsf file r order → HasSound file r (sound_told file order)
+pub told_sound : (file : List ℕ) (r : Content) (order : BitOrder) → IsDsf file r order → HasSound file r (stated_sound file order)
 told_sound file r order h =
     let n : ℕ = channel_number file in
     let c : ℕ = count file in
@@ -264,12 +264,12 @@ told_sound file r order h =
     }
 
 -- the sound of a front that leads to one is that of each file that begins so
-pub same_sound : (front rest : List ℕ) (s : Sound) (order : BitOrder) (r : Content) → sound_at front ≡ Found s → IsDsf (front ++ rest) r order → sound_told (front ++ rest) order ≡ s
+pub same_sound : (front rest : List ℕ) (s : Sound) (order : BitOrder) (r : Content) → sound_at front ≡ Found s → IsDsf (front ++ rest) r order → stated_sound (front ++ rest) order ≡ s
 same_sound front rest s order r e h =
     let f = found_front front s e in
-    let again : front_done f.1 ≡ front_done (front_told (front ++ rest) order) = sym f.2 ∙ sym (front_same front rest (found_leads front s e).holds) ∙ front_read (front ++ rest) r order h in
-    let same : f.1 ≡ front_told (front ++ rest) order = cc in
-    sym (ap (λ (x : Front). x.sound) same) ∙ f.3
+    let again : front_done f.1 ≡ front_done (stated_header (front ++ rest) order) = sym f.2 ∙ sym (front_same front rest (found_leads front s e).holds) ∙ front_read (front ++ rest) r order h in
+    let same : f.1 ≡ stated_header (front ++ rest) order = cc in
+    sym (ap (λ (x : Header). x.sound) same) ∙ f.3
 
 pub ends_front : (front : List ℕ) (s : Sound) → sound_at front ≡ Found s → sound_at (take s.start front) ≡ Found s
 ends_front front s e =
@@ -283,7 +283,7 @@ ends_front front s e =
     let fields : 80 ≤ length short = omega (arith, long, start, l.heads.second_long) in
     let size : format_size front ≡ format_size short = ap format_size (sym whole) ∙ number_front 8 32 short rest (omega (arith, fields)) in
     let holds : HoldsHead short = record { fields = fields; head = omega (arith, long, start, size) } in
-    let told : front_of short ≡ Ok f.1 = sym (front_same short rest holds) ∙ ap front_of whole ∙ f.2 in
+    let told : file_header short ≡ Ok f.1 = sym (front_same short rest holds) ∙ ap file_header whole ∙ f.2 in
     let leads = front_ok short f.1 told in
     front_found short leads.0.order holds (told ∙ ap front_done leads.1) ∙ ap found (sym leads.0.told ∙ f.3)
 

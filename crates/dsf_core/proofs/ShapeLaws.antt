@@ -6,11 +6,11 @@ use Rattle.dsd_bits.specs.Layouts.{layout_channels}
 use Rattle.dsd_bits.specs.Shape.{IsDescription}
 use Rattle.dsd_bits.specs.Sounds.{IsSound}
 use Rattle.dsd_bits.proofs.LayoutLaws.{usual_layout_fits}
-use Rattle.dsf_core.specs.declared.front.Front.{Front}
-use Rattle.dsf_core.specs.Fields.{dsf_ids, layout_told}
+use Rattle.dsf_core.specs.declared.header.Header.{Header}
+use Rattle.dsf_core.specs.Fields.{dsf_ids, stated_layout}
 use Rattle.dsf_core.specs.Reading.{described_by}
 
-layout_fits : (kind number : ℕ) → number ≤ 6 → layout_channels (layout_told kind number) ≡ number
+layout_fits : (kind number : ℕ) → number ≤ 6 → layout_channels (stated_layout kind number) ≡ number
 layout_fits kind number six = elim (cases_eq (layout_channels kind) number) [
   | inl same ↦ rw (eq-eqb (layout_channels kind) number same) same
   | inr other ↦ rw (ne_eqb (layout_channels kind) number other) (usual_layout_fits number six)
@@ -22,7 +22,7 @@ id_for_each number = elim (cases_eq number 2) [
   | inr other ↦ rw (ne_eqb number 2 other) (length-map-range_with_len (λ c. codes "C00" ++ (48 + c) ∷ []) 0 number)
 ]
 
-pub shape_is : (front : Front) (tag : List ℕ) → IsSound front.sound → IsDescription (described_by front tag)
+pub shape_is : (front : Header) (tag : List ℕ) → IsSound front.sound → IsDescription (described_by front tag)
 shape_is front tag s =
     let long = id_for_each front.sound.channels in
     record {

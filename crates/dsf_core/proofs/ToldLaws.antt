@@ -2,13 +2,13 @@
 use Rattle.std.proofs.Common.{◌≡◌, ℕ, List, sym, ap, ◌∙◌, arith}
 use Rattle.dsd_bits.specs.declared.sound.Sound.{Sound}
 use Rattle.dsd_bits.specs.declared.sound.SoundAt.TheVariants.{Found}
-use Rattle.dsf_core.specs.Fronts.{HoldsHead, TellsSound, sound_at}
-use Rattle.dsf_core.specs.Laws.{FoundIsTold, SoundIsTold}
-use Rattle.dsf_core.specs.Reading.{sound_told}
+use Rattle.dsf_core.specs.Fronts.{HoldsHead, StatesSound, sound_at}
+use Rattle.dsf_core.specs.Laws.{FoundIsStated, SoundIsStated}
+use Rattle.dsf_core.specs.Reading.{stated_sound}
 use Rattle.dsf_core.proofs.FileLaws.{Leads, front_again, leads_of}
 use Rattle.dsf_core.proofs.FrontLaws.{found, found_leads, front_found, told_sound}
 
-tells : (front : List ℕ) (s : Sound) → Leads front s → TellsSound front s
+tells : (front : List ℕ) (s : Sound) → Leads front s → StatesSound front s
 tells front s l = record {
   first = l.heads.first;
   first_is = l.heads.first_is;
@@ -31,7 +31,7 @@ tells front s l = record {
   told = l.told;
 }
 
-told_found : (front : List ℕ) (s : Sound) → TellsSound front s → sound_at front ≡ Found s
+told_found : (front : List ℕ) (s : Sound) → StatesSound front s → sound_at front ≡ Found s
 told_found front s t =
     let holds : HoldsHead front = record { fields = omega (arith, t.second_long, t.whole_head); head = t.whole_head } in
     let reads = front_again front t.order
@@ -42,8 +42,8 @@ told_found front s t =
 
 -- ---- the laws
 
-pub found_is_told : FoundIsTold
+pub found_is_told : FoundIsStated
 found_is_told front s = (λ e. tells front s (found_leads front s e), told_found front s)
 
-pub sound_is_told : SoundIsTold
-sound_is_told file r order h = (sound_told file order, tells file (sound_told file order) (leads_of file r order h), told_sound file r order h)
+pub sound_is_told : SoundIsStated
+sound_is_told file r order h = (stated_sound file order, tells file (stated_sound file order) (leads_of file r order h), told_sound file r order h)

@@ -12,10 +12,10 @@ use Rattle.dsd_bits.specs.Blocks.{BlocksReadAgain, block_byte, blocked, blocks_s
 use Rattle.dsd_bits.specs.Channels.{count_of}
 use Rattle.dsd_bits.specs.Contents.{described}
 use Rattle.dsd_bits.specs.Layouts.{layout_channels}
-use Rattle.dsf_core.specs.Fields.{pointer, data_size, channel_type, channel_number, rate, bits_per_sample, count, needed, sound_end, dsf_ids, tag_told}
-use Rattle.dsf_core.specs.Files.{bits_of}
+use Rattle.dsf_core.specs.Fields.{pointer, data_size, channel_type, channel_number, rate, bits_per_sample, count, needed, sound_end, dsf_ids, stated_tag}
+use Rattle.dsf_core.specs.Files.{sample_bits}
 use Rattle.dsf_core.specs.ReadAgain.{WrittenReadAgain}
-use Rattle.dsf_core.specs.Writing.{sound_size, tag_place, first_text, format_text, data_text, head_text, dsf_text}
+use Rattle.dsf_core.specs.Writing.{recording_size, tag_place, first_text, format_text, data_text, head_text, dsf_text}
 
 -- the 92 bytes before the sound, of these numbers
 abbrev dsf_head : ℕ → ℕ → ℕ → ℕ → ℕ → ℕ → ℕ → ℕ → List ℕ
@@ -53,7 +53,7 @@ layout_small l n h e = elim (cases_lt l 8) [
       absurd (omega arith)
 ]
 
-bits_small : (order : BitOrder) → bits_of order < 256 ^ 4
+bits_small : (order : BitOrder) → sample_bits order < 256 ^ 4
 bits_small LeastFirst = omega arith
 bits_small MostFirst = omega arith
 
@@ -68,7 +68,7 @@ no_tag : (tag : List ℕ) → length tag ≡ 0 → tag ≡ []
 no_tag [] e = refl
 no_tag (x ∷ xs) e = absurd (omega arith)
 
-tag_there : (file front tag : List ℕ) (end : ℕ) → 1 ≤ end → file ≡ front ++ tag → length front ≡ end → pointer file ≡ cond (eqb (length tag) 0) 0 end → tag ≡ tag_told file
+tag_there : (file front tag : List ℕ) (end : ℕ) → 1 ≤ end → file ≡ front ++ tag → length front ≡ end → pointer file ≡ cond (eqb (length tag) 0) 0 end → tag ≡ stated_tag file
 tag_there file front tag end some e size p = elim (pointer_of tag end) [
   | inl none ↦
       let zero_p : pointer file ≡ 0 = p ∙ none.1 in
@@ -86,7 +86,7 @@ written_again again r order h short =
     let n = length r.ids in
     let same : n ≡ length r.channels = h.id_for_each in
     let c = count_of r.channels in
-    let g = sound_size d in
+    let g = recording_size d in
     let sound = blocked order r.channels in
     let file = dsf_text r order in
     let groups = mul-le (div_ceil c 32768) n (2 ^ 21) 6 (omega (arith, h.in_limit)) (omega (arith, h.six_channels, same)) in
@@ -97,7 +97,7 @@ written_again again r order h short =
     let long : length file ≡ 92 + g + length r.tag = ap length apart ∙ length-append (head_text d order ++ sound) r.tag ∙ ap (λ (m : ℕ). m + length r.tag) front_long in
     let there = pointer_of r.tag (92 + g) in
     let low : tag_place d < 256 ^ 8 = elim there [ inl none ↦ omega (arith, none.1) | inr some ↦ omega (arith, some, small) ] in
-    let reads = head_reads (92 + g + length r.tag) (tag_place d) r.layout n r.rate (bits_of order) c (12 + g) (sound ++ r.tag) low (omega (arith, layout_small r.layout (length r.channels) h.some_channel h.layout_fits)) (omega (arith, h.six_channels, same)) (omega (arith, h.rate_high)) (bits_small order) (omega (arith, h.in_limit)) (omega (arith, small)) in
+    let reads = head_reads (92 + g + length r.tag) (tag_place d) r.layout n r.rate (sample_bits order) c (12 + g) (sound ++ r.tag) low (omega (arith, layout_small r.layout (length r.channels) h.some_channel h.layout_fits)) (omega (arith, h.six_channels, same)) (omega (arith, h.rate_high)) (bits_small order) (omega (arith, h.in_limit)) (omega (arith, small)) in
     let needed_is : needed file ≡ g = ap (λ (m : ℕ). blocks_size m (count file)) reads.at_number ∙ ap (λ (m : ℕ). blocks_size n m) reads.at_count in
     let end_is : sound_end file ≡ 92 + g = ap (λ (m : ℕ). 92 + m) needed_is in
     record {

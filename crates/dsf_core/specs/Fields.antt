@@ -96,8 +96,8 @@ sound_end file = sound_place file + needed file
 -- ---- what the fields say
 
 -- the layout: the channel type if it fits the channel number, else the usual layout (this project's profile)
-abbrev pub layout_told : ℕ → ℕ → ℕ
-layout_told kind number = if nat_eq (layout_channels kind) number then kind else usual_layout number
+abbrev pub stated_layout : ℕ → ℕ → ℕ
+stated_layout kind number = if nat_eq (layout_channels kind) number then kind else usual_layout number
 
 -- the IDs of n channels
 abbrev pub dsf_ids : ℕ → List (List ℕ)
@@ -110,5 +110,5 @@ abbrev pub tag_from : ℕ → List ℕ → List ℕ
 tag_from place file = if nat_eq place 0 then [] else drop place file
 
 -- the tag: the bytes from the pointer on
-abbrev pub tag_told : List ℕ → List ℕ
-tag_told file = tag_from (pointer file) file
+abbrev pub stated_tag : List ℕ → List ℕ
+stated_tag file = tag_from (pointer file) file

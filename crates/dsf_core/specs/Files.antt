@@ -7,12 +7,12 @@ use Rattle.dsd_bits.specs.Blocks.{unblocked_all}
 use Rattle.dsd_bits.specs.Contents.{Content}
 use Rattle.dsd_bits.specs.Ids.{DSD}
 use Rattle.dsd_bits.specs.Limits.{most_bits, least_rate, greatest_rate, block_bytes}
-use Rattle.dsf_core.specs.Fields.{FMT, DATA, first_size, pointer, format_size, version, format, channel_type, channel_number, rate, bits_per_sample, count, block_size, data_place, data_size, sound_place, needed, sound_end, layout_told, dsf_ids, tag_told}
+use Rattle.dsf_core.specs.Fields.{FMT, DATA, first_size, pointer, format_size, version, format, channel_type, channel_number, rate, bits_per_sample, count, block_size, data_place, data_size, sound_place, needed, sound_end, stated_layout, dsf_ids, stated_tag}
 
 -- the bits per sample that mean an order (this project's profile)
-abbrev pub bits_of : BitOrder → ℕ
-bits_of LeastFirst = 1
-bits_of MostFirst = 8
+abbrev pub sample_bits : BitOrder → ℕ
+sample_bits LeastFirst = 1
+sample_bits MostFirst = 8
 
 -- the file holds this recording, its bits in this order: the whole format as one relation, field by field
 pub record IsDsf (file : List ℕ) (r : Content) (order : BitOrder) : Type 0 where
@@ -30,7 +30,7 @@ pub record IsDsf (file : List ℕ) (r : Content) (order : BitOrder) : Type 0 whe
   pub six_channels : channel_number file ≤ 6
   pub rate_low : least_rate ≤ rate file
   pub rate_high : rate file ≤ greatest_rate
-  pub order_is : bits_per_sample file ≡ bits_of order
+  pub order_is : bits_per_sample file ≡ sample_bits order
   pub block_is : block_size file ≡ block_bytes
   pub not_long : count file ≤ most_bits
   -- the data chunk and the file hold the needed sound bytes, and the tag comes after them
@@ -41,8 +41,8 @@ pub record IsDsf (file : List ℕ) (r : Content) (order : BitOrder) : Type 0 whe
   pub rate_read : r.rate ≡ rate file
   pub channels_read : r.channels ≡ unblocked_all order (drop (sound_place file) file) (channel_number file) (count file)
   pub ids_read : r.ids ≡ dsf_ids (channel_number file)
-  pub layout_read : r.layout ≡ layout_told (channel_type file) (channel_number file)
-  pub tag_read : r.tag ≡ tag_told file
+  pub layout_read : r.layout ≡ stated_layout (channel_type file) (channel_number file)
+  pub tag_read : r.tag ≡ stated_tag file
   -- what the format does not store
   pub no_marks : r.marks ≡ []
   pub no_others : r.others ≡ []

@@ -13,11 +13,11 @@ use Rattle.dsd_bits.specs.Sounds.{sound_bytes, sound_channels}
 use Rattle.dsd_bits.specs.Limits.{most_bits, least_rate, greatest_rate, block_bytes}
 use Rattle.dsf_core.specs.declared.fault.DsfFault.{DsfFault}
 use Rattle.dsf_core.specs.declared.fault.DsfFault.TheVariants.{HeadCut, NotDsf}
-use Rattle.dsf_core.specs.Fields.{FMT, DATA, first_size, format_size, version, format, channel_number, rate, bits_per_sample, count, block_size, data_place, data_size, sound_place, needed, tag_told}
-use Rattle.dsf_core.specs.Files.{IsDsf, bits_of}
-use Rattle.dsf_core.specs.Reading.{front_of, recording_of, sound_told}
+use Rattle.dsf_core.specs.Fields.{FMT, DATA, first_size, format_size, version, format, channel_number, rate, bits_per_sample, count, block_size, data_place, data_size, sound_place, needed, stated_tag}
+use Rattle.dsf_core.specs.Files.{IsDsf, sample_bits}
+use Rattle.dsf_core.specs.Reading.{file_header, recording_of, stated_sound}
 use Rattle.dsf_core.specs.Steps.{Fails}
-use Rattle.dsf_core.specs.declared.front.Front.{Front}
+use Rattle.dsf_core.specs.declared.header.Header.{Header}
 use Rattle.dsf_core.specs.declared.locating.Located.{Located}
 use Rattle.dsf_core.specs.declared.locating.Located.TheVariants as answers
 
@@ -32,7 +32,7 @@ pub record HoldsHead (front : List ℕ) : Type 0 where
 
 -- the front of a file describes this sound: it holds the headers of three chunks and all fields of the second, within
 -- the limits
-pub record TellsSound (front : List ℕ) (s : Sound) : Type 0 where
+pub record StatesSound (front : List ℕ) (s : Sound) : Type 0 where
   -- three chunks, the second and the third of them with all their fields
   pub first : id_at front 0 ≡ DSD
   pub first_is : first_size front ≡ 28
@@ -49,12 +49,12 @@ pub record TellsSound (front : List ℕ) (s : Sound) : Type 0 where
   pub rate_low : least_rate ≤ rate front
   pub rate_high : rate front ≤ greatest_rate
   pub order : BitOrder
-  pub order_is : bits_per_sample front ≡ bits_of order
+  pub order_is : bits_per_sample front ≡ sample_bits order
   pub block_is : block_size front ≡ block_bytes
   pub not_long : count front ≤ most_bits
   -- the data chunk holds the needed sound bytes
   pub in_chunk : needed front ≤ data_size front - 12
-  pub told : s ≡ sound_told front order
+  pub told : s ≡ stated_sound front order
 
 -- ---- the reading of a front in order
 
@@ -64,13 +64,13 @@ is_cut HeadCut = true
 is_cut _ = false
 
 -- the sound if it was found; more bytes are needed if a header is cut short
-abbrev pub answer_of : Result Front DsfFault → Located
+abbrev pub answer_of : Result Header DsfFault → Located
 answer_of (Ok front) = answers.Found front.sound
 answer_of (Err e) = if is_cut e then answers.More e else answers.Refused e
 
 -- what the first bytes of a file say about its sound
 unfoldable pub located : List ℕ → Located
-located front = if nat_lt (length front) 4 then answers.More NotDsf else answer_of (front_of front)
+located front = if nat_lt (length front) 4 then answers.More NotDsf else answer_of (file_header front)
 
 -- the same without the faults
 abbrev pub without_fault : Located → SoundAt
@@ -98,13 +98,13 @@ EndsAtSound front = (s : Sound) × (sound_at front ≡ Found s) × (s.start ≡ 
 -- the tag of a file that begins with this front, which ends where the sound starts, is everything from this place on,
 -- and comes after the sound; 0 for none
 pub record IsTagPlace (front : List ℕ) (place : ℕ) : Type 0 where
-  pub tag : (rest : List ℕ) → tag_told (front ++ rest) ≡ (if nat_eq place 0 then [] else drop place (front ++ rest))
+  pub tag : (rest : List ℕ) → stated_tag (front ++ rest) ≡ (if nat_eq place 0 then [] else drop place (front ++ rest))
   pub behind : (rest : List ℕ) → IsAccepted (front ++ rest) → (place ≡ 0) ⊎ ((length front + needed front ≤ place) × (place ≤ length (front ++ rest)))
 
 -- what every file of n bytes that begins with this front and has this tag is read to: its description, with the
 -- channels of its sound, or its first fault, whatever the tag; running out of memory says nothing of it
 abbrev pub Describes : List ℕ → ℕ → List ℕ → Result Described DsfFault → Type 0
-Describes front total tag (Ok d) = (rest : List ℕ) (s : Sound) (order : BitOrder) → length (front ++ rest) ≡ total → tag ≡ tag_told (front ++ rest) → sound_at front ≡ Found s → s.interleaving ≡ Blocks order
+Describes front total tag (Ok d) = (rest : List ℕ) (s : Sound) (order : BitOrder) → length (front ++ rest) ≡ total → tag ≡ stated_tag (front ++ rest) → sound_at front ≡ Found s → s.interleaving ≡ Blocks order
     → recording_of (front ++ rest) ≡ Ok (with_channels d (sound_channels s.interleaving s.channels s.count (sound_bytes (front ++ rest) s)), order)
 Describes front total tag (Err e) = (rest : List ℕ) → length (front ++ rest) ≡ total → Fails e (recording_of (front ++ rest))
 
@@ -118,10 +118,10 @@ pub record DescribesSound (s : Sound) (d : Described) : Type 0 where
 -- sound after the front in place of the empty ones it is the recording
 pub record IsOutline (front : List ℕ) (total : ℕ) (tag : List ℕ) (outline : Content) : Type 0 where
   pub no_bits : (s : Sound) → sound_at front ≡ Found s → outline.channels ≡ replicate s.channels []
-  pub filled : (rest : List ℕ) (s : Sound) (order : BitOrder) → length (front ++ rest) ≡ total → tag ≡ tag_told (front ++ rest) → sound_at front ≡ Found s → s.interleaving ≡ Blocks order
+  pub filled : (rest : List ℕ) (s : Sound) (order : BitOrder) → length (front ++ rest) ≡ total → tag ≡ stated_tag (front ++ rest) → sound_at front ≡ Found s → s.interleaving ≡ Blocks order
       → IsDsf (front ++ rest) (record outline { channels = sound_channels s.interleaving s.channels s.count (sound_bytes (front ++ rest) s) }) order
 
 -- this outline; or none, and no file of n bytes that begins with this front is accepted
-abbrev pub TellsOutline : List ℕ → ℕ → List ℕ → Option Content → Type 0
-TellsOutline front total tag None = (rest : List ℕ) → length (front ++ rest) ≡ total → IsAccepted (front ++ rest) → ⊥
-TellsOutline front total tag (Some outline) = IsOutline front total tag outline
+abbrev pub StatesOutline : List ℕ → ℕ → List ℕ → Option Content → Type 0
+StatesOutline front total tag None = (rest : List ℕ) → length (front ++ rest) ≡ total → IsAccepted (front ++ rest) → ⊥
+StatesOutline front total tag (Some outline) = IsOutline front total tag outline

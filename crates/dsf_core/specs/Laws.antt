@@ -6,7 +6,7 @@ use Rattle.dsd_bits.specs.declared.sound.SoundAt.TheVariants.{Found}
 use Rattle.dsd_bits.specs.Contents.{Content}
 use Rattle.dsd_bits.specs.Sounds.{HasSound}
 use Rattle.dsf_core.specs.Files.{IsDsf}
-use Rattle.dsf_core.specs.Fronts.{EndsAtSound, HoldsHead, IsAccepted, TellsSound, sound_at}
+use Rattle.dsf_core.specs.Fronts.{EndsAtSound, HoldsHead, IsAccepted, StatesSound, sound_at}
 
 -- a file holds at most one recording, in one order of bits
 abbrev pub OneRecording : Type 0
@@ -21,12 +21,12 @@ abbrev pub SoundHasHead : Type 0
 SoundHasHead = (file : List ℕ) → IsAccepted file → HoldsHead file
 
 -- reading a front in order finds a sound exactly if the front describes it
-abbrev pub FoundIsTold : Type 0
-FoundIsTold = (front : List ℕ) (s : Sound) → (sound_at front ≡ Found s) ↔ TellsSound front s
+abbrev pub FoundIsStated : Type 0
+FoundIsStated = (front : List ℕ) (s : Sound) → (sound_at front ≡ Found s) ↔ StatesSound front s
 
 -- a file that holds a recording describes its sound
-abbrev pub SoundIsTold : Type 0
-SoundIsTold = (file : List ℕ) (r : Content) (order : BitOrder) → IsDsf file r order → (s : Sound) × TellsSound file s × HasSound file r s
+abbrev pub SoundIsStated : Type 0
+SoundIsStated = (file : List ℕ) (r : Content) (order : BitOrder) → IsDsf file r order → (s : Sound) × StatesSound file s × HasSound file r s
 
 -- the front of a file, cut where the sound starts, describes the same sound
 abbrev pub SoundEndsFront : Type 0

@@ -9,9 +9,9 @@ use Rattle.dsf_core.specs.Writing.{dsf_text}
 
 -- the recording without what a file does not store: the IDs are those for the number of channels, and there are no
 -- marks and no kept chunks
-abbrev pub as_told : Content → Content
-as_told r = record r { ids = dsf_ids (length r.channels); marks = []; others = [] }
+abbrev pub as_stored : Content → Content
+as_stored r = record r { ids = dsf_ids (length r.channels); marks = []; others = [] }
 
 -- law: a file that was written for a recording holds that recording, without what a file does not store
 abbrev pub WrittenReadAgain : Type 0
-WrittenReadAgain = (r : Content) (order : BitOrder) → HasShape r → length (dsf_text r order) < 2 ^ 63 → IsDsf (dsf_text r order) (as_told r) order
+WrittenReadAgain = (r : Content) (order : BitOrder) → HasShape r → length (dsf_text r order) < 2 ^ 63 → IsDsf (dsf_text r order) (as_stored r) order

@@ -12,8 +12,8 @@ use Rattle.dsd_bits.specs.Ids.{same_id, DSD}
 use Rattle.dsd_bits.specs.Limits.{most_bits, least_rate, greatest_rate, block_bytes}
 use Rattle.dsf_core.specs.declared.fault.DsfFault.{DsfFault}
 use Rattle.dsf_core.specs.declared.fault.DsfFault.TheVariants.{NotDsf, HeadCut, BadFormat, BadVersion, BadChannelNumber, BadRate, BadBits, BadBlock, TooLong, DataCut, BadPointer}
-use Rattle.dsf_core.specs.declared.front.Front.{Front}
-use Rattle.dsf_core.specs.Fields.{FMT, DATA, first_size, pointer, format_size, version, format, channel_type, channel_number, rate, bits_per_sample, count, block_size, data_place, data_size, sound_place, needed, layout_told, dsf_ids, tag_from}
+use Rattle.dsf_core.specs.declared.header.Header.{Header}
+use Rattle.dsf_core.specs.Fields.{FMT, DATA, first_size, pointer, format_size, version, format, channel_type, channel_number, rate, bits_per_sample, count, block_size, data_place, data_size, sound_place, needed, stated_layout, dsf_ids, tag_from}
 
 -- the place of the data chunk, after the other two
 unfoldable pub chunks_of : List ℕ → Result ℕ DsfFault
@@ -31,8 +31,8 @@ chunks_of file =
     else Ok (data_place file)
 
 -- the order of the bits, if these numbers of the format chunk are within their limits
-unfoldable pub order_told : ℕ → ℕ → ℕ → ℕ → ℕ → ℕ → Result BitOrder DsfFault
-order_told version number rate bits block count =
+unfoldable pub stated_order : ℕ → ℕ → ℕ → ℕ → ℕ → ℕ → Result BitOrder DsfFault
+stated_order version number rate bits block count =
     if not (nat_eq version 1) then Err BadVersion
     else if nat_lt number 1 then Err BadChannelNumber
     else if nat_lt 6 number then Err BadChannelNumber
@@ -45,11 +45,11 @@ order_told version number rate bits block count =
 
 -- the order of the bits, if the fields are within their limits
 abbrev pub order_of : List ℕ → Result BitOrder DsfFault
-order_of file = order_told (version file) (channel_number file) (rate file) (bits_per_sample file) (block_size file) (count file)
+order_of file = stated_order (version file) (channel_number file) (rate file) (bits_per_sample file) (block_size file) (count file)
 
 -- the sound that the fields describe: the needed sound bytes, with their bits in this order
-abbrev pub sound_told : List ℕ → BitOrder → Sound
-sound_told file order = record {
+abbrev pub stated_sound : List ℕ → BitOrder → Sound
+stated_sound file order = record {
   rate = rate file;
   channels = channel_number file;
   count = count file;
@@ -59,23 +59,23 @@ sound_told file order = record {
 }
 
 -- what the fields of a file say, with its bits in this order
-abbrev pub front_told : List ℕ → BitOrder → Front
-front_told file order = record { sound = sound_told file order; order = order; kind = channel_type file; tag_at = pointer file }
+abbrev pub stated_header : List ℕ → BitOrder → Header
+stated_header file order = record { sound = stated_sound file order; order = order; kind = channel_type file; tag_at = pointer file }
 
 -- what the header of a file says, if it leads to a sound and the data chunk holds the needed bytes
-unfoldable pub front_of : List ℕ → Result Front DsfFault
-front_of file = do
+unfoldable pub file_header : List ℕ → Result Header DsfFault
+file_header file = do
   data_at ← chunks_of file
   order ← order_of file
-  if nat_lt (data_size file) (needed file + 12) then Err DataCut else Ok (front_told file order)
+  if nat_lt (data_size file) (needed file + 12) then Err DataCut else Ok (stated_header file order)
 
 -- the place after the sound
-abbrev pub end_of : Front → ℕ
+abbrev pub end_of : Header → ℕ
 end_of front = front.sound.start + front.sound.size
 
 -- whether a file of n bytes holds the whole sound, and the tag after it
-unfoldable pub ends_of : Front → ℕ → Result (Unit {0}) DsfFault
-ends_of front total =
+unfoldable pub ends_fit : Header → ℕ → Result (Unit {0}) DsfFault
+ends_fit front total =
     if nat_lt total (end_of front) then Err DataCut
     else if nat_eq front.tag_at 0 then Ok tt
     else if nat_lt front.tag_at (end_of front) then Err BadPointer
@@ -83,24 +83,24 @@ ends_of front total =
     else Ok tt
 
 -- the description of a file with this header and this tag
-abbrev pub described_by : Front → List ℕ → Described
+abbrev pub described_by : Header → List ℕ → Described
 described_by front tag = record {
   rate = front.sound.rate;
   count = front.sound.count;
   ids = dsf_ids front.sound.channels;
-  layout = layout_told front.kind front.sound.channels;
+  layout = stated_layout front.kind front.sound.channels;
   marks = [];
   others = [];
   tag = tag;
 }
 
 -- the channels in the bytes from the sound on
-abbrev pub channels_by : Front → List ℕ → List (List Bool)
+abbrev pub channels_by : Header → List ℕ → List (List Bool)
 channels_by front bytes = unblocked_all front.order bytes front.sound.channels front.sound.count
 
 -- the recording in a file and the order of its bits, or the first fault
 unfoldable pub recording_of : List ℕ → Result (Content × BitOrder) DsfFault
 recording_of file = do
-  front ← front_of file
-  ends ← ends_of front (length file)
+  front ← file_header file
+  ends ← ends_fit front (length file)
   Ok (with_channels (described_by front (tag_from front.tag_at file)) (channels_by front (drop front.sound.start file)), front.order)

@@ -7,15 +7,15 @@ use Rattle.dsd_bits.specs.Contents.{Content, Described, described}
 use Rattle.dsd_bits.specs.Ids.{DSD}
 use Rattle.dsd_bits.specs.Limits.{block_bytes}
 use Rattle.dsf_core.specs.Fields.{FMT, DATA}
-use Rattle.dsf_core.specs.Files.{bits_of}
+use Rattle.dsf_core.specs.Files.{sample_bits}
 
 -- the number of sound bytes
-abbrev pub sound_size : Described → ℕ
-sound_size d = blocks_size (length d.ids) d.count
+abbrev pub recording_size : Described → ℕ
+recording_size d = blocks_size (length d.ids) d.count
 
 -- the place of the tag: after the sound, or 0 for none
 abbrev pub tag_place : Described → ℕ
-tag_place d = if nat_eq (length d.tag) 0 then 0 else 92 + sound_size d
+tag_place d = if nat_eq (length d.tag) 0 then 0 else 92 + recording_size d
 
 -- the first chunk: its size, that of the file, and the place of the tag
 abbrev pub first_text : ℕ → ℕ → List ℕ
@@ -36,8 +36,8 @@ data_text size = DATA ++ little_bytes 8 size
 -- the 92 bytes before the sound
 abbrev pub head_text : Described → BitOrder → List ℕ
 head_text d order =
-    first_text (92 + sound_size d + length d.tag) (tag_place d)
-    ++ (format_text d.layout (length d.ids) d.rate (bits_of order) d.count ++ data_text (12 + sound_size d))
+    first_text (92 + recording_size d + length d.tag) (tag_place d)
+    ++ (format_text d.layout (length d.ids) d.rate (sample_bits order) d.count ++ data_text (12 + recording_size d))
 
 -- the whole file: the bytes before the sound, the sound and the tag
 abbrev pub dsf_text : Content → BitOrder → List ℕ

@@ -10,7 +10,7 @@ ghost use Rattle.dsf_core.specs.Reading.{described_by};
 use crate::fault::DsfFault;
 use crate::fields::{POINTER_AT, long_at};
 use crate::format::{channel_ids, layout};
-use crate::front::{Front, check_ends, read_front};
+use crate::header::{Header, check_ends, read_header};
 use dsd_bits::{Description, Metadata};
 use std::alloc::{AllocError, Global};
 
@@ -37,7 +37,7 @@ pub fn closes(front: &[u8], total: u64) -> bool
     requires not_cut { length front.now ≤ total }
     ensures { (result ≡ true) ↔ IsAccepted (front.now ++ replicate (total - length front.now) 0) }
 {
-    match read_front(front) {
+    match read_header(front) {
         Ok(front) => check_ends(&front, total).is_ok(),
         Err(_) => false,
     }
@@ -58,7 +58,7 @@ pub fn describe(
     ensures told { Describes front.now total tag.items result }
     ensures sound { IfOk result (λ made. (s : Sound) → sound_at front.now ≡ Found s → DescribesSound s made) }
 {
-    let front = read_front(front)?;
+    let front = read_header(front)?;
     check_ends(&front, total)?;
     Ok(description_of(alloc, &front, tag)?)
 }
@@ -66,7 +66,7 @@ pub fn describe(
 /// The description of a file with this header and this tag.
 pub(crate) fn description_of(
     alloc: Global,
-    front: &Front,
+    front: &Header,
     tag: Vec<u8>,
 ) -> Result<Description, AllocError>
     requires in_limits { IsSound front.now.sound }

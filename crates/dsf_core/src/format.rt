@@ -2,8 +2,8 @@
 
 ghost use Rattle.std.specs.Prelude.{◌≡◌, ◌≤◌, IfOk};
 ghost use Rattle.dsd_bits.specs.Limits.{most_bits};
-ghost use Rattle.dsf_core.specs.Fields.{dsf_ids, layout_told};
-ghost use Rattle.dsf_core.specs.Reading.{order_told};
+ghost use Rattle.dsf_core.specs.Fields.{dsf_ids, stated_layout};
+ghost use Rattle.dsf_core.specs.Reading.{stated_order};
 
 use crate::fault::DsfFault;
 use crate::fields::VERSION;
@@ -13,8 +13,8 @@ use dsd_bits::{
 use std::alloc::{AllocError, Global};
 
 /// The order of the bits in a byte, if these numbers are within their limits.
-#[tactic(auto, unfolding(crate::specs::Reading::order_told))]
-pub(crate) fn order_told(
+#[tactic(auto, unfolding(crate::specs::Reading::stated_order))]
+pub(crate) fn stated_order(
     version: u32,
     number: u32,
     rate: u32,
@@ -22,7 +22,7 @@ pub(crate) fn order_told(
     block: u32,
     count: u64,
 ) -> Result<BitOrder, DsfFault>
-    ensures exact { result ≡ order_told version number rate bits block count }
+    ensures exact { result ≡ stated_order version number rate bits block count }
     ensures channels { IfOk result (λ _. number ≤ 6) }
     ensures short { IfOk result (λ _. count ≤ most_bits) }
 {
@@ -53,7 +53,7 @@ pub(crate) fn order_told(
 /// The layout of `number` channels: the channel type if it fits that number, else the usual layout.
 pub(crate) fn layout(kind: u32, number: u32) -> u32
     requires { number ≤ 6 }
-    ensures { result ≡ layout_told kind number }
+    ensures { result ≡ stated_layout kind number }
 {
     if layout_channels(kind) == number {
         return kind;

@@ -1,6 +1,6 @@
 //! How the words of the contracts are related. The functions do nothing: a caller's proof cites what they ensure.
 
-ghost use Rattle.dsf_core.specs.Laws.{FoundIsTold, OneRecording, SoundDoesNotMatter, SoundEndsFront, SoundHasHead, SoundIsTold};
+ghost use Rattle.dsf_core.specs.Laws.{FoundIsStated, OneRecording, SoundDoesNotMatter, SoundEndsFront, SoundHasHead, SoundIsStated};
 
 /// A file holds at most one recording, in one order of bits.
 pub fn one_recording()
@@ -21,13 +21,13 @@ pub fn accepted_files_have_a_head()
 {}
 
 /// [`crate::sound_at`] finds a sound exactly if the header of the file describes it; this is stated field by field.
-pub fn what_is_told_is_found()
-    ensures { FoundIsTold }
+pub fn what_is_stated_is_found()
+    ensures { FoundIsStated }
 {}
 
 /// A file that holds a recording describes its sound.
-pub fn accepted_files_tell_their_sound()
-    ensures { SoundIsTold }
+pub fn accepted_files_state_their_sound()
+    ensures { SoundIsStated }
 {}
 
 /// If the first bytes of a file are cut where the sound starts, they describe the same sound: the bytes from there on

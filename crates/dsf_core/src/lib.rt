@@ -27,8 +27,8 @@
 //! - `head_text d order`: the bytes before the sound, for a description.
 //! - `IsLocated front answer`, `Describes front total tag answer` (`specs/Fronts.antt`): what every file is read to
 //!   that begins like this, or also has this length and tag. `IsTagPlace front place`: the place of their tag.
-//! - `as_told r` (`specs/ReadAgain.antt`): the recording without what a file does not store: with the IDs that reading
-//!   gives, and without marks and kept chunks.
+//! - `as_stored r` (`specs/ReadAgain.antt`): the recording without what a file does not store: with the IDs that
+//!   reading gives, and without marks and kept chunks.
 //!
 //! What it promises: what is read is what the file holds. Any recording that a file holds is read. Any other file is
 //! refused with the first fault of the stated order. Only `Memory` may come in place of these. A file holds at most one
@@ -49,7 +49,7 @@ mod describing;
 mod fault;
 mod fields;
 mod format;
-mod front;
+mod header;
 mod laws;
 mod locating;
 mod outlines;
@@ -60,8 +60,8 @@ mod writing_laws;
 pub use describing::{closes, describe, tag_at};
 pub use fault::DsfFault;
 pub use laws::{
-    accepted_files_have_a_head, accepted_files_tell_their_sound, bytes_of_sound_do_not_matter,
-    front_ends_at_sound, one_recording, what_is_told_is_found,
+    accepted_files_have_a_head, accepted_files_state_their_sound, bytes_of_sound_do_not_matter,
+    front_ends_at_sound, one_recording, what_is_stated_is_found,
 };
 pub use locating::{Located, locate, sound_at};
 pub use outlines::outline;

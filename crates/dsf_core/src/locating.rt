@@ -8,7 +8,7 @@ ghost use Rattle.dsf_core.specs.Files.{IsDsf};
 ghost use Rattle.dsf_core.specs.Fronts.{HoldsHead, IsAccepted, IsLocated, is_cut, located, sound_at, without_fault};
 
 use crate::fault::DsfFault;
-use crate::front::read_front;
+use crate::header::read_header;
 use dsd_bits::{Interleaving, Sound, SoundAt};
 
 /// What the first bytes of a DSF 1.01 file say about its sound.
@@ -44,7 +44,7 @@ fn answer(front: &[u8]) -> Located
     if front.len() < 4 {
         return Located::More(DsfFault::NotDsf);
     }
-    match read_front(front) {
+    match read_header(front) {
         Ok(front) => Located::Found(front.sound),
         Err(fault) if is_cut(fault) => Located::More(fault),
         Err(fault) => Located::Refused(fault),

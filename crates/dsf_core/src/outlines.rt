@@ -1,7 +1,7 @@
 //! What a file holds besides its bits, as a recording with empty channels.
 
 ghost use Rattle.std.specs.Prelude.{◌≤◌, IfOk, length};
-ghost use Rattle.dsf_core.specs.Fronts.{EndsAtSound, TellsOutline};
+ghost use Rattle.dsf_core.specs.Fronts.{EndsAtSound, StatesOutline};
 
 use crate::describing::describe;
 use crate::fault::DsfFault;
@@ -20,7 +20,7 @@ pub fn outline(
 ) -> Result<Option<Recording>, AllocError>
     requires at_sound { EndsAtSound front.now }
     requires not_cut { length front.now ≤ total }
-    ensures told { IfOk result (TellsOutline front.now total tag.items) }
+    ensures told { IfOk result (StatesOutline front.now total tag.items) }
 {
     match describe(alloc, front, total, tag) {
         Ok(description) => Ok(Some(Recording::silent(alloc, description)?)),

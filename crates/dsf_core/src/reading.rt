@@ -13,7 +13,7 @@ ghost use Rattle.dsf_core.specs.Steps.{Gives};
 
 use crate::describing::description_of;
 use crate::fault::DsfFault;
-use crate::front::{Front, check_ends, read_front};
+use crate::header::{Header, check_ends, read_header};
 use dsd_bits::{BitOrder, Bits, LaceFault, Recording, unlace_blocks};
 use std::alloc::{AllocError, Global};
 
@@ -51,7 +51,7 @@ pub fn read(alloc: Global, file: &[u8]) -> Result<(Recording, BitOrder), DsfFaul
 fn read_in_order(alloc: Global, file: &[u8]) -> Result<(Recording, BitOrder), DsfFault>
     ensures { Gives (λ x. x) result (recording_of file.now) }
 {
-    let front = read_front(file)?;
+    let front = read_header(file)?;
     check_ends(&front, file.len() as u64)?;
     let tag = Vec::from_slice(alloc, tag_in(file, front.tag_at))?;
     let description = description_of(alloc, &front, tag)?;
@@ -74,7 +74,7 @@ fn tag_in(file: &[u8], place: u64) -> &[u8]
 }
 
 // The channels in the bytes from the sound on, which hold it whole.
-fn channels_in(alloc: Global, front: &Front, bytes: &[u8]) -> Result<Vec<Bits>, AllocError>
+fn channels_in(alloc: Global, front: &Header, bytes: &[u8]) -> Result<Vec<Bits>, AllocError>
     requires in_limits { IsSound front.now.sound }
     requires enough { blocks_size front.now.sound.channels front.now.sound.count ≤ length bytes.now }
     ensures bits { IfOk result (λ made. made.items ≡ channels_by front.now bytes.now) }

@@ -2,8 +2,8 @@
 
 ghost use Rattle.std.specs.Prelude.{◌≡◌, ◌≤◌, ◌+◌, ◌++◌, IfOk, OnOk, if◌then◌else◌, nat_eq};
 ghost use Rattle.dsd_bits.specs.Limits.{most_bits};
-ghost use Rattle.dsf_core.specs.Files.{IsDsf, bits_of};
-ghost use Rattle.dsf_core.specs.ReadAgain.{as_told};
+ghost use Rattle.dsf_core.specs.Files.{IsDsf, sample_bits};
+ghost use Rattle.dsf_core.specs.ReadAgain.{as_stored};
 ghost use Rattle.dsf_core.specs.Writing.{data_text, dsf_text, first_text, format_text, head_text};
 
 use crate::fields::{FIRST_SIZE, FORMAT_SIZE, HEAD_SIZE, RAW_DSD, VERSION};
@@ -28,7 +28,7 @@ const RESERVED: u32 = 0;
 pub fn write(alloc: Global, recording: &Recording, order: BitOrder) -> Result<Vec<u8>, AllocError>
     ensures text { IfOk result (λ file. file.items ≡ dsf_text recording.now order) }
     // What is read from it is the recording, without what a file does not store.
-    ensures read_again { IfOk result (λ file. IsDsf file.items (as_told recording.now) order) }
+    ensures read_again { IfOk result (λ file. IsDsf file.items (as_stored recording.now) order) }
 {
     let description = recording.description();
     let channels = recording.channels();
@@ -160,7 +160,7 @@ fn push_data_head(out: &mut Vec<u8>, size: u64) -> Result<(), AllocError>
 
 // The bits per sample that mean an order.
 fn bits_per_sample(order: BitOrder) -> u32
-    ensures { result ≡ bits_of order }
+    ensures { result ≡ sample_bits order }
 {
     match order {
         BitOrder::LeastFirst => 1,

@@ -7,7 +7,7 @@ use Rattle.std.proofs.lemmas.List.{drop_all, get_or-drop, take_all}
 use Rattle.std.proofs.lemmas.List.FromFn.{get_or-map-range_with_len, length-map-range_with_len}
 use Rattle.std.proofs.lemmas.Nat.{div-mul-add, mod-mul-add, mul-le}
 use Rattle.fir_core.specs.Blocks.{ArePlaces, HasEntries, IsBehind, IsReached, sum_within}
-use Rattle.fir_core.specs.Rows.{AreEntries, IsLaid, IsSpot, entry_of, groups_at, last_group, row_entry, row_place, rows, sum_before}
+use Rattle.fir_core.specs.Rows.{AreRowEntries, IsLaid, IsSpot, entry_of, groups_at, last_group, row_entry, row_place, rows, sum_before}
 use Rattle.fir_core.specs.declared.rows.Block.{Block}
 use Rattle.fir_core.specs.declared.rows.Spot.{Spot}
 use Rattle.fir_core.specs.Signed.{dot, bits_of, bits_of_byte}
@@ -139,11 +139,11 @@ spots_rise d one two behind = windows_rise one.rows.step one.p d one.window one.
 pub behind_more : (d e : ℕ) (one two three : Spot) → IsBehind d one two → IsBehind e two three → IsBehind (d + e) one three
 behind_more d e one two three first second = record { rows = second.rows ∙ first.rows; bytes = second.bytes ∙ first.bytes; p = omega (arith, first.p, second.p) }
 
-pub entries_behind : (d : ℕ) (one two : Spot) (j number at : ℕ) → IsBehind d one two → HasEntries two j at → j + number ≤ one.window + 9 → AreEntries one.rows.taps.now one.bytes.now one.rows.step one.rows.entries.now (one.p + d) j number at
+pub entries_behind : (d : ℕ) (one two : Spot) (j number at : ℕ) → IsBehind d one two → HasEntries two j at → j + number ≤ one.window + 9 → AreRowEntries one.rows.taps.now one.bytes.now one.rows.step one.rows.entries.now (one.p + d) j number at
 entries_behind d one two j number at behind has last = rw (← behind.rows, ← behind.bytes, ← behind.p) (has number (omega (arith, last, spots_rise d one two behind)))
 
 pub places_behind : (d : ℕ) (spot one : Spot) (j number : ℕ) (at : List ℕ) → IsBehind d spot one → ArePlaces one j at → j + number ≤ spot.window + 9
-    → (b : ℕ) → b < 4 → AreEntries spot.rows.taps.now spot.bytes.now spot.rows.step spot.rows.entries.now (spot.p + (d + b)) j number (get_or at b 0)
+    → (b : ℕ) → b < 4 → AreRowEntries spot.rows.taps.now spot.bytes.now spot.rows.step spot.rows.entries.now (spot.p + (d + b)) j number (get_or at b 0)
 places_behind d spot one j number at behind has last b h =
     let place : one.p + b ≡ spot.p + (d + b) = omega (arith, behind.p) in
     rw (← place, ← behind.rows, ← behind.bytes) (has b number h (omega (arith, last, spots_rise d spot one behind)))

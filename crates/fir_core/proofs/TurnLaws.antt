@@ -18,7 +18,7 @@ use Rattle.std.specs.Prelude.{replicate}
 use Rattle.dsd_bits.specs.Sums.{sum_below}
 use Rattle.fir_core.specs.Rows.{IsLaid, IsSpot, entry_of, groups_at, last_group, sum_before}
 use Rattle.fir_core.specs.declared.rows.Rows.{Rows}
-use Rattle.fir_core.specs.Turns.{AreColumns, AreNear, IsAddedAt, step_at, steps_sum, turn_sum}
+use Rattle.fir_core.specs.Strides.{AreColumns, AreNear, IsAddedAt, step_at, steps_sum, stride_sum}
 use Rattle.fir_core.proofs.RowLaws.{column_is, ends_groups, last_small, next_sum, none_before, row_fits, whole_window}
 use Rattle.fir_core.specs.Signed.{bits_of, dot}
 use Rattle.fir_core.specs.Windows.{window_sum, window_sums}
@@ -205,7 +205,7 @@ near_turned hs bytes step span s t number near down new fits before moves adds =
     (adds (λ c. so_far (c + 8)) (moves so_far before (λ c h. no_steps hs bytes step span s t (span - 8 * number + c) (omega arith))))
 
 pub turn_is : (hs : List ℤ) (bytes : List ℕ) (step span number s t l i : ℕ) → 1 ≤ number → l < 8 → i ≡ 8 * t + s + l
-    → steps_sum hs bytes step span s (t + (number - 1) + 1) (span - 8 * number + (8 * 0 + l)) ≡ turn_sum hs bytes step span number s i
+    → steps_sum hs bytes step span s (t + (number - 1) + 1) (span - 8 * number + (8 * 0 + l)) ≡ stride_sum hs bytes step span number s i
 turn_is hs bytes step span number s t l i some below at =
     let n : t + (number - 1) + 1 ≡ (i - s) / 8 + number = omega (arith, at) in
     let c : span - 8 * number + (8 * 0 + l) ≡ span - 8 * number + (i - s) % 8 = omega (arith, at) in
@@ -279,7 +279,7 @@ steps_before hs bytes step span j (suc u) reached within =
 
 -- a turn, by its steps
 turn_steps : (hs : List ℤ) (bytes : List ℕ) (step span number j s : ℕ) → 8 * number ≤ span → s < 8
-    → turn_sum hs bytes step span number s (j + 7) ≡ sum_below ((j + 8 * number + 7 - s) / 8) (λ t. step_at hs bytes step span (8 * t + s) (j + span - (8 * t + s + 1)))
+    → stride_sum hs bytes step span number s (j + 7) ≡ sum_below ((j + 8 * number + 7 - s) / 8) (λ t. step_at hs bytes step span (8 * t + s) (j + span - (8 * t + s + 1)))
 unfolding steps_sum
 turn_steps hs bytes step span number j s fits below =
     let n : (j + 7 - s) / 8 + number ≡ (j + 8 * number + 7 - s) / 8 = omega arith in
@@ -288,16 +288,16 @@ turn_steps hs bytes step span number j s fits below =
     ∙ ap (λ m. sum_below m (λ t. step_at hs bytes step span (8 * t + s) (j + span - (8 * t + s + 1)))) n
 
 pub all_turns : (hs : List ℤ) (bytes : List ℕ) (step span number j : ℕ) → 8 * number ≤ span → (j + 8 * number) * step ≤ length bytes → length hs % 8 ≡ 0 → length hs / 8 ≤ 8 * number * step
-    → sum_below 8 (λ s. turn_sum hs bytes step span number s (j + 7)) ≡ window_sum hs bytes (j * step)
+    → sum_below 8 (λ s. stride_sum hs bytes step span number s (j + 7)) ≡ window_sum hs bytes (j * step)
 all_turns hs bytes step span number j fits within whole wide =
     let steps : ℕ → ℤ = λ u. step_at hs bytes step span u (j + span - (u + 1)) in
-    sum_below_same 8 (λ s. turn_sum hs bytes step span number s (j + 7)) (λ s. sum_below ((j + 8 * number + 7 - s) / 8) (λ t. steps (8 * t + s))) (λ s h. turn_steps hs bytes step span number j s fits h)
+    sum_below_same 8 (λ s. stride_sum hs bytes step span number s (j + 7)) (λ s. sum_below ((j + 8 * number + 7 - s) / 8) (λ t. steps (8 * t + s))) (λ s h. turn_steps hs bytes step span number j s fits h)
     ∙ by_turns (j + 8 * number) steps
     ∙ steps_before hs bytes step span j (j + 8 * number) (omega (arith, fits)) within
     ∙ whole_window hs bytes step ((j + 8 * number) * step) j whole (omega (arith, wide))
 
 pub all_turns_fit : (hs : List ℤ) (bytes : List ℕ) (step span number j : ℕ) → 8 * number ≤ span → (j + 8 * number) * step ≤ length bytes → length hs % 8 ≡ 0 → length hs / 8 ≤ 8 * number * step → sum_by unsigned_abs hs ≤ 2 ^ 30
-    → int_wrap w32 (sum_below 8 (λ s. turn_sum hs bytes step span number s (j + 7))) ≡ window_sum hs bytes (j * step)
+    → int_wrap w32 (sum_below 8 (λ s. stride_sum hs bytes step span number s (j + 7))) ≡ window_sum hs bytes (j * step)
 all_turns_fit hs bytes step span number j fits within whole wide small =
     ap (int_wrap w32) (all_turns hs bytes step span number j fits within whole wide)
     ∙ int_wrap_fits w32 (window_sum hs bytes (j * step)) (fits_signed_from_abs w32 (window_sum hs bytes (j * step)) (omega (arith, small, dot_bound hs (bits_of (drop (j * step) bytes)))))

@@ -11,21 +11,21 @@ use Rattle.dsd_bits.specs.Sums.{sign, sum_below}
 use Rattle.dsd_bits.proofs.PackingLemmas.{length-unpacked, get_or-unpacked}
 use Rattle.fir_core.specs.Convolution.{conv}
 use Rattle.fir_core.specs.Signed.{dot, bits_of}
-use Rattle.fir_core.specs.Windows.{aligned, ahead, behind, window_size, window_sum}
+use Rattle.fir_core.specs.Windows.{aligned, bits_preceding, bits_following, window_size, window_sum}
 use Rattle.fir_core.proofs.Dot.{dot_append, dot_zeros, dot_is_sum, bit_of_bytes, length-bits}
 use Rattle.fir_core.proofs.SumOrder.{sum_below_same, sum_below_turned}
 use Rattle.fir_core.proofs.Sums.{signal_inside, term}
 
 -- ---- the aligned taps
 -- zeros before and behind the taps add nothing
-dot_aligned : (h : List ℤ) (n : ℕ) (bs : List Bool) → dot (aligned h n) bs ≡ dot (reverse h) (drop (ahead (length h) n) bs)
+dot_aligned : (h : List ℤ) (n : ℕ) (bs : List Bool) → dot (aligned h n) bs ≡ dot (reverse h) (drop (bits_preceding (length h) n) bs)
 dot_aligned h n bs =
-    let before = ahead (length h) n in
+    let before = bits_preceding (length h) n in
     let zeros : List ℤ = replicate before (pos 0) in
-    let rest : List ℤ = replicate (behind n) (pos 0) in
+    let rest : List ℤ = replicate (bits_following n) (pos 0) in
     let none : dot zeros bs ≡ pos 0 = dot_zeros before bs in
     let past : dot (reverse h) (drop (length zeros) bs) ≡ dot (reverse h) (drop before bs) = ap (λ m. dot (reverse h) (drop m bs)) (length-replicate before (pos 0)) in
-    let nothing : dot rest (drop (length (zeros ++ reverse h)) bs) ≡ pos 0 = dot_zeros (behind n) (drop (length (zeros ++ reverse h)) bs) in
+    let nothing : dot rest (drop (length (zeros ++ reverse h)) bs) ≡ pos 0 = dot_zeros (bits_following n) (drop (length (zeros ++ reverse h)) bs) in
     dot_append (zeros ++ reverse h) rest bs ∙ ap₂ ◌+ℤ◌ (dot_append zeros (reverse h) bs ∙ ap₂ ◌+ℤ◌ none past) nothing ∙ tidy (dot (reverse h) (drop before bs))
   where
     tidy : (z : ℤ) → (pos 0 +ℤ z) +ℤ pos 0 ≡ z
@@ -33,20 +33,20 @@ dot_aligned h n bs =
 
 pub length-aligned : (h : List ℤ) (n : ℕ) → length (aligned h n) ≡ 8 * window_size (length h) n
 length-aligned h n =
-    let before = ahead (length h) n in
+    let before = bits_preceding (length h) n in
     let zeros : List ℤ = replicate before (pos 0) in
-    let rest : List ℤ = replicate (behind n) (pos 0) in
-    length-append (zeros ++ reverse h) rest ∙ ap₂ ◌+◌ (length-append zeros (reverse h) ∙ ap₂ ◌+◌ (length-replicate before (pos 0)) (length-reverse h)) (length-replicate (behind n) (pos 0)) ∙ omega arith
+    let rest : List ℤ = replicate (bits_following n) (pos 0) in
+    length-append (zeros ++ reverse h) rest ∙ ap₂ ◌+◌ (length-append zeros (reverse h) ∙ ap₂ ◌+◌ (length-replicate before (pos 0)) (length-reverse h)) (length-replicate (bits_following n) (pos 0)) ∙ omega arith
 
 -- as they are put together: zeros, the taps turned, and zeros
-pub aligned_made : (h start front back both all : List ℤ) (n filled size none long : ℕ) → filled ≡ length h + behind n → size ≡ 8 * div_ceil filled 8 → start ≡ [] → none ≡ 0
+pub aligned_made : (h start front back both all : List ℤ) (n filled size none long : ℕ) → filled ≡ length h + bits_following n → size ≡ 8 * div_ceil filled 8 → start ≡ [] → none ≡ 0
     → front ≡ take (size - filled) start ++ replicate (size - filled - none) (pos 0) → back ≡ reverse h → both ≡ front ++ back → long ≡ length both → all ≡ take size both ++ replicate (size - long) (pos 0)
     → all ≡ aligned h n
 aligned_made h start front back both all n filled size none long f s empty zero front_is back_is both_is l is =
-    let before = ahead (length h) n in
+    let before = bits_preceding (length h) n in
     let zeros : front ≡ replicate before (pos 0) = front_is ∙ ap₂ ◌++◌ (ap (take (size - filled)) empty ∙ take_all (size - filled) [] (omega arith)) (ap (λ m. replicate m (pos 0)) (omega (arith, ap (λ m. 8 * div_ceil m 8 - m) f))) in
     let whole : both ≡ replicate before (pos 0) ++ reverse h = both_is ∙ ap₂ ◌++◌ zeros back_is in
-    let long_is : long + behind n ≡ size = omega (arith, l, ap length whole, length-append (replicate before (pos 0)) (reverse h), length-replicate before (pos 0), length-reverse h, (div_ceil_times filled 8 (omega arith)).0, ap (λ m. 8 * div_ceil m 8 - m) f) in
+    let long_is : long + bits_following n ≡ size = omega (arith, l, ap length whole, length-append (replicate before (pos 0)) (reverse h), length-replicate before (pos 0), length-reverse h, (div_ceil_times filled 8 (omega arith)).0, ap (λ m. 8 * div_ceil m 8 - m) f) in
     is ∙ ap₂ ◌++◌ (take_all size both (omega arith) ∙ whole) (ap (λ m. replicate m (pos 0)) (omega arith))
 
 sum_by-reverse : (h : List ℤ) → sum_by unsigned_abs (reverse h) ≡ sum_by unsigned_abs h
@@ -56,11 +56,11 @@ sum_by-reverse (x ∷ h) =
 
 pub abs_sum_aligned : (h : List ℤ) (n : ℕ) → sum_by unsigned_abs (aligned h n) ≡ sum_by unsigned_abs h
 abs_sum_aligned h n =
-    let before = ahead (length h) n in
+    let before = bits_preceding (length h) n in
     let zeros : List ℤ = replicate before (pos 0) in
-    let rest : List ℤ = replicate (behind n) (pos 0) in
+    let rest : List ℤ = replicate (bits_following n) (pos 0) in
     let none : sum_by unsigned_abs zeros ≡ 0 = sum_by-replicate unsigned_abs before (pos 0) ∙ mul-zero before in
-    let nothing : sum_by unsigned_abs rest ≡ 0 = sum_by-replicate unsigned_abs (behind n) (pos 0) ∙ mul-zero (behind n) in
+    let nothing : sum_by unsigned_abs rest ≡ 0 = sum_by-replicate unsigned_abs (bits_following n) (pos 0) ∙ mul-zero (bits_following n) in
     sum_by-append unsigned_abs (zeros ++ reverse h) rest
     ∙ ap₂ ◌+◌ (sum_by-append unsigned_abs zeros (reverse h) ∙ ap₂ ◌+◌ none (sum_by-reverse h)) nothing
     ∙ omega arith
@@ -84,7 +84,7 @@ window_bit bytes count at p k i place within enough =
 -- the window of place n begins at byte at
 module _ (h : List ℤ) (bytes : List ℕ) (count n at : ℕ) (begins : n / 8 + 1 ≡ at + window_size (length h) n) (late : n < count) (enough : count ≤ 8 * length bytes) where
   window_bits : List Bool
-  window_bits = drop (ahead (length h) n) (bits_of (drop at bytes))
+  window_bits = drop (bits_preceding (length h) n) (bits_of (drop at bytes))
 
   window_term : (k : ℕ) → k < length h → term h (unpacked bytes count) n (length h - 1 - k) ≡ get_or (reverse h) k (pos 0) *ℤ sign (get_or window_bits k false)
   unfolding window_bits
@@ -92,12 +92,12 @@ module _ (h : List ℤ) (bytes : List ℕ) (count n at : ℕ) (begins : n / 8 + 
       let back = length h - 1 - k in
       let bits = unpacked bytes count in
       let inside = signal_inside bits n back (omega arith) (omega (arith, length-unpacked bytes count)) in
-      let bit = window_bit bytes count at (ahead (length h) n) k (n - back) (omega arith) (omega arith) enough in
+      let bit = window_bit bytes count at (bits_preceding (length h) n) k (n - back) (omega arith) (omega arith) enough in
       ap₂ ◌*ℤ◌ (sym (get_or-reverse h k (pos 0) l)) (inside ∙ ap sign bit)
 
   long : length (reverse h) ≤ length window_bits
   unfolding window_bits
-  long = omega (arith, length-reverse h, length-drop (ahead (length h) n) (bits_of (drop at bytes)), length-bits (drop at bytes), length-drop at bytes)
+  long = omega (arith, length-reverse h, length-drop (bits_preceding (length h) n) (bits_of (drop at bytes)), length-bits (drop at bytes), length-drop at bytes)
 
   conv_is : conv h (unpacked bytes count) n ≡ dot (reverse h) window_bits
   conv_is =

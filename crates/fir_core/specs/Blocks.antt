@@ -1,6 +1,6 @@
 -- Neighbouring bytes, by the windows that contain them, and the sums that they contribute to.
 use Rattle.std.specs.Prelude.{◌≡◌, ℕ, ◌+◌, ◌*◌, ◌/◌, ◌<◌, ◌≤◌, ℤ, pos, List, length, slice_index, slice_index_or}
-use Rattle.fir_core.specs.Rows.{AreEntries, sum_before}
+use Rattle.fir_core.specs.Rows.{AreRowEntries, sum_before}
 use Rattle.fir_core.specs.declared.rows.Block.{Block}
 use Rattle.fir_core.specs.declared.rows.Spot.{Spot}
 
@@ -24,11 +24,11 @@ pub record IsReached (spot : Spot) (j : ℕ) : Type 0 where
 
 -- a byte's row has at a place what the byte adds to the windows from window j on
 abbrev pub HasEntries : Spot → ℕ → ℕ → Type 0
-HasEntries spot j at = (number : ℕ) → j + number ≤ spot.window + 9 → AreEntries spot.rows.taps.now spot.bytes.now spot.rows.step spot.rows.entries.now spot.p j number at
+HasEntries spot j at = (number : ℕ) → j + number ≤ spot.window + 9 → AreRowEntries spot.rows.taps.now spot.bytes.now spot.rows.step spot.rows.entries.now spot.p j number at
 
 -- the rows of a byte and of the three after it have at these places what each of them adds
 abbrev pub ArePlaces : Spot → ℕ → List ℕ → Type 0
-ArePlaces spot j at = (b number : ℕ) → b < 4 → j + number ≤ spot.window + 9 → AreEntries spot.rows.taps.now spot.bytes.now spot.rows.step spot.rows.entries.now (spot.p + b) j number (slice_index at b)
+ArePlaces spot j at = (b number : ℕ) → b < 4 → j + number ≤ spot.window + 9 → AreRowEntries spot.rows.taps.now spot.bytes.now spot.rows.step spot.rows.entries.now (spot.p + b) j number (slice_index at b)
 
 -- the block of the eight bytes from a byte on, with all windows below a limit that contain one of them
 pub record IsBlockOf (spot : Spot) (limit : ℕ) (block : Block) : Type 0 where

@@ -42,14 +42,14 @@ unfoldable pub entry_of : List ℤ → List ℕ → ℕ → ℕ → ℕ → ℤ
 entry_of taps bytes step p j = last_group taps (p + 1 - j * step) (slice_index bytes p)
 
 -- the rows have at a place what byte p adds to n windows from window j on
-pub record AreEntries (taps : List ℤ) (bytes : List ℕ) (step : ℕ) (entries : List ℤ) (p j number at : ℕ) : Type 0 where
+pub record AreRowEntries (taps : List ℤ) (bytes : List ℕ) (step : ℕ) (entries : List ℤ) (p j number at : ℕ) : Type 0 where
   pub within : at + number ≤ length entries
   pub each : (k : ℕ) → k < number → slice_index_or entries (at + k) (pos 0) ≡ entry_of taps bytes step p (j + k)
 
 -- the rows have at these places what each of eight bytes from p on adds
 pub record IsBlock (taps : List ℤ) (bytes : List ℕ) (step : ℕ) (entries : List ℤ) (p j number : ℕ) (at : List ℕ) : Type 0 where
   pub within : p + 8 ≤ length bytes
-  pub each : (b : ℕ) → b < 8 → AreEntries taps bytes step entries (p + b) j number (slice_index at b)
+  pub each : (b : ℕ) → b < 8 → AreRowEntries taps bytes step entries (p + b) j number (slice_index at b)
 
 -- taps in whole groups of eight, and the rows of all places and bytes
 pub record IsLaid (taps entries : List ℤ) (step span : ℕ) : Type 0 where

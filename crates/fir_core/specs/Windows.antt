@@ -5,20 +5,20 @@ use Rattle.std.specs.Int.{div_ceil}
 use Rattle.fir_core.specs.Signed.{dot, bits_of}
 
 -- the number of bits after place n in its byte
-abbrev pub behind : ℕ → ℕ
-behind n = 7 - n % 8
+abbrev pub bits_following : ℕ → ℕ
+bits_following n = 7 - n % 8
 
 -- the number of bytes of the window of n taps that ends with the byte of a place
 abbrev pub window_size : ℕ → ℕ → ℕ
-window_size number n = div_ceil (number + behind n) 8
+window_size number n = div_ceil (number + bits_following n) 8
 
 -- the number of bits of the window before its first tap
-abbrev pub ahead : ℕ → ℕ → ℕ
-ahead number n = 8 * window_size number n - (number + behind n)
+abbrev pub bits_preceding : ℕ → ℕ → ℕ
+bits_preceding number n = 8 * window_size number n - (number + bits_following n)
 
 -- the taps in the order of the window's bits, with taps of 0 for the bits before and after them
 abbrev pub aligned : List ℤ → ℕ → List ℤ
-aligned h n = replicate (ahead (length h) n) (pos 0) ++ reverse h ++ replicate (behind n) (pos 0)
+aligned h n = replicate (bits_preceding (length h) n) (pos 0) ++ reverse h ++ replicate (bits_following n) (pos 0)
 
 -- the sum of the taps over the window that begins at a byte
 abbrev pub window_sum : List ℤ → List ℕ → ℕ → ℤ

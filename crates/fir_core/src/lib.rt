@@ -29,10 +29,10 @@ mod row_sums;
 mod rows;
 mod source;
 mod stream;
+mod strides;
 mod tables;
 mod taps;
 mod tiles;
-mod turns;
 
 pub use convolution::sum_at;
 pub use decimator::{decimate, sample};

@@ -14,9 +14,9 @@ use crate::lanes::dot_by_lanes;
 use crate::rounding::{clip, round};
 use crate::rows::Rows;
 use crate::source::Source;
+use crate::strides::sum_all;
 use crate::tables::Tables;
 use crate::taps::Taps;
-use crate::turns::sum_all;
 use dsd_bits::Bits;
 use std::alloc::AllocError;
 

@@ -16,16 +16,16 @@ pub record View : Type 0 where
   pub keeps_old : Bool
 
 -- a folder of which nothing is known
-abbrev pub untold : View
-untold = record { is_told = false; given = λ time name. None; file = λ name. None; keeps_old = false }
+abbrev pub unknown_view : View
+unknown_view = record { is_told = false; given = λ time name. None; file = λ name. None; keeps_old = false }
 
 -- an opening of a name gives these bytes, at some time
-abbrev pub Gives : View → List ℕ → List ℕ → Type 0
-Gives view name bytes = (time : ℕ) × (view.given time name ≡ Some bytes)
+abbrev pub OpensAs : View → List ℕ → List ℕ → Type 0
+OpensAs view name bytes = (time : ℕ) × (view.given time name ≡ Some bytes)
 
 -- bytes were read of a name: if the folder's bytes are known, an opening of the name gives them
 abbrev pub IsReadOf : View → List ℕ → List ℕ → Type 0
-IsReadOf view name bytes = IsTrue view.is_told → Gives view name bytes
+IsReadOf view name bytes = IsTrue view.is_told → OpensAs view name bytes
 
 -- bytes were read of names, one by one
 abbrev pub AreReadOf : View → List (List ℕ) → List (List ℕ) → Type 0
@@ -33,7 +33,7 @@ AreReadOf view names files = AllZip (IsReadOf view) names files
 
 -- if the folder's bytes are known, a reader has those left that an opening of the name gives
 abbrev pub IsGiven : View → List ℕ → Option (List ℕ) → Type 0
-IsGiven view name left = IsTrue view.is_told → (bytes : List ℕ) × Gives view name bytes × (left ≡ Some bytes)
+IsGiven view name left = IsTrue view.is_told → (bytes : List ℕ) × OpensAs view name bytes × (left ≡ Some bytes)
 
 -- if the folder's bytes are known, these were put under a name
 abbrev pub IsPut : View → List ℕ → List ℕ → Type 0

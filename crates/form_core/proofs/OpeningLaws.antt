@@ -8,7 +8,7 @@ use Rattle.dsd_bits.specs.Contents.{Content}
 use Rattle.dsdiff_core.specs.declared.fault.DsdiffFault.{DsdiffFault}
 use Rattle.dsdiff_core.specs.declared.fault.DsdiffFault.TheVariants as dsdiffs
 use Rattle.dsdiff_core.specs.Files.{IsDsdiff}
-use Rattle.dsdiff_core.specs.Forms.{end_of, top_of}
+use Rattle.dsdiff_core.specs.Forms.{form_end_in, top_of}
 use Rattle.dsdiff_core.specs.Reading as dsdiff
 use Rattle.dsdiff_core.proofs.FileLaws.{is_dsdiff, parts_again, parts_from, parts_ok}
 use Rattle.dsf_core.specs.declared.fault.DsfFault.{DsfFault}
@@ -25,7 +25,7 @@ use Rattle.form_core.specs.Opening.{IsOpened, Opens, from_dsdiff, from_dsf, is_o
 
 -- ---- a DSF file is no DSDIFF file
 no_dsdiff : (file : List ℕ) (r : Content) (order : BitOrder) → IsDsf file r order → dsdiff.recording_of file ≡ Err dsdiffs.NotDsdiff
-unfolding dsdiff.recording_of top_of end_of
+unfolding dsdiff.recording_of top_of form_end_in
 no_dsdiff file r order h =
     let long : 16 ≤ length file = omega (arith, h.in_file) in
     rw (le-ltb (length file) 16 long, h.first) refl

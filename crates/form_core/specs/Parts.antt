@@ -7,7 +7,7 @@ use Rattle.dsd_bits.specs.Channels.{count_of}
 use Rattle.dsd_bits.specs.Contents.{Content, described}
 use Rattle.dsdiff_core.specs.Writing as dsdiff
 use Rattle.dsf_core.specs.Writing as dsf
-use Rattle.relace_core.specs.Relacing.{laced_in}
+use Rattle.interleave_core.specs.Reinterleaving.{laced_in}
 use Rattle.form_core.specs.declared.form.Form.{Form}
 use Rattle.form_core.specs.declared.form.Form.TheVariants.{Dsdiff, Dsf, Dsf8}
 use Rattle.form_core.specs.Forms.{text_in}

@@ -18,7 +18,7 @@ use Rattle.dsd_bits.proofs.BlockLemmas.{unblocked_count, unblocked_level}
 use Rattle.dsdiff_core.proofs.ShapeLaws as dsdiff
 use Rattle.dsf_core.specs.Fields as fields
 use Rattle.dsf_core.specs.Files.{IsDsf}
-use Rattle.dsf_core.specs.Reading.{front_told}
+use Rattle.dsf_core.specs.Reading.{stated_header}
 use Rattle.dsf_core.proofs.FileLaws.{is_sound, leads_of}
 use Rattle.dsf_core.proofs.ShapeLaws as dsf
 use Rattle.splice_core.specs.Cues.{IsSplicing}
@@ -37,7 +37,7 @@ use Rattle.form_core.specs.declared.form.Form.TheVariants as forms
 use Rattle.form_core.specs.Forms.{HoldsAs, HoldsSome}
 use Rattle.cert_core.specs.Certificates.{Claim, ShowsAll}
 use Rattle.cert_core.specs.Text.{Entry}
-use Rattle.cut_core.specs.Bridges.{IsPlace, bridges, places_behind}
+use Rattle.cut_core.specs.Bridges.{IsPlace, bridges, places_after}
 use Rattle.cut_core.specs.Cuts.{AreAlike, CutContent, FitTakes, IsAlike, IsInside, channel_number, cue_at, cut_with, each_below, no_bridging, source, take_at, window}
 use Rattle.cut_core.specs.Keeping.{CanCut}
 use Rattle.cut_core.specs.Opening.{OpensCut}
@@ -64,7 +64,7 @@ dsf_shape file r order is =
     let number = fields.channel_number file in
     let sound = drop (fields.sound_place file) file in
     let count = fields.count file in
-    let d = dsf.shape_is (front_told file order) [] (is_sound file _ (leads_of file r order is)) in
+    let d = dsf.shape_is (stated_header file order) [] (is_sound file _ (leads_of file r order is)) in
     let long : length r.channels ≡ number = ap length is.channels_read ∙ length-map-range_with_len (unblocked order sound number count) 0 number in
     record {
       rate_low = omega (arith, is.rate_read, is.rate_low);
@@ -189,17 +189,17 @@ module _ (project : List ℕ) (files : List (List ℕ)) (cut : CutContent) (says
   window_within = within says.splice files cut fine says.opens
 
 -- ---- the places of a cut
-pub places_from : (cut : CutContent) (n a : ℕ) → a + n ≤ length cut.splice.cues - 1 → All (IsPlace cut) (flat_map (places_behind cut) (range_with_len a n))
+pub places_from : (cut : CutContent) (n a : ℕ) → a + n ≤ length cut.splice.cues - 1 → All (IsPlace cut) (flat_map (places_after cut) (range_with_len a n))
 places_from cut zero a le = All-nil (IsPlace cut)
 places_from cut (suc n) a le =
-    let here : All (IsPlace cut) (places_behind cut a) = elim (cases_lt 0 (cue_at cut a).bridge) [
+    let here : All (IsPlace cut) (places_after cut a) = elim (cases_lt 0 (cue_at cut a).bridge) [
       | inl some ↦ (
           let ne : (cue_at cut a).bridge ≡ 0 → ⊥ = λ e. omega arith in
           subst (λ l. All (IsPlace cut) l) (sym (behind_some cut a ne)) (each_place cut a (omega arith) ne 0 (channel_number cut) (omega arith))
           )
       | inr none ↦ subst (λ l. All (IsPlace cut) l) (sym (behind_none cut a (omega arith))) (All-nil (IsPlace cut))
     ] in
-    All-append (IsPlace cut) (places_behind cut a) (flat_map (places_behind cut) (range_with_len (a + 1) n)) here (places_from cut n (a + 1) (omega arith))
+    All-append (IsPlace cut) (places_after cut a) (flat_map (places_after cut) (range_with_len (a + 1) n)) here (places_from cut n (a + 1) (omega arith))
 
 -- ---- what is shown
 -- a claim of as many bits as its bridge has, within the limits

@@ -13,21 +13,21 @@ use Rattle.dsd_bits.specs.Shape.{HasShape}
 use Rattle.dsd_bits.specs.Sounds.{sound_channels, sound_size}
 use Rattle.dsd_bits.specs.Stretches.{stretch_of, stretches_of}
 use Rattle.form_core.specs.declared.form.Form.{Form}
-use Rattle.relace_core.proofs.JoinLaws.{Appended, taken}
+use Rattle.interleave_core.proofs.JoinLaws.{Appended, taken}
 use Rattle.cut_core.specs.Cuts.{AreAlike, CutContent, channel_number, master_length}
 use Rattle.judge_core.specs.declared.finding.CuedPlace.{CuedPlace}
 use Rattle.judge_core.specs.Checking.{HaveShape}
-use Rattle.judge_core.specs.Comparing.{TellsOff}
-use Rattle.judge_core.specs.Standing.{FindsCued, IsFoundOf, TellAll, bridges_kept}
+use Rattle.judge_core.specs.Comparing.{FindsOff}
+use Rattle.judge_core.specs.Standing.{FindsCued, IsFoundOf, FindAllOff, bridges_kept}
 use Rattle.sound_core.specs.Keepers.{Keeps}
-use Rattle.sound_core.specs.Outlines.{AreTold, StandsIn, around_of, with_sound}
+use Rattle.sound_core.specs.Outlines.{AreStated, IsPlacedIn, around_of, with_sound}
 use Rattle.sound_core.specs.Sinks.{IsTakenOf, TakesFile, TakesGiven}
 use Rattle.sound_core.specs.Stretches.{items_of}
 use Rattle.sound_core.specs.declared.outline.Outline.{Outline}
 use Rattle.sound_core.specs.declared.part.SoundPart.{SoundPart}
 use Rattle.sound_core.proofs.HeldLaws.{held_count, held_number, held_shape, held_silent}
 use Rattle.sound_core.proofs.KeeperLaws.{channel_bits, from_whole, no_size, same_stretches}
-use Rattle.judge_core.specs.Auditing.{AreParts, Audits, AuditsFile, AuditsGiven, HasMeasure, IsAuditOf, IsAuditing, TellMore, bridge_range, bridge_ranges, found_in}
+use Rattle.judge_core.specs.Auditing.{AreParts, Audits, AuditsFile, AuditsGiven, HasMeasure, IsAuditOf, IsAuditing, FindMoreOff, bridge_range, bridge_ranges, found_in}
 use Rattle.judge_core.specs.declared.auditing.Audited.{Audited}
 use Rattle.judge_core.specs.declared.auditor.Auditor.{Auditor}
 
@@ -40,7 +40,7 @@ audits_none cut s ranges stretches firsts keeps is = record {
       let none : get_or firsts c None ≡ None = ap (λ (l : List (Option ℕ)). get_or l c None) is ∙ get_or-replicate (channel_number cut) c None None there in
       let z = get_or (sound_channels s.interleaving s.channels 0 []) c [] in
       let long : length z ≡ 0 = channel_bits s.interleaving s.channels 0 [] c keeps.is_sound.some_channel (λ e. refl) (sym (no_size s.interleaving s.channels)) (omega (arith, there, measure.number)) in
-      subst (TellsOff cut c z) (sym none) (λ p off. absurd (omega (arith, off.0, long)));
+      subst (FindsOff cut c z) (sym none) (λ p off. absurd (omega (arith, off.0, long)));
 }
 
 -- ---- channel by channel
@@ -48,23 +48,23 @@ audits_none cut s ranges stretches firsts keeps is = record {
 pub record ToldUpTo (cut : CutContent) (done : ℕ) (parts : List (List Bool)) (old now : List (Option ℕ)) (n : ℕ) : Type 0 where
   pub number : length now ≡ length old
   pub later : (c : ℕ) → n ≤ c → get_or now c None ≡ get_or old c None
-  pub told : (c : ℕ) → c < n → (before : List Bool) → length before ≡ done → TellsOff cut c before (get_or old c None) → TellsOff cut c (before ++ get_or parts c []) (get_or now c None)
+  pub told : (c : ℕ) → c < n → (before : List Bool) → length before ≡ done → FindsOff cut c before (get_or old c None) → FindsOff cut c (before ++ get_or parts c []) (get_or now c None)
 
 pub told_next : (cut : CutContent) (done : ℕ) (parts : List (List Bool)) (old now : List (Option ℕ)) (n : ℕ) (first : Option ℕ) → ToldUpTo cut done parts old now n → n < length now
-    → ((before : List Bool) → length before ≡ done → TellsOff cut n before (get_or now n None) → TellsOff cut n (before ++ get_or parts n []) first) → ToldUpTo cut done parts old (set now n first) (n + 1)
+    → ((before : List Bool) → length before ≡ done → FindsOff cut n before (get_or now n None) → FindsOff cut n (before ++ get_or parts n []) first) → ToldUpTo cut done parts old (set now n first) (n + 1)
 told_next cut done parts old now n first so_far low tells = record {
   number = length-set now n first ∙ so_far.number;
   later = λ c h. get_or-set_other now n c first None (λ same. omega (arith, h, same)) ∙ so_far.later c (omega (arith, h));
   told = λ c h before long off. elim (cases_lt c n) [
-    | inl less ↦ subst (TellsOff cut c (before ++ get_or parts c [])) (sym (get_or-set_other now n c first None (λ same. omega (arith, less, same)))) (so_far.told c less before long off)
+    | inl less ↦ subst (FindsOff cut c (before ++ get_or parts c [])) (sym (get_or-set_other now n c first None (λ same. omega (arith, less, same)))) (so_far.told c less before long off)
     | inr at ↦ (
         let same : c ≡ n = omega (arith, h, at) in
-        let here : TellsOff cut n before (get_or now n None) = subst (TellsOff cut n before) (sym (so_far.later n (omega arith))) (subst (λ k. TellsOff cut k before (get_or old k None)) same off) in
-        subst (λ k. TellsOff cut k (before ++ get_or parts k []) (get_or (set now n first) k None)) (sym same) (subst (TellsOff cut n (before ++ get_or parts n [])) (sym (get_or-set_same now n first None low)) (tells before long here)))
+        let here : FindsOff cut n before (get_or now n None) = subst (FindsOff cut n before) (sym (so_far.later n (omega arith))) (subst (λ k. FindsOff cut k before (get_or old k None)) same off) in
+        subst (λ k. FindsOff cut k (before ++ get_or parts k []) (get_or (set now n first) k None)) (sym same) (subst (FindsOff cut n (before ++ get_or parts n [])) (sym (get_or-set_same now n first None low)) (tells before long here)))
   ];
 }
 
-pub told_all : (cut : CutContent) (done : ℕ) (parts : List (List Bool)) (old now : List (Option ℕ)) (n : ℕ) → ToldUpTo cut done parts old now n → channel_number cut ≤ n → TellMore cut done parts old now
+pub told_all : (cut : CutContent) (done : ℕ) (parts : List (List Bool)) (old now : List (Option ℕ)) (n : ℕ) → ToldUpTo cut done parts old now n → channel_number cut ≤ n → FindMoreOff cut done parts old now
 told_all cut done parts old now n so_far enough = record { number = so_far.number; tells = λ c there. so_far.told c (omega (arith, there, enough)) }
 
 -- ---- a part more
@@ -88,7 +88,7 @@ module _ (cut : CutContent) (part : SoundPart) (ranges : List BitRange) (stretch
         omega (arith, long, part.within, measure.long);
   }
 
-  pub audits_more : (kept : List (List (List Bool))) → Keeps s ranges (part.done + part.bits) kept (before ++ bytes) → HasMeasure cut s → (next : List (Option ℕ)) → TellMore cut part.done parts firsts next → Audits cut s ranges (part.done + part.bits) kept next (before ++ bytes)
+  pub audits_more : (kept : List (List (List Bool))) → Keeps s ranges (part.done + part.bits) kept (before ++ bytes) → HasMeasure cut s → (next : List (Option ℕ)) → FindMoreOff cut part.done parts firsts next → Audits cut s ranges (part.done + part.bits) kept next (before ++ bytes)
   audits_more kept keeps measure next tells = record {
     keeps = keeps;
     number = tells.number ∙ audits.number;
@@ -96,7 +96,7 @@ module _ (cut : CutContent) (part : SoundPart) (ranges : List BitRange) (stretch
         let low : c < s.channels = omega (arith, there, measure.number) in
         let first = get_or next c None in
         let told = tells.tells c there (get_or (sound_channels s.interleaving s.channels part.done before) c []) (joined.bits c low) (audits.tells measure c there) in
-        subst (λ z. TellsOff cut c z first) (sym (joined.each c low)) told;
+        subst (λ z. FindsOff cut c z first) (sym (joined.each c low)) told;
   }
 
 -- ---- all of it
@@ -106,14 +106,14 @@ bridges_are cut zs = map-map (stretch_of zs) (bridge_range cut) (range_with_len 
 
 -- an auditor that took a whole sound
 module _ (first a : Auditor) (outline : Outline) (cut : CutContent) (own : first.cut.now ≡ cut) (ranges_are : first.keeper.ranges.now ≡ bridge_ranges cut)
-    (shape : HasShape outline.recording) (differs : Option CuedPlace) (lowest : (r : Content) → HaveShape cut r.channels → TellAll cut r.channels a.firsts.items → FindsCued cut r differs) where
+    (shape : HasShape outline.recording) (differs : Option CuedPlace) (lowest : (r : Content) → HaveShape cut r.channels → FindAllOff cut r.channels a.firsts.items → FindsCued cut r differs) where
   abbrev made : Audited
   made = record { outline = outline; differs = differs; kept = a.keeper.stretches }
 
   abbrev t : Sound
   t = outline.sound
 
-  module _ (told : AreTold (around_of outline)) (file sound : List ℕ) (stands : StandsIn (around_of outline) file sound) (is : IsAuditing first a t t.count sound) where
+  module _ (told : AreStated (around_of outline)) (file sound : List ℕ) (stands : IsPlacedIn (around_of outline) file sound) (is : IsAuditing first a t t.count sound) where
     abbrev held : Content
     held = with_sound outline.recording t sound
 
@@ -140,12 +140,12 @@ module _ (first a : Auditor) (outline : Outline) (cut : CutContent) (own : first
           ∙ ap (stretches_of held.channels) (is.ranges ∙ ranges_are) ∙ bridges_are cut held.channels;
     }
 
-  taken_audit : AreTold (around_of outline) → (file : List ℕ) → IsTakenOf (IsAuditing first a) (around_of outline) file → IsAuditOf cut made file
+  taken_audit : AreStated (around_of outline) → (file : List ℕ) → IsTakenOf (IsAuditing first a) (around_of outline) file → IsAuditOf cut made file
   taken_audit told file (sound, stands, is) = (sound, stands, found told file sound stands is)
 
   pub file_audited : (left : Option (List ℕ)) → TakesFile (IsAuditing first a) left (around_of outline) → AuditsFile left cut made
   file_audited None (told, h) = (told, tt)
   file_audited (Some file) (told, h) = (told, taken_audit told file h)
 
-  pub given_audited : {R : Type 0} (left : R → Option (List ℕ)) (i j : Inlet R) → AreTold (around_of outline) → TakesGiven (IsAuditing first a) left i j (around_of outline) → AuditsGiven left i j cut made
+  pub given_audited : {R : Type 0} (left : R → Option (List ℕ)) (i j : Inlet R) → AreStated (around_of outline) → TakesGiven (IsAuditing first a) left i j (around_of outline) → AuditsGiven left i j cut made
   given_audited left i j told (read, reads, h) = (read, reads, taken_audit told read h)

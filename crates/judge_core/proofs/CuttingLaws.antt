@@ -7,7 +7,7 @@ use Rattle.splice_core.specs.declared.splice.Splice.{Splice}
 use Rattle.cut_core.specs.Cuts.{CutContent}
 use Rattle.cut_core.specs.declared.fault.CutFault.{CutFault}
 use Rattle.cut_core.specs.declared.fault.CutFault.TheVariants as cuts
-use Rattle.cut_core.specs.declared.heard.Heard.{Heard}
+use Rattle.cut_core.specs.declared.excerpts.Excerpts.{Excerpts}
 use Rattle.cut_core.specs.Opening.{cut_from, cut_of, takes_of}
 use Rattle.cut_core.proofs.OpeningLaws.{files_met, opens_in_order, read_on}
 use Rattle.transfer_core.specs.declared.fault.Fault.{Fault}
@@ -32,7 +32,7 @@ module _ (project : List ℕ) (files : List (List ℕ)) (form : Option Form) (cu
   one_cut made e = let both : Ok made ≡ Ok cut = sym e ∙ says_cut project files form cut says in cc
 
 -- ---- what was heard of the takes of a project and files
-module _ (project : List ℕ) (files : List (List ℕ)) (splice : Splice) (hs : List Heard) (form : Option Form) (are : AreTakes project files (splice_content splice) hs) where
+module _ (project : List ℕ) (files : List (List ℕ)) (splice : Splice) (hs : List Excerpts) (form : Option Form) (are : AreTakes project files (splice_content splice) hs) where
   said : said_cut project files form ≡ map_err fault_of_cut (cut_from form (splice_content splice) are.whole)
   unfolding said_cut
   said = rw (says_splice project (splice_content splice) are.project_says, read_on (splice_content splice) files form are.whole (files_met (splice_content splice) files are.whole are.read)) refl

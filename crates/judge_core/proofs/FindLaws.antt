@@ -5,7 +5,7 @@ use Rattle.dsd_bits.specs.declared.blocks.BitOrder.TheVariants.{LeastFirst, Most
 use Rattle.form_core.specs.declared.form.Form.TheVariants.{Dsdiff, Dsf, Dsf8}
 use Rattle.cut_core.specs.Cuts.{CutContent}
 use Rattle.sound_core.specs.Files.{IsRefused}
-use Rattle.sound_core.specs.Outlines.{AreTold, around_of, with_sound}
+use Rattle.sound_core.specs.Outlines.{AreStated, around_of, with_sound}
 use Rattle.form_core.specs.Forms.{form_in}
 use Rattle.transfer_core.proofs.FormLaws.{holds_as}
 use Rattle.judge_core.specs.declared.auditing.Audited.{Audited}
@@ -29,7 +29,7 @@ audit_held cut a (Some file) (told, (sound, stands, is)) =
     }
 
 -- and of bytes that were read, whether the reader tells its own or not
-pub audit_given : {R : Type 0} (left : R → Option (List ℕ)) (i j : Inlet R) (cut : CutContent) (a : Audited) → AreTold (around_of a.outline) → AuditsGiven left i j cut a → IsFoundGiven left i j cut (Some (found a))
+pub audit_given : {R : Type 0} (left : R → Option (List ℕ)) (i j : Inlet R) (cut : CutContent) (a : Audited) → AreStated (around_of a.outline) → AuditsGiven left i j cut a → IsFoundGiven left i j cut (Some (found a))
 audit_given left i j cut a told (read, reads, is) = (read, reads, audit_held cut a (Some read) (told, is))
 
 -- what was found of a file, or that it holds none

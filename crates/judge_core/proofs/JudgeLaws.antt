@@ -12,7 +12,7 @@ use Rattle.cost_core.specs.Bridges.{IsLeastBridge, bridge_cost}
 use Rattle.cost_core.specs.Channels.{LeastTogether, Part, PlacesAreWindows}
 use Rattle.cost_core.specs.Least.{IsLeast}
 use Rattle.form_core.specs.declared.form.Form.{Form}
-use Rattle.cut_core.specs.Bridges.{bridges, places_behind}
+use Rattle.cut_core.specs.Bridges.{bridges, places_after}
 use Rattle.cut_core.specs.Cuts.{CutContent, channel_number, cue_at, window}
 use Rattle.cut_core.specs.Keeping.{CanCut}
 use Rattle.cut_core.specs.declared.bridges.BridgePlace.{BridgePlace}
@@ -54,7 +54,7 @@ least_at cut zs least i c lt there bridged =
     let number = channel_number cut in
     let P : BridgePlace → Type 0 = λ p. IsLeastBridge (claim_at cut zs p).bridging (claim_at cut zs p).bits in
     let each = all_before_map IsLeastClaim (claim_at cut zs) (bridges cut) least in
-    let behind = all_in_flat P (places_behind cut) (length cut.splice.cues - 1) 0 i (omega arith) (omega arith) each in
+    let behind = all_in_flat P (places_after cut) (length cut.splice.cues - 1) 0 i (omega arith) (omega arith) each in
     let all = subst (λ l. All P l) (behind_some cut i bridged) behind in
     let d : BridgePlace = place_of i c in
     subst P (get_or-map-range_with_len {X = BridgePlace} (place_of i) 0 number c c d there (omega arith)) (all c d (omega (arith, length-map-range_with_len {X = BridgePlace} (place_of i) 0 number)))

@@ -6,14 +6,14 @@ use Rattle.cut_core.specs.Cuts.{CutContent, channel_number}
 use Rattle.cut_core.specs.Keeping.{CanCut}
 use Rattle.cut_core.proofs.ZipLaws.{zip_numbers}
 use Rattle.judge_core.specs.Checking.{HaveShape, HoldCues, IsFirstCuedBit, rebuilt}
-use Rattle.judge_core.specs.Comparing.{TellsOff}
+use Rattle.judge_core.specs.Comparing.{FindsOff}
 use Rattle.judge_core.specs.Masters.{channel_numbers}
-use Rattle.judge_core.specs.Standing.{TellAll}
+use Rattle.judge_core.specs.Standing.{FindAllOff}
 use Rattle.judge_core.proofs.CuedLaws.{first_off, on_cues}
 
-module _ (cut : CutContent) (can : CanCut cut) (some : 1 ≤ length cut.splice.cues) (r : Content) (shape : HaveShape cut r.channels) (firsts : List (Option ℕ)) (tells : TellAll cut r.channels firsts) where
-  told : (c : ℕ) (x : Option ℕ) → c < channel_number cut → get_or firsts c None ≡ x → TellsOff cut c (get_or r.channels c []) x
-  told c x there is = subst (TellsOff cut c (get_or r.channels c [])) is (tells c there)
+module _ (cut : CutContent) (can : CanCut cut) (some : 1 ≤ length cut.splice.cues) (r : Content) (shape : HaveShape cut r.channels) (firsts : List (Option ℕ)) (tells : FindAllOff cut r.channels firsts) where
+  told : (c : ℕ) (x : Option ℕ) → c < channel_number cut → get_or firsts c None ≡ x → FindsOff cut c (get_or r.channels c []) x
+  told c x there is = subst (FindsOff cut c (get_or r.channels c [])) is (tells c there)
 
   holds_at : (c : ℕ) → c < channel_number cut → get_or firsts c None ≡ None → get_or r.channels c [] ≡ rebuilt cut c (get_or r.channels c [])
   holds_at c there none = on_cues cut can r.channels shape c there some (λ p lt off. told c None there none p (lt, off))

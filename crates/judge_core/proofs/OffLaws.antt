@@ -6,7 +6,7 @@ use Rattle.std.proofs.lemmas.List.{get_or-append_right, get_or_append_left, leng
 use Rattle.std.proofs.lemmas.List.Sums.{sum_by_more}
 use Rattle.cut_core.specs.Cuts.{CutContent, channel_number, cue_at, cue_bits, span}
 use Rattle.cut_core.specs.Keeping.{CanCut}
-use Rattle.judge_core.specs.Comparing.{FindsFirst, IsFirst, IsOffAt, IsOffCue, IsOffPart, TellsOff, cue_start}
+use Rattle.judge_core.specs.Comparing.{FindsFirst, IsFirst, IsOffAt, IsOffCue, IsOffPart, FindsOff, cue_start}
 use Rattle.judge_core.proofs.ChannelLaws.{cue_long}
 use Rattle.judge_core.proofs.SliceLaws.{slice_at}
 
@@ -101,13 +101,13 @@ module _ (cut : CutContent) (c : ℕ) (before part : List Bool) where
   part_back : (p : ℕ) → length before ≤ p → p < length (before ++ part) → IsOffCue cut c (before ++ part) p → IsOffPart cut c (length before) part p
   part_back p ge lt off = (off.cue, off.cue_there, record { reached = ge; inside = omega (arith, long, lt); from = off.from; to = off.to; differs = λ e. off.differs (right p ge ∙ e) })
 
-  pub still_first : (place : ℕ) → TellsOff cut c before (Some place) → TellsOff cut c (before ++ part) (Some place)
+  pub still_first : (place : ℕ) → FindsOff cut c before (Some place) → FindsOff cut c (before ++ part) (Some place)
   still_first place first = record {
     here = (omega (arith, long, first.here.0), on place first.here.0 first.here.1);
     before = λ earlier sooner off. (let lt : earlier < length before = omega (arith, sooner, first.here.0) in first.before earlier sooner (lt, back earlier lt off.1));
   }
 
-  pub next_first : TellsOff cut c before None → (found : Option ℕ) → FindsFirst (IsOffPart cut c (length before) part) found → TellsOff cut c (before ++ part) found
+  pub next_first : FindsOff cut c before None → (found : Option ℕ) → FindsFirst (IsOffPart cut c (length before) part) found → FindsOff cut c (before ++ part) found
   next_first none None h = λ p off. elim (cases_lt p (length before)) [
     | inl below ↦ none p (below, back p below off.1)
     | inr behind ↦ h p (part_back p behind off.0 off.1)

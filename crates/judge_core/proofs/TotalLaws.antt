@@ -7,7 +7,7 @@ use Rattle.std.proofs.lemmas.List.Sums.{sum_by-append, sum_by-cons, sum_by_more_
 use Rattle.dsd_bits.proofs.PackingLemmas.{length-slice_range}
 use Rattle.cost_core.specs.Bridges.{bridge_cost}
 use Rattle.cost_core.specs.Channels.{HaveLengths, Part, PlacesAreWindows, channel_cost, unless_cut, windows_cost}
-use Rattle.cut_core.specs.Bridges.{bridges, places_behind}
+use Rattle.cut_core.specs.Bridges.{bridges, places_after}
 use Rattle.cut_core.specs.Cuts.{CutContent, channel_number, cue_at, cue_bits, master_length, span}
 use Rattle.cut_core.specs.Keeping.{CanCut}
 use Rattle.cut_core.proofs.BridgeLaws.{behind_none, behind_some, place_of}
@@ -78,7 +78,7 @@ module _ (cut : CutContent) (zs : List (List Bool)) where
   abbrev at : ℕ → ℕ → ℕ
   at c i = unless_cut (part_at cut c i).bridging (bridge_cost (part_at cut c i).bridging (bridge_bits cut (get_or zs c []) i))
 
-  behind_sum : CanCut cut → (i : ℕ) → i < last → sum_by (λ p. claim_cost (claim_at cut zs p)) (places_behind cut i) ≡ sum_by (λ c. at c i) (channel_numbers cut)
+  behind_sum : CanCut cut → (i : ℕ) → i < last → sum_by (λ p. claim_cost (claim_at cut zs p)) (places_after cut i) ≡ sum_by (λ c. at c i) (channel_numbers cut)
   behind_sum can i lt = elim (cases_lt 0 (cue_at cut i).bridge) [
     | inl some ↦ (
         let ne : (cue_at cut i).bridge ≡ 0 → ⊥ = λ e. omega arith in
@@ -93,8 +93,8 @@ module _ (cut : CutContent) (zs : List (List Bool)) where
   by_places : CanCut cut → windows_total cut zs ≡ sum_by (λ c. sum_by (at c) (range_with_len 0 last)) (channel_numbers cut)
   by_places can =
       map_sum claim_cost (claim_at cut zs) (bridges cut)
-      ∙ flat_sum (λ p. claim_cost (claim_at cut zs p)) (places_behind cut) (range_with_len 0 last)
-      ∙ same_sums (λ i. sum_by (λ p. claim_cost (claim_at cut zs p)) (places_behind cut i)) (λ i. sum_by (λ c. at c i) (channel_numbers cut)) 0 last (λ i ge lt. behind_sum can i (omega arith))
+      ∙ flat_sum (λ p. claim_cost (claim_at cut zs p)) (places_after cut) (range_with_len 0 last)
+      ∙ same_sums (λ i. sum_by (λ p. claim_cost (claim_at cut zs p)) (places_after cut i)) (λ i. sum_by (λ c. at c i) (channel_numbers cut)) 0 last (λ i ge lt. behind_sum can i (omega arith))
       ∙ exchange (λ i c. at c i) (range_with_len 0 last) (channel_numbers cut)
 
   -- the bits that stand for a bridge are as many as it has

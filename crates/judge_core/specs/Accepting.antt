@@ -10,7 +10,7 @@ use Rattle.judge_core.specs.declared.verdict.Reason.{Reason}
 use Rattle.judge_core.specs.declared.verdict.Reason.TheVariants.{MasterUnread}
 use Rattle.judge_core.specs.declared.verdict.Verdict.{Verdict}
 use Rattle.judge_core.specs.declared.verdict.Verdict.TheVariants.{Accepted, Rejected}
-use Rattle.judge_core.specs.Checking.{IsMasterOf, IsTitled, StandsAgainst}
+use Rattle.judge_core.specs.Checking.{IsMasterOf, IsTitled, IsFirstAgainst}
 use Rattle.judge_core.specs.Claims.{IsCertOf, windows_total}
 use Rattle.judge_core.specs.Finding.{HoldsNothing}
 use Rattle.judge_core.specs.Masters.{AreLeastChannels, AreMasterChannels, CostLeast, total_cost}
@@ -78,7 +78,7 @@ pub record RejectsFirst (project : List ℕ) (files : List (List ℕ)) (master c
   pub cut : CutContent
   pub says : SaysCut project files None cut
   pub stands : ((reason ≡ MasterUnread) × HoldsNothing master)
-      ⊎ ((form : Form) × (r : Content) × HoldsAs master form r × StandsAgainst cut form r cert reason)
+      ⊎ ((form : Form) × (r : Content) × HoldsAs master form r × IsFirstAgainst cut form r cert reason)
 
 -- P holds of the cost, if the master was accepted
 abbrev pub IfAccepted : Result Verdict Fault → (ℕ → Type 0) → Type 0

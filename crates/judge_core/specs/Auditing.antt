@@ -9,10 +9,10 @@ use Rattle.form_core.specs.declared.form.Form.{Form}
 use Rattle.cut_core.specs.Cuts.{CutContent, channel_number, cue_at, master_length}
 use Rattle.judge_core.specs.declared.finding.Found.{Found}
 use Rattle.judge_core.specs.Claims.{bridge_start}
-use Rattle.judge_core.specs.Comparing.{TellsOff}
-use Rattle.judge_core.specs.Standing.{IsFoundOf, TellAll}
+use Rattle.judge_core.specs.Comparing.{FindsOff}
+use Rattle.judge_core.specs.Standing.{IsFoundOf, FindAllOff}
 use Rattle.sound_core.specs.Keepers.{Keeps}
-use Rattle.sound_core.specs.Outlines.{AreTold, StandsIn, around_of, with_sound}
+use Rattle.sound_core.specs.Outlines.{AreStated, IsPlacedIn, around_of, with_sound}
 use Rattle.sound_core.specs.Reads.{Reads}
 use Rattle.sound_core.specs.Stretches.{items_of}
 use Rattle.judge_core.specs.declared.auditing.Audited.{Audited}
@@ -39,9 +39,9 @@ pub record AreParts (cut : CutContent) (done : ℕ) (parts : List (List Bool)) :
 
 -- if the old list has for each channel the first bit that isn't that of the cue there, the new list has it for the
 -- channels with these parts added
-pub record TellMore (cut : CutContent) (done : ℕ) (parts : List (List Bool)) (old new : List (Option ℕ)) : Type 0 where
+pub record FindMoreOff (cut : CutContent) (done : ℕ) (parts : List (List Bool)) (old new : List (Option ℕ)) : Type 0 where
   pub number : length new ≡ length old
-  pub tells : (c : ℕ) → c < channel_number cut → (before : List Bool) → length before ≡ done → TellsOff cut c before (slice_index_or old c None) → TellsOff cut c (before ++ slice_index_or parts c []) (slice_index_or new c None)
+  pub tells : (c : ℕ) → c < channel_number cut → (before : List Bool) → length before ≡ done → FindsOff cut c before (slice_index_or old c None) → FindsOff cut c (before ++ slice_index_or parts c []) (slice_index_or new c None)
 
 -- after these bytes of a sound, which are whole groups of blocks or all of it: the stretches of their channels, and if
 -- the sound has as many channels and bits as the master, for each channel the first bit that isn't that of the cue
@@ -49,7 +49,7 @@ pub record TellMore (cut : CutContent) (done : ℕ) (parts : List (List Bool)) (
 pub record Audits (cut : CutContent) (s : Sound) (ranges : List BitRange) (done : ℕ) (stretches : List (List (List Bool))) (firsts : List (Option ℕ)) (bytes : List ℕ) : Type 0 where
   pub keeps : Keeps s ranges done stretches bytes
   pub number : length firsts ≡ channel_number cut
-  pub tells : HasMeasure cut s → TellAll cut (sound_channels s.interleaving s.channels done bytes) firsts
+  pub tells : HasMeasure cut s → FindAllOff cut (sound_channels s.interleaving s.channels done bytes) firsts
 
 -- the auditor's cut and ranges are those of the first one, and it holds what these bytes give
 pub record IsAuditing (first a : Auditor) (s : Sound) (done : ℕ) (bytes : List ℕ) : Type 0 where
@@ -64,11 +64,11 @@ found_in form a = record { form = form; recording = a.outline.recording; count =
 
 -- the file is the outline with some sound, and this was found in the recording with the channels of that sound
 abbrev pub IsAuditOf : CutContent → Audited → List ℕ → Type 0
-IsAuditOf cut a file = (sound : List ℕ) × StandsIn (around_of a.outline) file sound × ((form : Form) → IsFoundOf cut (found_in form a) (with_sound a.outline.recording a.outline.sound sound))
+IsAuditOf cut a file = (sound : List ℕ) × IsPlacedIn (around_of a.outline) file sound × ((form : Form) → IsFoundOf cut (found_in form a) (with_sound a.outline.recording a.outline.sound sound))
 
 -- the outline describes a recording; and if the reader's bytes are known, they are a file as in `IsAuditOf`
 abbrev pub AuditsFile : Option (List ℕ) → CutContent → Audited → Type 0
-AuditsFile left cut a = AreTold (around_of a.outline) × IfSome left (IsAuditOf cut a)
+AuditsFile left cut a = AreStated (around_of a.outline) × IfSome left (IsAuditOf cut a)
 
 -- the reader returned some bytes, which are a file as in `IsAuditOf`; this also holds if its bytes aren't known
 abbrev pub AuditsGiven : {R : Type 0} → (R → Option (List ℕ)) → Inlet R → Inlet R → CutContent → Audited → Type 0

@@ -110,5 +110,5 @@ CertReasons cut zs cert _ = ⊥
 
 -- the first reason against a master that can be read: one against the master, or if there is none, one against the
 -- certificate
-abbrev pub StandsAgainst : CutContent → Form → Content → List ℕ → Reason → Type 0
-StandsAgainst cut form r cert reason = MasterReason cut form r reason ⊎ (IsMasterOf cut form r × CertReasons cut r.channels cert reason)
+abbrev pub IsFirstAgainst : CutContent → Form → Content → List ℕ → Reason → Type 0
+IsFirstAgainst cut form r cert reason = MasterReason cut form r reason ⊎ (IsMasterOf cut form r × CertReasons cut r.channels cert reason)

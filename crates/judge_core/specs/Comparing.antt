@@ -38,5 +38,5 @@ abbrev pub FindsFirst : (ℕ → Type 0) → Option ℕ → Type 0
 FindsFirst P first = MatchOption first ((place : ℕ) → P place → ⊥) (IsFirst P)
 
 -- the first place in what was read of a channel whose bit isn't that of the cue there, if there is one
-abbrev pub TellsOff : CutContent → ℕ → List Bool → Option ℕ → Type 0
-TellsOff cut c z first = FindsFirst (λ place. (place < length z) × IsOffCue cut c z place) first
+abbrev pub FindsOff : CutContent → ℕ → List Bool → Option ℕ → Type 0
+FindsOff cut c z first = FindsFirst (λ place. (place < length z) × IsOffCue cut c z place) first

@@ -7,8 +7,8 @@ use Rattle.form_core.specs.declared.form.Form.{Form}
 use Rattle.form_core.specs.Steps.{map_err}
 use Rattle.cut_core.specs.Cuts.{CutContent}
 use Rattle.cut_core.specs.declared.fault.CutFault.{CutFault}
-use Rattle.cut_core.specs.declared.heard.Heard.{Heard}
-use Rattle.cut_core.specs.Hearing.{AreHeard}
+use Rattle.cut_core.specs.declared.excerpts.Excerpts.{Excerpts}
+use Rattle.cut_core.specs.Excerpts.{AreExcerpts}
 use Rattle.cut_core.specs.Opening.{AreRead, OpensCut, cut_of}
 use Rattle.transfer_core.specs.declared.fault.Fault.{Fault}
 use Rattle.transfer_core.specs.Faults.{fault_of_cut}
@@ -22,11 +22,11 @@ pub record SaysCut (project : List ℕ) (files : List (List ℕ)) (form : Option
   pub opens : OpensCut splice files form cut
 
 -- the project's text describes this splice, the files hold its takes, and `hs` is what was read of them
-pub record AreTakes (project : List ℕ) (files : List (List ℕ)) (splice : SpliceContent) (hs : List Heard) : Type 0 where
+pub record AreTakes (project : List ℕ) (files : List (List ℕ)) (splice : SpliceContent) (hs : List Excerpts) : Type 0 where
   pub project_says : SaysSplice project splice
   pub whole : List Content
   pub read : AreRead splice files whole
-  pub heard : AreHeard splice whole hs
+  pub excerpts : AreExcerpts splice whole hs
 
 -- the cut of a project and files, or the first fault: project, its splice, the cut
 unfoldable pub said_cut : List ℕ → List (List ℕ) → Option Form → Result CutContent Fault

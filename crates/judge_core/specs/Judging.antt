@@ -18,7 +18,7 @@ use Rattle.cut_core.specs.Cuts.{CutContent}
 use Rattle.judge_core.specs.declared.verdict.Reason.TheVariants.{Cert}
 use Rattle.judge_core.specs.declared.verdict.Verdict.{Verdict}
 use Rattle.judge_core.specs.declared.verdict.Verdict.TheVariants.{Accepted, Rejected}
-use Rattle.judge_core.specs.Checking.{CertReasons, IsMasterOf, StandsAgainst}
+use Rattle.judge_core.specs.Checking.{CertReasons, IsMasterOf, IsFirstAgainst}
 use Rattle.judge_core.specs.Claims.{AreLeastBridges, IsCertOf, IsLeastClaim, claim_cost, windows_total}
 use Rattle.judge_core.specs.Masters.{AreLeastChannels, AreMasterChannels, CostLeast, total_cost}
 
@@ -44,7 +44,7 @@ pub record IsLeastOf (cut : CutContent) (form : Form) (r : Content) (cost : ℕ)
 -- rejected one this is the first reason
 abbrev pub JudgesMaster : CutContent → Form → Content → List ℕ → Verdict → Type 0
 JudgesMaster cut form r cert (Accepted cost) = IsMasterOf cut form r × IsCertOf cut r.channels cert × (cost ≡ total_cost cut r.channels) × (cost ≡ windows_total cut r.channels)
-JudgesMaster cut form r cert (Rejected reason) = StandsAgainst cut form r cert reason
+JudgesMaster cut form r cert (Rejected reason) = IsFirstAgainst cut form r cert reason
 
 -- the head of a certificate of the version was read; or this is the first reason against the head in the bytes, if they
 -- are known, and they begin with the head of no version

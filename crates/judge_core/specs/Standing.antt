@@ -14,7 +14,7 @@ use Rattle.judge_core.specs.declared.finding.CuedPlace.{CuedPlace}
 use Rattle.judge_core.specs.declared.finding.Found.{Found}
 use Rattle.judge_core.specs.Checking.{HoldCues, IsFirstCuedBit}
 use Rattle.judge_core.specs.Claims.{bridge_bits, claim_of}
-use Rattle.judge_core.specs.Comparing.{TellsOff}
+use Rattle.judge_core.specs.Comparing.{FindsOff}
 use Rattle.judge_core.specs.Masters.{channel_numbers}
 
 -- ---- bits that are kept
@@ -50,8 +50,8 @@ abbrev pub FindsCued : CutContent → Content → Option CuedPlace → Type 0
 FindsCued cut r place = MatchOption place (HoldCues cut (channel_numbers cut) r.channels) (λ p. IsFirstCuedBit cut r p.channel p.place)
 
 -- for each channel the first bit that isn't that of the cue there, if there is one
-abbrev pub TellAll : CutContent → List (List Bool) → List (Option ℕ) → Type 0
-TellAll cut zs firsts = (c : ℕ) → c < channel_number cut → TellsOff cut c (slice_index_or zs c []) (slice_index_or firsts c None)
+abbrev pub FindAllOff : CutContent → List (List Bool) → List (Option ℕ) → Type 0
+FindAllOff cut zs firsts = (c : ℕ) → c < channel_number cut → FindsOff cut c (slice_index_or zs c []) (slice_index_or firsts c None)
 
 -- this was found of a recording, and kept of its bridges, if it has the shape and the length of a master
 pub record IsFoundOf (cut : CutContent) (found : Found) (r : Content) : Type 0 where

@@ -2,12 +2,12 @@
 
 ghost use Rattle.std.specs.Prelude.{◌≡◌, IfOk, false, length, replicate, true};
 ghost use Rattle.cut_core.specs.Cuts.{channel_number};
-ghost use Rattle.judge_core.specs.Auditing.{AreParts, HasMeasure, TellMore};
+ghost use Rattle.judge_core.specs.Auditing.{AreParts, HasMeasure, FindMoreOff};
 
 use crate::cueing::first_off_so_far;
 use cut_core::Cut;
 use dsd_bits::{BitRange, Bits, Sound};
-use relace_core::unlace;
+use interleave_core::unlace;
 use sound_core::{Keeper, SoundPart, SoundSink, StreamFault};
 use std::alloc::{AllocError, Global};
 
@@ -87,7 +87,7 @@ fn no_firsts(alloc: Global, channels: usize) -> Result<Vec<Option<usize>>, Alloc
 fn note_firsts(firsts: &mut [Option<usize>], cut: &Cut, done: usize, parts: &[Bits])
     requires number { length firsts.old ≡ channel_number cut.now }
     requires parts { AreParts cut.now done parts.now }
-    ensures { TellMore cut.now done parts.now firsts.old firsts.new }
+    ensures { FindMoreOff cut.now done parts.now firsts.old firsts.new }
 {
     for c in 0..firsts.len() {
         firsts[c] = first_off_so_far(cut, c, done, &parts[c], firsts[c]);

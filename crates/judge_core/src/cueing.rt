@@ -3,7 +3,7 @@
 ghost use Rattle.std.specs.Prelude.{◌≡◌, ◌+◌, ◌-◌, ◌*◌, ◌^◌, ◌<◌, ◌≤◌, ◌++◌, Bool, List, false, length, slice_index_or, slice_range, ℕ};
 ghost use Rattle.dsd_bits.specs.Shifting as bits;
 ghost use Rattle.cut_core.specs.Cuts.{channel_number, master_length};
-ghost use Rattle.judge_core.specs.Comparing.{FindsFirst, IsOffAt, IsOffPart, TellsOff, cue_start};
+ghost use Rattle.judge_core.specs.Comparing.{FindsFirst, IsOffAt, IsOffPart, FindsOff, cue_start};
 
 use cut_core::{BridgePlace, CuedBits, Cut};
 use dsd_bits::{Bits, byte_from};
@@ -19,8 +19,8 @@ pub(crate) fn first_off_so_far(
 ) -> Option<usize>
     requires channel { channel < channel_number cut.now }
     requires inside { done + length part.now ≤ master_length cut.now.splice.cues }
-    ensures { (before : List Bool) → length before ≡ done → TellsOff cut.now channel before first
-        → TellsOff cut.now channel (before ++ part.now) result }
+    ensures { (before : List Bool) → length before ≡ done → FindsOff cut.now channel before first
+        → FindsOff cut.now channel (before ++ part.now) result }
 {
     match first {
         Some(place) => Some(place),

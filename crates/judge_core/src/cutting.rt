@@ -3,11 +3,11 @@
 ghost use Rattle.std.specs.Prelude.{IfErr, IfOk, List, ℕ};
 ghost use Rattle.splice_core.specs.Splices.{splice_content};
 ghost use Rattle.form_core.specs.Steps.{Gives};
-ghost use Rattle.cut_core.specs.Hearing.{AreOfTakes};
+ghost use Rattle.cut_core.specs.Excerpts.{AreOfTakes};
 ghost use Rattle.cut_core.specs.Opening.{file_bytes};
 ghost use Rattle.judge_core.specs.Cutting.{AreTakes, IsCutFault, SaysCut, said_cut};
 
-use cut_core::{Cut, Heard, hear_takes};
+use cut_core::{Cut, Excerpts, excerpts_of_files};
 use form_core::Form;
 use splice_core::Splice;
 use std::alloc::Global;
@@ -16,7 +16,7 @@ use transfer_core::{Fault, splice_of};
 /// The cut of a project's text and the files of its takes, in the order of their numbers. `form` is the form of the
 /// file to be cut, if there is one.
 ///
-/// Refusals, in this order: `Project`, `NoSplice`, `TakeNumber`, `TakeUnread`, those of [`cut_heard`].
+/// Refusals, in this order: `Project`, `NoSplice`, `TakeNumber`, `TakeUnread`, those of [`cut_excerpts`].
 pub fn cut_files(
     alloc: Global,
     project: &[u8],
@@ -27,15 +27,15 @@ pub fn cut_files(
     ensures exact { Gives Fault.Memory (λ cut. cut) result (said_cut project.now (file_bytes takes.now) form) }
 {
     let splice = splice_of(alloc, project)?;
-    let takes = hear_takes(alloc, &splice, takes)?;
-    cut_heard(splice, takes, form)
+    let takes = excerpts_of_files(alloc, &splice, takes)?;
+    cut_excerpts(splice, takes, form)
 }
 
 /// The cut of a splice and what was read of its takes, in the order of their numbers. `form` is the form of the file to
 /// be cut, if there is one.
 ///
 /// Refusals: those of [`Cut::of`], in their order.
-pub fn cut_heard(splice: Splice, takes: Vec<Heard>, form: Option<Form>) -> Result<Cut, Fault>
+pub fn cut_excerpts(splice: Splice, takes: Vec<Excerpts>, form: Option<Form>) -> Result<Cut, Fault>
     requires { AreOfTakes (splice_content splice) takes.items }
     // For whichever project and files the takes were read, it is their cut, or is refused as they are.
     ensures found { (project : List ℕ) (files : List (List ℕ))

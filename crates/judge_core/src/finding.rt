@@ -8,7 +8,7 @@ ghost use Rattle.cut_core.specs.Cuts.{channel_number};
 ghost use Rattle.judge_core.specs.Checking.{HaveShape, IsMasterOf, MasterReason};
 ghost use Rattle.judge_core.specs.Claims.{IsCertOf};
 ghost use Rattle.judge_core.specs.Judging.{AtCost, IsLeastOf, IsNoRejection, JudgesMaster};
-ghost use Rattle.judge_core.specs.Standing.{AreKept, FindsCued, IsFoundOf, TellAll, rows_of};
+ghost use Rattle.judge_core.specs.Standing.{AreKept, FindsCued, IsFoundOf, FindAllOff, rows_of};
 
 use crate::comparing::outer_reason;
 use crate::entries::judge_certificate;
@@ -50,7 +50,7 @@ pub struct Found {
 /// The first bit of a master that isn't that of the cue there, from the first such place of each of its channels.
 pub(crate) fn lowest_off(cut: &Cut, firsts: &[Option<usize>]) -> Option<CuedPlace>
     requires { length firsts.now ≡ channel_number cut.now }
-    ensures { (r : Content) → HaveShape cut.now r.channels → TellAll cut.now r.channels firsts.now
+    ensures { (r : Content) → HaveShape cut.now r.channels → FindAllOff cut.now r.channels firsts.now
         → FindsCued cut.now r result }
 {
     cut.can_cut();

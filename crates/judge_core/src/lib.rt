@@ -5,7 +5,7 @@
 //! [`check`] judges a master and its certificate, starting from project and files. [`cut_files`] opens the cut of
 //! project and takes, [`find_master`] reads the master's file once, and [`check_found`] judges what was found of it
 //! ([`Found`]) with a certificate that is judged while it is read. Each of them can be called alone, over any reader.
-//! [`cut_heard`] opens the cut from parts of takes that were read before.
+//! [`cut_excerpts`] opens the cut from parts of takes that were read before.
 //!
 //! While the sound of a master is read, a few groups of blocks at a time, an auditor (`auditor.rt`) compares it with
 //! the cues (`cueing.rt`) and keeps the bits of the bridges (`ranges.rt`). Besides these at most three blocks of the
@@ -33,7 +33,7 @@
 //! ```text
 //! check(alloc, &project, &takes, &master, &cert)?    // Accepted { total }, or Rejected(reason)
 //!
-//! let cut = cut_heard(splice, takes, None)?;
+//! let cut = cut_excerpts(splice, takes, None)?;
 //! let found = find_master(alloc, &cut, &mut inlet)?;
 //! check_found(alloc, &cut, &found, &mut reader)?
 //! ```
@@ -53,7 +53,7 @@ mod reading;
 mod verdict;
 
 pub use checking::{check, check_found};
-pub use cutting::{cut_files, cut_heard};
+pub use cutting::{cut_excerpts, cut_files};
 pub use finding::{CuedPlace, Found};
 pub use laws::accepted_is_least;
 pub use reading::find_master;

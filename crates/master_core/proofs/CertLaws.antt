@@ -19,20 +19,20 @@ use Rattle.cert_core.specs.Certificates.{Claim, IsCert, Shows, ShowsAll}
 use Rattle.cert_core.specs.Spelling.{row_text}
 use Rattle.cert_core.specs.Text.{cert_entry, cert_head, entry_start}
 use Rattle.cert_core.specs.declared.version.Version.TheVariants.{Two}
-use Rattle.chunk_core.specs.Outlets.{AppendsFront, AppendsPart}
+use Rattle.chunk_core.specs.Outlets.{AppendsPrefix, AppendsPart}
 use Rattle.chunk_core.specs.declared.fused_outlet.FusedFault.{FusedFault}
 use Rattle.chunk_core.specs.declared.fused_outlet.FusedFault.TheVariants.{Device, Failed}
 use Rattle.master_core.specs.Certificates.{CertificatesShow, claim_entry, claims_text, entry_text}
 use Rattle.master_core.specs.Certifying.{AppendsEntries, AppendsSomeEntries}
 
 -- ---- prefixes
-pub part_is_front : (a b : Option (List ℕ)) (xs : List ℕ) → AppendsPart a b xs → AppendsFront a b xs
+pub part_is_front : (a b : Option (List ℕ)) (xs : List ℕ) → AppendsPart a b xs → AppendsPrefix a b xs
 part_is_front a b xs (front, back, is, some, grown) = (front, back, is, grown)
 
-front_of_more : (a b : Option (List ℕ)) (xs ys : List ℕ) → AppendsFront a b xs → AppendsFront a b (xs ++ ys)
+front_of_more : (a b : Option (List ℕ)) (xs ys : List ℕ) → AppendsPrefix a b xs → AppendsPrefix a b (xs ++ ys)
 front_of_more a b xs ys (front, back, is, grown) = (front, back ++ ys, ap (λ l. l ++ ys) is ∙ append_assoc front back ys, grown)
 
-front_after : (a b c : Option (List ℕ)) (xs ys : List ℕ) → Appends a b xs → AppendsFront b c ys → AppendsFront a c (xs ++ ys)
+front_after : (a b c : Option (List ℕ)) (xs ys : List ℕ) → Appends a b xs → AppendsPrefix b c ys → AppendsPrefix a c (xs ++ ys)
 front_after a b c xs ys whole (front, back, is, grown) = (xs ++ front, back, ap (λ l. xs ++ l) is ∙ sym (append_assoc xs front back), Appends-trans a b c xs front whole grown)
 
 -- what is known of a write that failed, where none had failed before
@@ -70,21 +70,21 @@ module _ (d : Bridging) (cue channel : ℕ) (x : List Bool) (cost : ℕ) (is_cos
   pub entry_whole : (a b c e : Option (List ℕ)) → Appends a b start → HandsOverAll (trellis_of d) spell b c → Appends c e stop → Appends a e (entry_text claimed)
   entry_whole a b c e first (rows, best, handed) last = subst (Appends a e) (entry_is rows best) (Appends-trans a b e start (flat_map spell rows ++ stop) first (Appends-trans b c e (flat_map spell rows) stop handed last))
 
-  pub cut_in_start : (a b : Option (List ℕ)) → AppendsFront a b start → AppendsFront a b (entry_text claimed)
-  cut_in_start a b part = subst (AppendsFront a b) (entry_is table (least_are_best (trellis_of d))) (front_of_more a b start (flat_map spell table ++ stop) part)
+  pub cut_in_start : (a b : Option (List ℕ)) → AppendsPrefix a b start → AppendsPrefix a b (entry_text claimed)
+  cut_in_start a b part = subst (AppendsPrefix a b) (entry_is table (least_are_best (trellis_of d))) (front_of_more a b start (flat_map spell table ++ stop) part)
 
-  pub cut_in_rows : (a b c : Option (List ℕ)) → Appends a b start → HandsOverUpTo (trellis_of d) spell b c → AppendsFront a c (entry_text claimed)
+  pub cut_in_rows : (a b c : Option (List ℕ)) → Appends a b start → HandsOverUpTo (trellis_of d) spell b c → AppendsPrefix a c (entry_text claimed)
   cut_in_rows a b c first (rows, row, more, best, (front, back, is, grown)) =
       let all : List (List ℕ) = rows ++ (row ∷ more) in
       let done = flat_map spell rows in
-      let behind = flat_map spell more in
-      let text : flat_map spell all ≡ (done ++ front) ++ (back ++ behind) =
-      flat_map-append spell rows (row ∷ more) ∙ ap (λ l. done ++ (l ++ behind)) is ∙ ap (λ l. done ++ l) (append_assoc front back behind) ∙ sym (append_assoc done front (back ++ behind)) in
-      subst (AppendsFront a c) (entry_is all best) (front_after a b c start (flat_map spell all ++ stop) first (front_of_more b c (flat_map spell all) stop (done ++ front, back ++ behind, text, grown)))
+      let counted_from = flat_map spell more in
+      let text : flat_map spell all ≡ (done ++ front) ++ (back ++ counted_from) =
+      flat_map-append spell rows (row ∷ more) ∙ ap (λ l. done ++ (l ++ counted_from)) is ∙ ap (λ l. done ++ l) (append_assoc front back counted_from) ∙ sym (append_assoc done front (back ++ counted_from)) in
+      subst (AppendsPrefix a c) (entry_is all best) (front_after a b c start (flat_map spell all ++ stop) first (front_of_more b c (flat_map spell all) stop (done ++ front, back ++ counted_from, text, grown)))
 
-  pub cut_in_cost : (a b c e : Option (List ℕ)) → Appends a b start → HandsOverAll (trellis_of d) spell b c → AppendsFront c e stop → AppendsFront a e (entry_text claimed)
+  pub cut_in_cost : (a b c e : Option (List ℕ)) → Appends a b start → HandsOverAll (trellis_of d) spell b c → AppendsPrefix c e stop → AppendsPrefix a e (entry_text claimed)
   cut_in_cost a b c e first (rows, best, handed) part =
-      subst (AppendsFront a e) (entry_is rows best) (front_after a b e start (flat_map spell rows ++ stop) first (front_after b c e (flat_map spell rows) stop handed part))
+      subst (AppendsPrefix a e) (entry_is rows best) (front_after a b e start (flat_map spell rows ++ stop) first (front_after b c e (flat_map spell rows) stop handed part))
 
 -- ---- one claim more
 module _ (cs : List Claim) (k : ℕ) (claim : Claim) (lt : k < length cs) (is : get_or cs k claim ≡ claim) where
@@ -96,13 +96,13 @@ module _ (cs : List Claim) (k : ℕ) (claim : Claim) (lt : k < length cs) (is : 
   pub entry_more : (a b c : Option (List ℕ)) → AppendsEntries (take k cs) a b → Appends b c (entry_text claim) → AppendsEntries (take (k + 1) cs) a c
   entry_more a b c before more = subst (Appends a c) (sym next) (Appends-trans a b c (flat_map entry_text (take k cs)) (entry_text claim) before more)
 
-  pub cut_short : (a b c : Option (List ℕ)) → AppendsEntries (take k cs) a b → AppendsFront b c (entry_text claim) → AppendsSomeEntries cs a c
+  pub cut_short : (a b c : Option (List ℕ)) → AppendsEntries (take k cs) a b → AppendsPrefix b c (entry_text claim) → AppendsSomeEntries cs a c
   cut_short a b c before part =
       let done = flat_map entry_text (take k cs) in
-      let behind = flat_map entry_text (drop (k + 1) cs) in
-      let all : (done ++ entry_text claim) ++ behind ≡ flat_map entry_text cs =
-      ap (λ l. l ++ behind) (sym next) ∙ sym (flat_map-append entry_text (take (k + 1) cs) (drop (k + 1) cs)) ∙ ap (flat_map entry_text) (take-append-drop (k + 1) cs) in
-      subst (AppendsFront a c) all (front_of_more a c (done ++ entry_text claim) behind (front_after a b c done (entry_text claim) before part))
+      let counted_from = flat_map entry_text (drop (k + 1) cs) in
+      let all : (done ++ entry_text claim) ++ counted_from ≡ flat_map entry_text cs =
+      ap (λ l. l ++ counted_from) (sym next) ∙ sym (flat_map-append entry_text (take (k + 1) cs) (drop (k + 1) cs)) ∙ ap (flat_map entry_text) (take-append-drop (k + 1) cs) in
+      subst (AppendsPrefix a c) all (front_of_more a c (done ++ entry_text claim) counted_from (front_after a b c done (entry_text claim) before part))
 
 -- ---- a head and the entries that it announces
 module _ (weights n : ℕ) (cs : List Claim) (long : n ≡ length cs) where
@@ -115,10 +115,10 @@ module _ (weights n : ℕ) (cs : List Claim) (long : n ≡ length cs) where
   pub cert_whole : (a b c : Option (List ℕ)) → Appends a b head → AppendsEntries cs b c → (cert : List ℕ) × (cert ≡ claims_text weights cs) × Appends a c cert
   cert_whole a b c first grown = (head ++ flat_map entry_text cs, whole_is, Appends-trans a b c head (flat_map entry_text cs) first grown)
 
-  pub cert_cut : (a b c : Option (List ℕ)) → Appends a b head → AppendsSomeEntries cs b c → (cert : List ℕ) × (cert ≡ claims_text weights cs) × AppendsFront a c cert
+  pub cert_cut : (a b c : Option (List ℕ)) → Appends a b head → AppendsSomeEntries cs b c → (cert : List ℕ) × (cert ≡ claims_text weights cs) × AppendsPrefix a c cert
   cert_cut a b c first part = (head ++ flat_map entry_text cs, whole_is, front_after a b c head (flat_map entry_text cs) first part)
 
-  pub head_cut : (a b : Option (List ℕ)) → AppendsFront a b head → (cert : List ℕ) × (cert ≡ claims_text weights cs) × AppendsFront a b cert
+  pub head_cut : (a b : Option (List ℕ)) → AppendsPrefix a b head → (cert : List ℕ) × (cert ≡ claims_text weights cs) × AppendsPrefix a b cert
   head_cut a b part = (head ++ flat_map entry_text cs, whole_is, front_of_more a b head (flat_map entry_text cs) part)
 
 -- ---- claims that can be shown

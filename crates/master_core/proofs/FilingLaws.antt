@@ -15,7 +15,7 @@ use Rattle.dsd_bits.specs.Channels.{count_of}
 use Rattle.dsd_bits.specs.Lacing.{laced_byte}
 use Rattle.dsd_bits.specs.Shape.{HasShape}
 use Rattle.dsd_bits.specs.Sounds.{sound_size}
-use Rattle.relace_core.specs.Relacing.{laced_in}
+use Rattle.interleave_core.specs.Reinterleaving.{laced_in}
 use Rattle.dsdiff_core.specs.ReadAgain.{FitsFields}
 use Rattle.form_core.specs.declared.form.Form.{Form}
 use Rattle.form_core.specs.declared.parts.Ends.{Ends}
@@ -27,9 +27,9 @@ use Rattle.cut_core.specs.Cuts.{CutContent, channel_number, master_length}
 use Rattle.cut_core.specs.Keeping.{CanCut}
 use Rattle.cut_core.proofs.CutLaws.{first_shape}
 use Rattle.cut_core.proofs.ZipLaws.{zip_numbers_long}
-use Rattle.master_core.specs.Filing.{AreMasterEnds, WritesMaster, WritesMasterFront, silent_master}
+use Rattle.master_core.specs.Filing.{AreMasterEnds, WritesMaster, WritesMasterPrefix, silent_master}
 use Rattle.master_core.specs.Best.{IsBestChannel, master_of}
-use Rattle.master_core.specs.Writing.{HasOneBest, WritesBest, WritesBestFront}
+use Rattle.master_core.specs.Writing.{HasOneBest, WritesBest, WritesBestPrefix}
 use Rattle.master_core.proofs.MasterLaws.{marks_short, master_shape}
 use Rattle.master_core.proofs.WritingLaws.{front_more, front_on}
 
@@ -101,11 +101,11 @@ module _ (cut : CutContent) (form : Form) (law : WrittenInParts) (ends : Ends) (
     file_holds = law_again form (master_of cut form one.channels) file (master_shape cut can form one.channels one.best one.long) fields file_is file_short
 
   module _ (a0 a1 : Option (List ℕ)) where
-    pub head_front : AppendsPart a0 a1 ends.head.items → WritesMasterFront cut form a0 a1
+    pub head_front : AppendsPart a0 a1 ends.head.items → WritesMasterPrefix cut form a0 a1
     head_front p = record { channels = one.channels; best = one.best; text = file; text_is = file_is; written = front_more a0 a1 ends.head.items (sound ++ ends.tail.items) p }
 
     module _ (head_out : Appends a0 a1 ends.head.items) (a2 : Option (List ℕ)) where
-      pub sound_front : WritesBestFront cut (interleaving_in form) a1 a2 → WritesMasterFront cut form a0 a2
+      pub sound_front : WritesBestPrefix cut (interleaving_in form) a1 a2 → WritesMasterPrefix cut form a0 a2
       sound_front p =
           let here : AppendsPart a1 a2 sound = subst (λ zs. AppendsPart a1 a2 (laced_in (interleaving_in form) zs)) (one.only p.channels p.best) p.written in
           record { channels = one.channels; best = one.best; text = file; text_is = file_is; written = front_on a0 a1 a2 ends.head.items (sound ++ ends.tail.items) head_out (front_more a1 a2 sound ends.tail.items here) }
@@ -114,7 +114,7 @@ module _ (cut : CutContent) (form : Form) (law : WrittenInParts) (ends : Ends) (
         sound_out : Appends a1 a2 sound
         sound_out = subst (λ zs. Appends a1 a2 (laced_in (interleaving_in form) zs)) (one.only written.channels written.best) written.written
 
-        pub tail_front : AppendsPart a2 a3 ends.tail.items → WritesMasterFront cut form a0 a3
+        pub tail_front : AppendsPart a2 a3 ends.tail.items → WritesMasterPrefix cut form a0 a3
         tail_front p = record { channels = one.channels; best = one.best; text = file; text_is = file_is; written = front_on a0 a1 a3 ends.head.items (sound ++ ends.tail.items) head_out (front_on a1 a2 a3 sound ends.tail.items sound_out p) }
 
         pub file_whole : Appends a2 a3 ends.tail.items → WritesMaster cut form a0 a3

@@ -21,7 +21,7 @@ use Rattle.master_core.specs.Choosing.{AreChosen, IsChosenAt}
 use Rattle.judge_core.specs.Claims.{bridge_start}
 use Rattle.master_core.specs.Best.{AreBestChannels, IsBestChannel, IsFirstLeastPart, master_of}
 use Rattle.judge_core.specs.Masters.{part_at, total_cost}
-use Rattle.master_core.specs.Parting.{IsStepAdded, behind, within}
+use Rattle.master_core.specs.Parting.{IsStepAdded, counted_from, within}
 use Rattle.master_core.specs.Writing.{HasOneBest}
 use Rattle.judge_core.proofs.ChannelLaws.{channel_on, nothing_first, whole_length}
 use Rattle.master_core.proofs.MasterLaws.{one_master}
@@ -94,15 +94,15 @@ part_more cut can c there i range before after lt so_far step =
     let inner = slice-append x cue (s - length z) (t - length z) in
     let start : s - length z - length x ≡ s - (bridge_start cut i + (cue_at cut i).bridge) = omega (arith, next) in
     let stop : t - length z - length x ≡ t - (bridge_start cut i + (cue_at cut i).bridge) = omega (arith, next) in
-    let behind_is : slice_range cue (s - length z - length x) (t - length z - length x) ≡ within (behind range (bridge_start cut i + (cue_at cut i).bridge)) cue = ap₂ (λ (a b : ℕ). slice_range cue a b) start stop in
-    let bridge_is : slice_range x (s - length z) (t - length z) ≡ within (behind range (bridge_start cut i)) x = ap (λ (n : ℕ). slice_range x (s - n) (t - n)) at in
+    let behind_is : slice_range cue (s - length z - length x) (t - length z - length x) ≡ within (counted_from range (bridge_start cut i + (cue_at cut i).bridge)) cue = ap₂ (λ (a b : ℕ). slice_range cue a b) start stop in
+    let bridge_is : slice_range x (s - length z) (t - length z) ≡ within (counted_from range (bridge_start cut i)) x = ap (λ (n : ℕ). slice_range x (s - n) (t - n)) at in
     record {
       whole = z ++ (x ++ cue);
       front = front_more cut can c there i z x lt so_far.front step.best step.long;
       part_is =
           step.added
-          ∙ ap (λ l. (l ++ within (behind range (bridge_start cut i)) x) ++ within (behind range (bridge_start cut i + (cue_at cut i).bridge)) cue) so_far.part_is
-          ∙ append_assoc (within range z) (within (behind range (bridge_start cut i)) x) (within (behind range (bridge_start cut i + (cue_at cut i).bridge)) cue)
+          ∙ ap (λ l. (l ++ within (counted_from range (bridge_start cut i)) x) ++ within (counted_from range (bridge_start cut i + (cue_at cut i).bridge)) cue) so_far.part_is
+          ∙ append_assoc (within range z) (within (counted_from range (bridge_start cut i)) x) (within (counted_from range (bridge_start cut i + (cue_at cut i).bridge)) cue)
           ∙ sym (joined ∙ ap (λ l. slice_range z s t ++ l) (inner ∙ ap₂ (λ (a b : List Bool). a ++ b) bridge_is behind_is));
     }
 

@@ -17,14 +17,14 @@ use Rattle.dsd_bits.specs.Channels.{IsLevel, count_of}
 use Rattle.dsd_bits.specs.Lacing.{laced_byte}
 use Rattle.dsd_bits.specs.Rooms.{RoomContent, rooms_bits}
 use Rattle.dsd_bits.proofs.RoomLemmas.{length-rooms_bits}
-use Rattle.relace_core.proofs.JoinLaws.{Appended, written}
-use Rattle.relace_core.specs.Relacing.{laced_in}
+use Rattle.interleave_core.proofs.JoinLaws.{Appended, written}
+use Rattle.interleave_core.specs.Reinterleaving.{laced_in}
 use Rattle.cut_core.specs.Cuts.{CutContent, channel_number, master_length}
 use Rattle.cut_core.proofs.BridgeLaws.{range_more}
 use Rattle.cut_core.proofs.ZipLaws.{zip_more, zip_numbers_long}
 use Rattle.master_core.specs.Best.{AreBestChannels, IsBestChannel}
 use Rattle.master_core.specs.Parting.{AreBestParts, IsBestPart, within}
-use Rattle.master_core.specs.Writing.{AreRooms, HasOneBest, WritesBest, WritesBestFront, WritesPart, WritesPartFront}
+use Rattle.master_core.specs.Writing.{AreRooms, HasOneBest, WritesBest, WritesBestPrefix, WritesPart, WritesPartPrefix}
 use Rattle.judge_core.proofs.SliceLaws.{length-slice, slice_all, slice_join}
 
 -- ---- fronts of what is written
@@ -114,7 +114,7 @@ module _ (cut : CutContent) (to : Interleaving) (one : HasOneBest cut) (some : 1
       let all : Appends old new (sound_of to ws 0 a ++ sound_of to ws a b) = Appends-trans old mid new (sound_of to ws 0 a) (sound_of to ws a b) (before ws one.best) here in
       subst (λ l. Appends old new (sound_of to l 0 b)) (sym same) (subst (Appends old new) (sym (sound_join to ws (master_length cut.splice.cues) some_best one.long a b groups order inside)) all)
 
-  pub written_front : (a b : ℕ) (old mid new : Option (List ℕ)) → a % 32768 ≡ 0 → a ≤ b → b ≤ master_length cut.splice.cues → (b % 32768 ≡ 0) ⊎ (b ≡ master_length cut.splice.cues) → HasWritten cut to a old mid → WritesPartFront cut to (from_to a b) mid new → WritesBestFront cut to old new
+  pub written_front : (a b : ℕ) (old mid new : Option (List ℕ)) → a % 32768 ≡ 0 → a ≤ b → b ≤ master_length cut.splice.cues → (b % 32768 ≡ 0) ⊎ (b ≡ master_length cut.splice.cues) → HasWritten cut to a old mid → WritesPartPrefix cut to (from_to a b) mid new → WritesBestPrefix cut to old new
   written_front a b old mid new groups order inside last before part =
       let ws = one.channels in
       let here : AppendsPart mid new (sound_of to ws a b) = subst (λ l. AppendsPart mid new (sound_of to l a b)) (one.only part.channels part.best) part.written in

@@ -1,7 +1,7 @@
 -- The certificate of chosen bridges, whole and in parts.
 use Rattle.std.specs.Prelude.{◌≡◌, ℕ, ◌-◌, ◌^◌, true, false, List, Option, flat_map, length}
 use Rattle.std.specs.Io.KnownBytes.{Appends}
-use Rattle.chunk_core.specs.Outlets.{AppendsFront}
+use Rattle.chunk_core.specs.Outlets.{AppendsPrefix}
 use Rattle.trellis_core.specs.Passes.{HasBuffers}
 use Rattle.cert_core.specs.Certificates.{Claim}
 use Rattle.cert_core.specs.Rooms.{room_weights}
@@ -32,8 +32,8 @@ abbrev pub AppendsCert : CutContent → ChosenBridges → Option (List ℕ) → 
 AppendsCert cut made old new = (cert : List ℕ) × Certifies cut made cert × Appends old new cert
 
 -- a writer's bytes, if they are known, grew by a prefix of this certificate
-abbrev pub AppendsCertFront : CutContent → ChosenBridges → Option (List ℕ) → Option (List ℕ) → Type 0
-AppendsCertFront cut made old new = (cert : List ℕ) × Certifies cut made cert × AppendsFront old new cert
+abbrev pub AppendsCertPrefix : CutContent → ChosenBridges → Option (List ℕ) → Option (List ℕ) → Type 0
+AppendsCertPrefix cut made old new = (cert : List ℕ) × Certifies cut made cert × AppendsPrefix old new cert
 
 -- a writer's bytes, if they are known, grew by the entries of these claims
 abbrev pub AppendsEntries : List Claim → Option (List ℕ) → Option (List ℕ) → Type 0
@@ -41,7 +41,7 @@ AppendsEntries claims old new = Appends old new (flat_map entry_text claims)
 
 -- a writer's bytes, if they are known, grew by a prefix of these entries
 abbrev pub AppendsSomeEntries : List Claim → Option (List ℕ) → Option (List ℕ) → Type 0
-AppendsSomeEntries claims old new = AppendsFront old new (flat_map entry_text claims)
+AppendsSomeEntries claims old new = AppendsPrefix old new (flat_map entry_text claims)
 
 -- a writer of the second version that has written nothing
 pub record IsFresh {W : Type 0} (weights : ℕ) (writer : CertWriter W) : Type 0 where
@@ -52,7 +52,7 @@ pub record IsFresh {W : Type 0} (weights : ℕ) (writer : CertWriter W) : Type 0
   pub fine : has_failed writer ≡ false
 
 -- a writer of the second version that has written its head and whole entries, and accepts further ones
-pub record IsReady {W : Type 0} (weights : ℕ) (writer : CertWriter W) : Type 0 where
+pub record IsBetweenEntries {W : Type 0} (weights : ℕ) (writer : CertWriter W) : Type 0 where
   pub version_is : cert_version writer ≡ Two
   pub weights_are : cert_weights writer ≡ weights
   pub begun : has_head writer ≡ true

@@ -33,7 +33,7 @@ pub record WritesMaster (cut : CutContent) (form : Form) (old new : Option (List
   pub written : Appends old new text
 
 -- a prefix of the file of the best master was written, and not all of it
-pub record WritesMasterFront (cut : CutContent) (form : Form) (old new : Option (List ℕ)) : Type 0 where
+pub record WritesMasterPrefix (cut : CutContent) (form : Form) (old new : Option (List ℕ)) : Type 0 where
   pub channels : List (List Bool)
   pub best : AreBestChannels cut channels
   pub text : List ℕ

@@ -26,15 +26,15 @@ pub record IsPartAdded (P : List Bool → Type 0) (range : BitRange) (before aft
   pub added : after ≡ before ++ within range bits
 
 -- a range counted from a place
-abbrev pub behind : BitRange → ℕ → BitRange
-behind range at = record { start = range.start - at; stop = range.stop - at }
+abbrev pub counted_from : BitRange → ℕ → BitRange
+counted_from range at = record { start = range.start - at; stop = range.stop - at }
 
 -- the parts in a range of the best bridge at a place, and of the cue after it, were added
 pub record IsStepAdded (cut : CutContent) (p : BridgePlace) (range : BitRange) (before after : List Bool) : Type 0 where
   pub bits : List Bool
   pub best : IsFirstLeastPart (part_at cut p.channel p.cue) bits
   pub long : length bits ≡ (cue_at cut p.cue).bridge
-  pub added : after ≡ (before ++ within (behind range (bridge_start cut p.cue)) bits) ++ within (behind range (bridge_start cut p.cue + (cue_at cut p.cue).bridge)) (cue_bits cut p.channel (p.cue + 1))
+  pub added : after ≡ (before ++ within (counted_from range (bridge_start cut p.cue)) bits) ++ within (counted_from range (bridge_start cut p.cue + (cue_at cut p.cue).bridge)) (cue_bits cut p.channel (p.cue + 1))
 
 -- the bits are the part in a range of channel c of the best master
 pub record IsBestPart (cut : CutContent) (c : ℕ) (range : BitRange) (part : List Bool) : Type 0 where

@@ -5,7 +5,7 @@ use Rattle.chunk_core.specs.Outlets.{AppendsPart}
 use Rattle.dsd_bits.specs.declared.interleaving.Interleaving.{Interleaving}
 use Rattle.dsd_bits.specs.declared.stretches.BitRange.{BitRange}
 use Rattle.dsd_bits.specs.Rooms.{RoomContent}
-use Rattle.relace_core.specs.Relacing.{laced_in}
+use Rattle.interleave_core.specs.Reinterleaving.{laced_in}
 use Rattle.cut_core.specs.Cuts.{CutContent, channel_number, master_length}
 use Rattle.master_core.specs.Best.{AreBestChannels}
 use Rattle.master_core.specs.Parting.{within}
@@ -39,7 +39,7 @@ pub record WritesBest (cut : CutContent) (to : Interleaving) (old new : Option (
   pub written : Appends old new (laced_in to channels)
 
 -- a prefix of the sound bytes of the best channels was appended, and not all of them
-pub record WritesBestFront (cut : CutContent) (to : Interleaving) (old new : Option (List ℕ)) : Type 0 where
+pub record WritesBestPrefix (cut : CutContent) (to : Interleaving) (old new : Option (List ℕ)) : Type 0 where
   pub channels : List (List Bool)
   pub best : AreBestChannels cut channels
   pub written : AppendsPart old new (laced_in to channels)
@@ -51,7 +51,7 @@ pub record WritesPart (cut : CutContent) (to : Interleaving) (range : BitRange) 
   pub written : Appends old new (laced_in to (map (within range) channels))
 
 -- a prefix of the sound bytes of this part was appended, and not all of them
-pub record WritesPartFront (cut : CutContent) (to : Interleaving) (range : BitRange) (old new : Option (List ℕ)) : Type 0 where
+pub record WritesPartPrefix (cut : CutContent) (to : Interleaving) (range : BitRange) (old new : Option (List ℕ)) : Type 0 where
   pub channels : List (List Bool)
   pub best : AreBestChannels cut channels
   pub written : AppendsPart old new (laced_in to (map (within range) channels))

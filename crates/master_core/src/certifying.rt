@@ -3,9 +3,9 @@
 ghost use Rattle.std.specs.Prelude.{◌≡◌, ◌+◌, ◌-◌, ◌<◌, ◌≤◌, ◌^◌, IfOk, MatchResult, OnErr, OnOk, is_ok, length, not};
 ghost use Rattle.cert_core.specs.Writers.{cert_outlet, entries_left, failures_before, has_failed};
 ghost use Rattle.cut_core.specs.Cuts.{CutContent};
-ghost use Rattle.chunk_core.specs.Outlets.{Puts, PutsFront, outlet_failures, outlet_writer};
+ghost use Rattle.chunk_core.specs.Outlets.{Puts, PutsPrefix, outlet_failures, outlet_writer};
 ghost use Rattle.master_core.specs.Certificates.{CertificatesShow, entry_text};
-ghost use Rattle.master_core.specs.Certifying.{AppendsCert, AppendsCertFront, AppendsEntries, AppendsSomeEntries, IsFresh, IsReady, IsRoomOf};
+ghost use Rattle.master_core.specs.Certifying.{AppendsCert, AppendsCertPrefix, AppendsEntries, AppendsSomeEntries, IsFresh, IsBetweenEntries, IsRoomOf};
 ghost use Rattle.master_core.specs.Choosing.{AreBridgesOf, IsChosen, chosen_claims};
 ghost use Rattle.trellis_core.specs.Passes.{HasBuffers};
 
@@ -54,7 +54,7 @@ pub fn certify<W: Write>(
     requires ready { outlet_failures outlet < 2 ^ 64 - 1 }
     ensures ok { OnOk result.0 (AppendsCert cut.now bridges.now (W.contents (outlet_writer outlet))
         (W.contents (outlet_writer result.1))) }
-    ensures err { OnErr result.0 (AppendsCertFront cut.now bridges.now (W.contents (outlet_writer outlet))
+    ensures err { OnErr result.0 (AppendsCertPrefix cut.now bridges.now (W.contents (outlet_writer outlet))
         (W.contents (outlet_writer result.1))) }
     ensures failures { MatchResult result.0 (λ _. outlet_failures result.1 ≡ outlet_failures outlet)
         (λ _. outlet_failures result.1 ≡ outlet_failures outlet + 1) }
@@ -82,7 +82,7 @@ fn write_cert<W: Write>(
     requires fresh { IsFresh (length cut.now.splice.weights) writer.old }
     ensures ok { OnOk result (AppendsCert cut.now bridges.now (W.contents (outlet_writer (cert_outlet writer.old)))
         (W.contents (outlet_writer (cert_outlet writer.new)))) }
-    ensures err { OnErr result (AppendsCertFront cut.now bridges.now
+    ensures err { OnErr result (AppendsCertPrefix cut.now bridges.now
         (W.contents (outlet_writer (cert_outlet writer.old))) (W.contents (outlet_writer (cert_outlet writer.new)))) }
     ensures failed { has_failed writer.new ≡ not (is_ok result) }
     ensures before { failures_before writer.new ≡ failures_before writer.old }
@@ -102,7 +102,7 @@ fn write_entries<W: Write>(
 ) -> Result<(), Device>
     requires bridges { AreBridgesOf cut.now bridges.now }
     requires room { HasBuffers (2 ^ (length cut.now.splice.weights - 1)) pass.old }
-    requires ready { IsReady (length cut.now.splice.weights) writer.old }
+    requires ready { IsBetweenEntries (length cut.now.splice.weights) writer.old }
     requires entries { entries_left writer.old ≡ length bridges.now.places.items }
     ensures ok { OnOk result (AppendsEntries (chosen_claims cut.now bridges.now.places.items bridges.now.chosen.items)
         (W.contents (outlet_writer (cert_outlet writer.old))) (W.contents (outlet_writer (cert_outlet writer.new)))) }
@@ -132,13 +132,13 @@ fn write_entry<W: Write>(
     requires channel { place.channel < 2 ^ 16 }
     requires chosen { IsChosen window.now chosen.now }
     requires room { HasBuffers (2 ^ (length window.now.weights - 1)) pass.old }
-    requires ready { IsReady (length window.now.weights) writer.old }
+    requires ready { IsBetweenEntries (length window.now.weights) writer.old }
     requires entries { 0 < entries_left writer.old }
     ensures ok { OnOk result (Puts W.contents (cert_outlet writer.old) (cert_outlet writer.new)
         (entry_text (record { cue = place.cue; channel = place.channel; bridging = window.now; bits = chosen.now.bits }))) }
-    ensures err { OnErr result (PutsFront W.contents (cert_outlet writer.old) (cert_outlet writer.new)
+    ensures err { OnErr result (PutsPrefix W.contents (cert_outlet writer.old) (cert_outlet writer.new)
         (entry_text (record { cue = place.cue; channel = place.channel; bridging = window.now; bits = chosen.now.bits }))) }
-    ensures ready { OnOk result (IsReady (length window.now.weights) writer.new) }
+    ensures ready { OnOk result (IsBetweenEntries (length window.now.weights) writer.new) }
     ensures left { OnOk result (entries_left writer.new + 1 ≡ entries_left writer.old) }
     ensures room { OnOk result (HasBuffers (2 ^ (length window.now.weights - 1)) pass.new) }
     ensures failed { has_failed writer.new ≡ not (is_ok result) }

@@ -6,7 +6,7 @@ ghost use Rattle.dsd_bits.specs.Contents.{mark_content};
 ghost use Rattle.form_core.specs.Parts.{FitsIn};
 ghost use Rattle.cut_core.specs.Cuts.{master_length};
 ghost use Rattle.master_core.specs.Choosing.{AreBridgesOf};
-ghost use Rattle.master_core.specs.Filing.{AreMasterEnds, WritesMaster, WritesMasterFront, silent_master};
+ghost use Rattle.master_core.specs.Filing.{AreMasterEnds, WritesMaster, WritesMasterPrefix, silent_master};
 ghost use Rattle.master_core.specs.Best as masters;
 ghost use Rattle.master_core.specs.Writing.{IsRoomFor};
 
@@ -94,7 +94,7 @@ pub fn write_master<W: Write>(
     ensures room { IsRoomFor cut.now room.new }
     ensures ok { OnOk result (WritesMaster cut.now form (W.contents (outlet_writer outlet.old))
         (W.contents (outlet_writer outlet.new))) }
-    ensures front { OnErr result (WritesMasterFront cut.now form (W.contents (outlet_writer outlet.old))
+    ensures front { OnErr result (WritesMasterPrefix cut.now form (W.contents (outlet_writer outlet.old))
         (W.contents (outlet_writer outlet.new))) }
     ensures failures { MatchResult result
         (λ _. outlet_failures outlet.new ≡ outlet_failures outlet.old)

@@ -67,9 +67,15 @@ fn push_step(
 {
     let cut = source.cut;
     cut.can_cut();
-    push_bridge_part(room, source, place, behind(range, at));
+    push_bridge_part(room, source, place, counted_from(range, at));
     let next = at + cut.cue(place.cue).bridge;
-    push_cue_part(room, cut, place.channel, place.cue + 1, behind(range, next));
+    push_cue_part(
+        room,
+        cut,
+        place.channel,
+        place.cue + 1,
+        counted_from(range, next),
+    );
 }
 
 // How many bits a cue has.
@@ -83,7 +89,7 @@ fn cue_length(cut: &Cut, cue: usize) -> usize
 }
 
 // A range of the channel, counted from a place in it.
-fn behind(range: BitRange, at: usize) -> BitRange
+fn counted_from(range: BitRange, at: usize) -> BitRange
     ensures start { result.start ≡ range.start - at }
     ensures stop { result.stop ≡ range.stop - at }
 {

@@ -3,20 +3,20 @@
 
 ghost use Rattle.std.specs.Prelude.{◌≡◌, ◌+◌, ◌-◌, ◌*◌, ◌/◌, ◌%◌, ◌<◌, ◌≤◌, ◌^◌, All, IfOk, MatchResult, OnErr, OnOk, length, map, vec_capacity};
 ghost use Rattle.std.specs.Io.KnownBytes.{Appends};
-ghost use Rattle.chunk_core.specs.Outlets.{AppendsFront, outlet_failures, outlet_writer};
+ghost use Rattle.chunk_core.specs.Outlets.{AppendsPrefix, outlet_failures, outlet_writer};
 ghost use Rattle.dsd_bits.specs.Channels.{IsLevel, count_of};
 ghost use Rattle.dsd_bits.specs.Rooms.{rooms_bits};
 ghost use Rattle.dsd_bits.specs.Sounds.{sound_size};
-ghost use Rattle.relace_core.specs.Relacing.{laced_in};
+ghost use Rattle.interleave_core.specs.Reinterleaving.{laced_in};
 ghost use Rattle.cut_core.specs.Cuts.{channel_number, master_length};
 ghost use Rattle.master_core.specs.Parting.{AreBestParts, IsBestPart, HasChosen};
-ghost use Rattle.master_core.specs.Writing.{AreRooms, HasOneBest, IsRoomFor, WritesBest, WritesBestFront, WritesPart, WritesPartFront};
+ghost use Rattle.master_core.specs.Writing.{AreRooms, HasOneBest, IsRoomFor, WritesBest, WritesBestPrefix, WritesPart, WritesPartPrefix};
 
 use crate::parting::{MasterSource, push_part};
 use chunk_core::{Device, Outlet};
 use cut_core::Cut;
 use dsd_bits::{BitRange, BitRoom, Interleaving};
-use relace_core::{push_rooms, stretch_bits};
+use interleave_core::{push_rooms, segment_bits};
 use std::alloc::{AllocError, Global};
 use std::io::Write;
 
@@ -35,7 +35,7 @@ pub fn master_room(alloc: Global, cut: &Cut) -> Result<MasterRoom, AllocError>
     ensures { IfOk result (IsRoomFor cut.now) }
 {
     cut.can_cut();
-    let stretch = stretch_bits(cut.channel_number());
+    let stretch = segment_bits(cut.channel_number());
     let rooms = bit_rooms(alloc, cut.channel_number(), stretch)?;
     let out = Vec::with_capacity(alloc, 65_536)?;
     Ok(MasterRoom {
@@ -83,7 +83,7 @@ pub fn write_sound<W: Write>(
     ensures room { IsRoomFor source.now.cut.now room.new }
     ensures ok { OnOk result (WritesBest source.now.cut.now to (W.contents (outlet_writer outlet.old))
         (W.contents (outlet_writer outlet.new))) }
-    ensures front { OnErr result (WritesBestFront source.now.cut.now to (W.contents (outlet_writer outlet.old))
+    ensures front { OnErr result (WritesBestPrefix source.now.cut.now to (W.contents (outlet_writer outlet.old))
         (W.contents (outlet_writer outlet.new))) }
     ensures failures { MatchResult result
         (λ _. outlet_failures outlet.new ≡ outlet_failures outlet.old)
@@ -119,7 +119,7 @@ fn write_stretch<W: Write>(
     ensures stretch { room.new.stretch ≡ room.old.stretch }
     ensures ok { OnOk result (WritesPart source.now.cut.now to range (W.contents (outlet_writer outlet.old))
         (W.contents (outlet_writer outlet.new))) }
-    ensures front { OnErr result (WritesPartFront source.now.cut.now to range (W.contents (outlet_writer outlet.old))
+    ensures front { OnErr result (WritesPartPrefix source.now.cut.now to range (W.contents (outlet_writer outlet.old))
         (W.contents (outlet_writer outlet.new))) }
     ensures failures { MatchResult result
         (λ _. outlet_failures outlet.new ≡ outlet_failures outlet.old)

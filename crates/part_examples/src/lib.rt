@@ -60,7 +60,7 @@ mod players;
 #[cfg(test)]
 mod projects;
 #[cfg(test)]
-mod relacing;
+mod reinterleaving;
 #[cfg(test)]
 mod rows;
 #[cfg(test)]

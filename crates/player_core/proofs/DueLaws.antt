@@ -9,9 +9,9 @@ use Rattle.dsd_bits.specs.declared.sound.Sound.{Sound}
 use Rattle.dsd_bits.proofs.LacingLemmas.{map_range_same}
 use Rattle.fir_core.specs.Decimator.{Decimator, sample_at}
 use Rattle.dsd_bits.specs.Packing.{unpacked}
-use Rattle.fir_core.specs.Streams.{due_number, heard}
+use Rattle.fir_core.specs.Streams.{due_number, bits_held}
 use Rattle.wave_core.specs.Texts.{sample_bytes}
-use Rattle.player_core.specs.Due.{bytes_heard, channel_bits, channel_bytes, channels_heard, due_bytes, frames_due}
+use Rattle.player_core.specs.Due.{bytes_known, channel_bits, channel_bytes, channels_known, due_bytes, frames_due}
 use Rattle.player_core.specs.Frames.{frame, frames_below}
 use Rattle.player_core.specs.Groups.{channel_part, group_size, part_size}
 use Rattle.player_core.proofs.FeedLaws.{part_of_front, sample_stays}
@@ -28,19 +28,19 @@ module _ (s : Sound) (front rest : List ℕ) (k : ℕ) (long : length front ≡ 
       let more : k * group_size s.interleaving s.channels ≡ k * group_size s.interleaving s.channels + 0 = omega arith in
       ap (λ n. n / group_size s.interleaving s.channels) (long ∙ more) ∙ div-mul-add k (group_size s.interleaving s.channels) 0 (omega (arith, part))
 
-  pub heard_of_front : bytes_heard s (length (front ++ rest)) ≡ bytes_heard s (length front)
+  pub heard_of_front : bytes_known s (length (front ++ rest)) ≡ bytes_known s (length front)
   heard_of_front = ap (λ n. min (div_ceil s.count 8) (n * part_size s.interleaving)) (whole ∙ sym whole_front)
 
   pub bytes_of_front : (c : ℕ) → c < s.channels → channel_bytes s (front ++ rest) c ≡ channel_bytes s front c
   bytes_of_front c low =
-      part_of_front s.interleaving s.channels front rest c k (bytes_heard s (length (front ++ rest))) low long
+      part_of_front s.interleaving s.channels front rest c k (bytes_known s (length (front ++ rest))) low long
       (let e = ap (λ n. n * part_size s.interleaving) whole in omega (arith, e))
       ∙ ap (channel_part s.interleaving s.channels front c 0) heard_of_front
 
   bits_of_front : (c : ℕ) → c < s.channels → channel_bits s (front ++ rest) c ≡ channel_bits s front c
-  bits_of_front c low = ap₂ (λ bs n. unpacked bs (heard s.count n)) (bytes_of_front c low) heard_of_front
+  bits_of_front c low = ap₂ (λ bs n. unpacked bs (bits_held s.count n)) (bytes_of_front c low) heard_of_front
 
-  channels_of_front : channels_heard s (front ++ rest) ≡ channels_heard s front
+  channels_of_front : channels_known s (front ++ rest) ≡ channels_known s front
   channels_of_front = map_range_same s.channels (channel_bits s (front ++ rest)) (channel_bits s front) bits_of_front
 
   pub due_of_front : (d : Decimator) → due_bytes d s (front ++ rest) ≡ due_bytes d s front
@@ -49,25 +49,25 @@ module _ (s : Sound) (front rest : List ℕ) (k : ℕ) (long : length front ≡ 
 
 -- ---- more whole groups
 module _ (d : Decimator) (s : Sound) (fed number : ℕ) (front groups : List ℕ) (k : ℕ) (long : length front ≡ k * group_size s.interleaving s.channels)
-    (was : bytes_heard s (length front) ≡ fed) (is : bytes_heard s (length (front ++ groups)) ≡ fed + number) (least : 8 ≤ d.factor) where
+    (was : bytes_known s (length front) ≡ fed) (is : bytes_known s (length (front ++ groups)) ≡ fed + number) (least : 8 ≤ d.factor) where
   abbrev all : List ℕ
   all = front ++ groups
 
-  frame_stays : (j : ℕ) → j < frames_due d s (length front) → frame d (channels_heard s all) j ≡ frame d (channels_heard s front) j
+  frame_stays : (j : ℕ) → j < frames_due d s (length front) → frame d (channels_known s all) j ≡ frame d (channels_known s front) j
   frame_stays j h =
       map-map (λ bits. sample_at d bits j) (channel_bits s all) (range_with_len 0 s.channels)
       ∙ map_range_same s.channels (λ c. sample_at d (channel_bits s all c) j) (λ c. sample_at d (channel_bits s front c) j) (λ c low. sample_stays d s fed number front groups k c low long was is least j h)
       ∙ sym (map-map (λ bits. sample_at d bits j) (channel_bits s front) (range_with_len 0 s.channels))
 
   pub due_next : (n m : ℕ) → n ≡ frames_due d s (length front) → n + m ≡ frames_due d s (length all)
-      → due_bytes d s all ≡ due_bytes d s front ++ flat_map (sample_bytes d.width) (flat_map (frame d (channels_heard s all)) (range_with_len n m))
+      → due_bytes d s all ≡ due_bytes d s front ++ flat_map (sample_bytes d.width) (flat_map (frame d (channels_known s all)) (range_with_len n m))
   due_next n m first whole =
       let bytes = flat_map (sample_bytes d.width) in
-      let old = flat_map (frame d (channels_heard s all)) (range_with_len 0 n) in
-      let new = flat_map (frame d (channels_heard s all)) (range_with_len n m) in
-      let stays : old ≡ frames_below d (channels_heard s front) n =
-      moved (frame d (channels_heard s all)) (frame d (channels_heard s front)) 0 n (λ i h. let place : 0 + i ≡ i = omega arith in frame_stays i (omega arith) ∙ ap (frame d (channels_heard s front)) (sym place)) in
-      ap (λ i. bytes (frames_below d (channels_heard s all) i)) (sym whole)
-      ∙ ap bytes (in_two (frame d (channels_heard s all)) n m)
+      let old = flat_map (frame d (channels_known s all)) (range_with_len 0 n) in
+      let new = flat_map (frame d (channels_known s all)) (range_with_len n m) in
+      let stays : old ≡ frames_below d (channels_known s front) n =
+      moved (frame d (channels_known s all)) (frame d (channels_known s front)) 0 n (λ i h. let place : 0 + i ≡ i = omega arith in frame_stays i (omega arith) ∙ ap (frame d (channels_known s front)) (sym place)) in
+      ap (λ i. bytes (frames_below d (channels_known s all) i)) (sym whole)
+      ∙ ap bytes (in_two (frame d (channels_known s all)) n m)
       ∙ flat_map-append (sample_bytes d.width) old new
-      ∙ ap (λ xs. bytes xs ++ bytes new) (stays ∙ ap (frames_below d (channels_heard s front)) first)
+      ∙ ap (λ xs. bytes xs ++ bytes new) (stays ∙ ap (frames_below d (channels_known s front)) first)

@@ -3,16 +3,16 @@ use Rattle.std.proofs.Common.{◌≡◌, ℕ, List, ◌++◌, Option, None, Some
 use Rattle.dsd_bits.specs.declared.sound.Sound.{Sound}
 use Rattle.fir_core.specs.Decimator.{Decimator}
 use Rattle.sound_core.specs.Faults.{IsBeforeWriting, IsSinkFault, IsWritingFault, StopsReading, failed_writes}
-use Rattle.sound_core.specs.Files.{TellsSound}
+use Rattle.sound_core.specs.Files.{StatesSound}
 use Rattle.sound_core.specs.Outlines.{IsOutlineFault}
 use Rattle.sound_core.specs.declared.fault.StreamFault.{StreamFault}
 use Rattle.sound_core.specs.declared.fault.StreamFault.TheVariants.{FileRefused, RateNotDivided, TooLarge, ReadFailed, WriteFailed, TurnLimit, Memory}
 use Rattle.sound_core.proofs.FaultLaws.{by_writing}
-use Rattle.player_core.specs.Playing.{Stands}
+use Rattle.player_core.specs.Playing.{Applies}
 use Rattle.player_core.specs.Wave.{IsOpeningFault}
 
 -- ---- where the file is read
-pub outline_stands : (left : Option (List ℕ)) (d : Decimator) (f : StreamFault) → IsOutlineFault left f → IfSome left (λ file. Stands d file f)
+pub outline_stands : (left : Option (List ℕ)) (d : Decimator) (f : StreamFault) → IsOutlineFault left f → IfSome left (λ file. Applies d file f)
 outline_stands None d f h = tt
 outline_stands (Some xs) d FileRefused h = h
 outline_stands (Some xs) d RateNotDivided h = absurd h
@@ -41,7 +41,7 @@ outline_unwritten X left TurnLimit h = refl
 outline_unwritten X left Memory h = refl
 
 -- ---- where the header is written
-pub opening_stands : (d : Decimator) (front rest : List ℕ) (s : Sound) → TellsSound front s → (f : StreamFault) → IsOpeningFault d s f → Stands d (front ++ rest) f
+pub opening_stands : (d : Decimator) (front rest : List ℕ) (s : Sound) → StatesSound front s → (f : StreamFault) → IsOpeningFault d s f → Applies d (front ++ rest) f
 opening_stands d front rest s tells FileRefused h = absurd h
 opening_stands d front rest s tells RateNotDivided h = record { front = front; rest = rest; sound = s; file_is = refl; tells = tells; not_divided = h }
 opening_stands d front rest s tells TooLarge h = record { front = front; rest = rest; sound = s; file_is = refl; tells = tells; divided = h.0; large = h.1 }

@@ -17,12 +17,12 @@ use Rattle.dsd_bits.proofs.BlockLemmas.{map_range_join}
 use Rattle.dsd_bits.proofs.LacingLemmas.{map_range_same}
 use Rattle.fir_core.specs.Decimator.{Decimator, sample_at, samples_of}
 use Rattle.fir_core.specs.Places.{samples_from}
-use Rattle.fir_core.specs.Streams.{Feeds, Fits, due, due_number, heard}
+use Rattle.fir_core.specs.Streams.{Feeds, Fits, due, due_number, bits_held}
 use Rattle.fir_core.specs.StreamView.{state_of}
 use Rattle.fir_core.proofs.StreamLaws.{due_more}
 use Rattle.fir_core.proofs.TileLaws.{below_ceil}
 use Rattle.fir_core.specs.declared.stream.Stream.{Stream}
-use Rattle.player_core.specs.Due.{bytes_heard, channel_bits, channel_bytes, frames_due}
+use Rattle.player_core.specs.Due.{bytes_known, channel_bits, channel_bytes, frames_due}
 use Rattle.player_core.specs.Frames.{tile_of}
 use Rattle.player_core.specs.Groups.{channel_byte, channel_part, group_size, in_order, part_size, place_in}
 
@@ -74,7 +74,7 @@ part_behind interleaving channels front groups c k p long =
 
 -- both
 pub bytes_more : (s : Sound) (front groups : List ℕ) (c k fed number : ℕ) → c < s.channels → length front ≡ k * group_size s.interleaving s.channels
-    → bytes_heard s (length front) ≡ fed → bytes_heard s (length (front ++ groups)) ≡ fed + number
+    → bytes_known s (length front) ≡ fed → bytes_known s (length (front ++ groups)) ≡ fed + number
     → channel_bytes s (front ++ groups) c ≡ channel_bytes s front c ++ channel_part s.interleaving s.channels groups c 0 number
 bytes_more s front groups c k fed number low long was is =
     let ps = part_size s.interleaving in
@@ -104,10 +104,10 @@ ceil_grows a b f some h = elim (cases_lt (div_ceil b f) (div_ceil a f)) [
 ]
 
 pub due_grows : (d : Decimator) (count a b : ℕ) → 0 < d.factor → a ≤ b → due_number d count a ≤ due_number d count b
-due_grows d count a b some h = ceil_grows (heard count a - d.delay) (heard count b - d.delay) d.factor some (omega arith)
+due_grows d count a b some h = ceil_grows (bits_held count a - d.delay) (bits_held count b - d.delay) d.factor some (omega arith)
 
 module _ (d : Decimator) (s : Sound) (fed number : ℕ) (front groups : List ℕ) (k c : ℕ) (low : c < s.channels) (long : length front ≡ k * group_size s.interleaving s.channels)
-    (was : bytes_heard s (length front) ≡ fed) (is : bytes_heard s (length (front ++ groups)) ≡ fed + number) where
+    (was : bytes_known s (length front) ≡ fed) (is : bytes_known s (length (front ++ groups)) ≡ fed + number) where
   abbrev all : List ℕ
   all = front ++ groups
 
@@ -117,12 +117,12 @@ module _ (d : Decimator) (s : Sound) (fed number : ℕ) (front groups : List ℕ
   both : channel_bytes s all c ≡ channel_bytes s front c ++ piece
   both = bytes_more s front groups c k fed number low long was is
 
-  length-bytes : (bytes : List ℕ) → length (channel_bytes s bytes c) ≡ bytes_heard s (length bytes)
-  length-bytes bytes = length-map-range_with_len (channel_byte s.interleaving s.channels bytes c) 0 (bytes_heard s (length bytes))
+  length-bytes : (bytes : List ℕ) → length (channel_bytes s bytes c) ≡ bytes_known s (length bytes)
+  length-bytes bytes = length-map-range_with_len (channel_byte s.interleaving s.channels bytes c) 0 (bytes_known s (length bytes))
 
   -- what is due of the channel are its first samples
   due_is : (bytes : List ℕ) → due d s.count (channel_bytes s bytes c) ≡ samples_of d (channel_bits s bytes c) 0 (frames_due d s (length bytes))
-  due_is bytes = ap (λ n. samples_from d (unpacked (channel_bytes s bytes c) (heard s.count n)) d.delay (due_number d s.count n)) (length-bytes bytes)
+  due_is bytes = ap (λ n. samples_from d (unpacked (channel_bytes s bytes c) (bits_held s.count n)) d.delay (due_number d s.count n)) (length-bytes bytes)
 
   pub fits_all : (old new : Stream) (before after : List ℤ) → old.taps ≡ d → old.count ≡ s.count → Feeds (state_of old) (state_of new) piece before after
       → Fits (state_of old) (channel_bytes s front c) → Fits (state_of new) (channel_bytes s all c)
@@ -135,7 +135,7 @@ module _ (d : Decimator) (s : Sound) (fed number : ℕ) (front groups : List ℕ
   gives old new before after least filter bits feeds fits =
       let n = frames_due d s (length front) in
       let m = frames_due d s (length all) - n in
-      let grows : n ≤ frames_due d s (length all) = due_grows d s.count (bytes_heard s (length front)) (bytes_heard s (length all)) (omega (arith, least)) (omega (arith, was, is)) in
+      let grows : n ≤ frames_due d s (length all) = due_grows d s.count (bytes_known s (length front)) (bytes_known s (length all)) (omega (arith, least)) (omega (arith, was, is)) in
       let whole : n + m ≡ frames_due d s (length all) = omega arith in
       let first = samples_of d (channel_bits s all c) 0 n in
       let told : due d s.count (channel_bytes s front c ++ piece) ≡ due d s.count (channel_bytes s front c) ++ feeds.0
@@ -154,7 +154,7 @@ module _ (d : Decimator) (s : Sound) (fed number : ℕ) (front groups : List ℕ
       let n = frames_due d s (length front) in
       let x = channel_bytes s front c in
       let more = due_more d s.count x piece least in
-      let grows : n ≤ frames_due d s (length all) = due_grows d s.count (bytes_heard s (length front)) (bytes_heard s (length all)) (omega (arith, least)) (omega (arith, was, is)) in
+      let grows : n ≤ frames_due d s (length all) = due_grows d s.count (bytes_known s (length front)) (bytes_known s (length all)) (omega (arith, least)) (omega (arith, was, is)) in
       let size : length (due d s.count x) ≡ n = ap length (due_is front) ∙ length-map-range_with_len (sample_at d (channel_bits s front c)) 0 n in
       sym (get_or-map-range_with_len (sample_at d (channel_bits s all c)) 0 (frames_due d s (length all)) j j (pos 0) (omega arith) (omega arith))
       ∙ ap (λ zs. get_or zs j (pos 0)) (sym (due_is all) ∙ ap (due d s.count) both ∙ more)

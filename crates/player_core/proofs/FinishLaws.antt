@@ -17,13 +17,13 @@ use Rattle.dsd_bits.proofs.BlockLemmas.{map_range_join, unblocked_is}
 use Rattle.dsd_bits.proofs.LacingLemmas.{map_range_same, own_bytes, unpacked-own_bytes}
 use Rattle.dsd_bits.proofs.PackingLemmas.{length-unpacked}
 use Rattle.fir_core.specs.Decimator.{Decimator, sample_at, samples, samples_of}
-use Rattle.fir_core.specs.Streams.{Finishes, Fits, due, due_number, heard}
+use Rattle.fir_core.specs.Streams.{Finishes, Fits, due, due_number, bits_held}
 use Rattle.fir_core.specs.StreamView.{state_of}
 use Rattle.fir_core.specs.declared.stream.Stream.{Stream}
 use Rattle.wave_core.specs.Contents.{IsSample}
 use Rattle.wave_core.specs.Frames.{frames_of}
 use Rattle.wave_core.specs.Texts.{sample_bytes}
-use Rattle.player_core.specs.Due.{all_bytes, bytes_heard, channel_bits, channel_bytes, channel_whole, channels_heard, due_bytes, frames_due}
+use Rattle.player_core.specs.Due.{all_bytes, bytes_known, channel_bits, channel_bytes, channel_whole, channels_known, due_bytes, frames_due}
 use Rattle.player_core.specs.Frames.{frame, frame_count, frames_below, tile_of}
 use Rattle.player_core.specs.Groups.{channel_byte, channel_part, part_size}
 use Rattle.player_core.specs.PlayerView.{IsChannel}
@@ -41,10 +41,10 @@ module _ (d : Decimator) (s : Sound) (bytes : List ℕ) (c : ℕ) (least : 8 ≤
 
   within : n ≤ div_ceil s.count d.factor
   unfolding n
-  within = ceil_grows (heard s.count (bytes_heard s (length bytes)) - d.delay) s.count d.factor (omega arith) (omega arith)
+  within = ceil_grows (bits_held s.count (bytes_known s (length bytes)) - d.delay) s.count d.factor (omega arith) (omega arith)
 
-  size : length (channel_bytes s bytes c) ≡ bytes_heard s (length bytes)
-  size = length-map-range_with_len (channel_byte s.interleaving s.channels bytes c) 0 (bytes_heard s (length bytes))
+  size : length (channel_bytes s bytes c) ≡ bytes_known s (length bytes)
+  size = length-map-range_with_len (channel_byte s.interleaving s.channels bytes c) 0 (bytes_known s (length bytes))
 
   pub rest_of : (old : Stream) (fed : ℕ) (before after : List ℤ) → IsChannel d s.count fed old → Finishes (state_of old) before after → Fits (state_of old) (channel_bytes s bytes c)
       → after ≡ before ++ samples_of d (channel_whole s bytes c) (frames_due d s (length bytes)) (div_ceil s.count d.factor - frames_due d s (length bytes))
@@ -82,10 +82,10 @@ strided_part bytes channels c number =
 
 -- ---- all bytes are heard
 module _ (s : Sound) (is : IsSound s) (whole : s.interleaving ≡ Bytes → s.count % 8 ≡ 0) where
-  pub heard_whole : bytes_heard s s.size ≡ div_ceil s.count 8
+  pub heard_whole : bytes_known s s.size ≡ div_ceil s.count 8
   heard_whole = by s.interleaving refl
     where
-      by : (interleaving : Interleaving) → s.interleaving ≡ interleaving → bytes_heard s s.size ≡ div_ceil s.count 8
+      by : (interleaving : Interleaving) → s.interleaving ≡ interleaving → bytes_known s s.size ≡ div_ceil s.count 8
       by Bytes e =
           let part : part_size s.interleaving ≡ 1 = ap part_size e in
           let size : s.size ≡ s.count / 8 * s.channels = is.size ∙ ap (λ o. sound_size o s.channels s.count) e in
@@ -102,8 +102,8 @@ module _ (s : Sound) (is : IsSound s) (whole : s.interleaving ≡ Bytes → s.co
           omega (arith, parts)
 
   module _ (bytes : List ℕ) (all : length bytes ≡ s.size) where
-    heard_all : bytes_heard s (length bytes) ≡ div_ceil s.count 8
-    heard_all = ap (bytes_heard s) all ∙ heard_whole
+    heard_all : bytes_known s (length bytes) ≡ div_ceil s.count 8
+    heard_all = ap (bytes_known s) all ∙ heard_whole
 
     -- a channel's bits are those of the sound
     channel_is : (c : ℕ) → channel_whole s bytes c ≡ get_channel s.interleaving s.channels s.count bytes c
@@ -133,10 +133,10 @@ module _ (s : Sound) (is : IsSound s) (whole : s.interleaving ≡ Bytes → s.co
         ∙ all_channels s.interleaving s.channels s.count bytes
 
     -- and all of them are heard
-    heard_are : channels_heard s bytes ≡ map (channel_whole s bytes) (range_with_len 0 s.channels)
+    heard_are : channels_known s bytes ≡ map (channel_whole s bytes) (range_with_len 0 s.channels)
     heard_are =
         map_range_same s.channels (channel_bits s bytes) (channel_whole s bytes)
-        (λ c h. ap (unpacked (channel_bytes s bytes c)) (let full : heard s.count (bytes_heard s (length bytes)) ≡ s.count = omega (arith, heard_all) in full))
+        (λ c h. ap (unpacked (channel_bytes s bytes c)) (let full : bits_held s.count (bytes_known s (length bytes)) ≡ s.count = omega (arith, heard_all) in full))
 
     pub count_is : count_of (map (channel_whole s bytes) (range_with_len 0 s.channels)) ≡ s.count
     count_is =
@@ -151,7 +151,7 @@ module _ (s : Sound) (is : IsSound s) (whole : s.interleaving ≡ Bytes → s.co
         let X = map (channel_whole s bytes) (range_with_len 0 s.channels) in
         let n = frames_due d s (length bytes) in
         let m = div_ceil s.count d.factor - n in
-        let within : n ≤ div_ceil s.count d.factor = ceil_grows (heard s.count (bytes_heard s (length bytes)) - d.delay) s.count d.factor (omega arith) (omega arith) in
+        let within : n ≤ div_ceil s.count d.factor = ceil_grows (bits_held s.count (bytes_known s (length bytes)) - d.delay) s.count d.factor (omega arith) (omega arith) in
         let total : div_ceil (count_of X) d.factor ≡ n + m = ap (λ k. div_ceil k d.factor) count_is ∙ omega (arith, within) in
         let number_of : length X ≡ s.channels = length-map-range_with_len (channel_whole s bytes) 0 s.channels in
         let columns : length tile / s.channels ≡ m = ap (λ l. l / s.channels) (ap length made ∙ length-tile d X n m ∙ ap (λ c. c * m) number_of) ∙ mul-div_cancel_left m is.some_channel in

@@ -7,7 +7,7 @@ use Rattle.fir_core.specs.Decimator.{Decimator, samples_of}
 use Rattle.fir_core.specs.Streams.{Feeds, Fits}
 use Rattle.fir_core.specs.StreamView.{IsStream, state_of}
 use Rattle.fir_core.specs.declared.stream.Stream.{Stream}
-use Rattle.player_core.specs.Due.{bytes_heard, channel_bits, channel_bytes, frames_due}
+use Rattle.player_core.specs.Due.{bytes_known, channel_bits, channel_bytes, frames_due}
 use Rattle.player_core.specs.Frames.{tile_of}
 use Rattle.player_core.specs.Groups.{channel_part, group_size}
 use Rattle.player_core.specs.PlayerView.{AllFit, AreChannels, IsChannel}
@@ -19,7 +19,7 @@ pub record FedUpTo (s : Sound) (number : ℕ) (groups : List ℕ) (old now : Lis
   pub later : (k : ℕ) (t : Stream) → c ≤ k → get_or now k t ≡ get_or old k t
   pub done : (d : Decimator) (fed : ℕ) → AreChannels d s.count fed old → (k : ℕ) (t : Stream) → k < c → IsChannel d s.count (fed + number) (get_or now k t)
   pub fits : (d : Decimator) (fed : ℕ) → AreChannels d s.count fed old → (front : List ℕ) (k : ℕ) → length front ≡ k * group_size s.interleaving s.channels
-      → bytes_heard s (length front) ≡ fed → bytes_heard s (length (front ++ groups)) ≡ fed + number → AllFit s old front
+      → bytes_known s (length front) ≡ fed → bytes_known s (length (front ++ groups)) ≡ fed + number → AllFit s old front
       → ((i : ℕ) (t : Stream) → i < c → Fits (state_of (get_or now i t)) (channel_bytes s (front ++ groups) i))
       × (tile ≡ tile_of d (map (channel_bits s (front ++ groups)) (range_with_len 0 c)) (frames_due d s (length front)) (frames_due d s (length (front ++ groups)) - frames_due d s (length front)))
 

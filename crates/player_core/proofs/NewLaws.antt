@@ -9,7 +9,7 @@ use Rattle.fir_core.specs.Decimator.{Decimator}
 use Rattle.fir_core.specs.Streams.{Fits}
 use Rattle.fir_core.specs.StreamView.{IsStream, state_of}
 use Rattle.fir_core.specs.declared.stream.Stream.{Stream}
-use Rattle.player_core.specs.Due.{bytes_heard}
+use Rattle.player_core.specs.Due.{bytes_known}
 use Rattle.player_core.specs.Groups.{channel_part, group_size, part_size}
 use Rattle.player_core.specs.PlayerView.{AllFit, AreChannels, AreNew, IsChannel}
 
@@ -27,10 +27,10 @@ one_new_more d count streams more new is are ready made fits = subst (AreNew d c
 ])
 
 -- ---- before the first byte
-pub none_heard : (s : Sound) → bytes_heard s 0 ≡ 0
+pub none_heard : (s : Sound) → bytes_known s 0 ≡ 0
 none_heard s = ap (λ n. min (div_ceil s.count 8) (n * part_size s.interleaving)) (zero-div (group_size s.interleaving s.channels)) ∙ omega arith
 
-pub new_channels : (d : Decimator) (s : Sound) (streams : List Stream) → AreNew d s.count streams → AreChannels d s.count (bytes_heard s 0) streams
+pub new_channels : (d : Decimator) (s : Sound) (streams : List Stream) → AreNew d s.count streams → AreChannels d s.count (bytes_known s 0) streams
 new_channels d s streams are = λ c t h. subst (λ n. IsChannel d s.count n (get_or streams c t)) (sym (none_heard s)) (are c t h).0
 
 pub new_fit : (d : Decimator) (s : Sound) (streams : List Stream) → AreNew d s.count streams → AllFit s streams []

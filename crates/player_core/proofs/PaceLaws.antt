@@ -1,6 +1,6 @@
 -- What was written where a file is not played to its end.
 use Rattle.std.proofs.Common.{◌≡◌, ℕ, ◌+◌, ◌-◌, ◌*◌, ◌/◌, ◌≤◌, inl, inr, List, [], ◌++◌, length, Option, None, Some, IfSome, sym, subst, ap, ap₂, ◌∙◌, arith, append_assoc, length-append}
-use Rattle.chunk_core.specs.Outlets.{AppendsFront, outlet_failures, outlet_writer}
+use Rattle.chunk_core.specs.Outlets.{AppendsPrefix, outlet_failures, outlet_writer}
 use Rattle.dsd_bits.specs.declared.sound.Sound.{Sound}
 use Rattle.fir_core.specs.Decimator.{Decimator}
 use Rattle.player_core.specs.Due.{due_bytes, frames_due}
@@ -8,14 +8,14 @@ use Rattle.player_core.specs.Laws.{SoundIsPlayed, file_around, total_frames}
 use Rattle.player_core.proofs.FrontLaws.{front_of_all}
 use Rattle.wave_core.specs.Sizes.{header_size}
 use Rattle.wave_core.proofs.SizeLaws.{length_of_header}
-use Rattle.sound_core.specs.Files.{GivesNone, TellsSound}
+use Rattle.sound_core.specs.Files.{GivesNone, StatesSound}
 use Rattle.sound_core.specs.Sinks.{BeginsSound, StopsTaking, sound_given}
 use Rattle.sound_core.specs.declared.fault.StreamFault.{StreamFault}
 use Rattle.sound_core.proofs.ToldLaws.{told_once}
 use Rattle.player_core.specs.Pace.{KeepsUp, PlayFails, WritesFrames}
-use Rattle.player_core.specs.Playing.{PlaysBy, Stands, WritesFront}
+use Rattle.player_core.specs.Playing.{PlaysBy, Applies, WritesPrefix}
 use Rattle.player_core.specs.Sinks.{IsPlaying, RefusesPlaying}
-use Rattle.player_core.specs.Wave.{IsOpeningFault, header_of, pad_of}
+use Rattle.player_core.specs.Wave.{IsOpeningFault, sound_header, pad_of}
 use Rattle.player_core.specs.declared.sink.PlayingSink.{PlayingSink}
 use Rattle.player_core.proofs.FaultLaws.{opening_stands, outline_later, outline_stands, outline_unwritten, own_goes_on}
 use Rattle.player_core.proofs.PlaceLaws.{frame_due, frames_held, length-due}
@@ -37,19 +37,19 @@ module _ {W : Type 0} (held : W → Option (List ℕ)) (law : SoundIsPlayed) (ol
   c = held (outlet_writer new.outlet.now)
 
   abbrev first : List ℕ
-  first = header_of d s ++ due_bytes d s came
+  first = sound_header d s ++ due_bytes d s came
 
   long : length first ≡ header_size s.channels d.width + frames_due d s (length came) * (s.channels * (d.width / 8))
-  long = length-append (header_of d s) (due_bytes d s came) ∙ ap₂ (λ m n. m + n) (length_of_header s.channels (s.rate / d.factor) d.width (total_frames d s)) (length-due d s came)
+  long = length-append (sound_header d s) (due_bytes d s came) ∙ ap₂ (λ m n. m + n) (length_of_header s.channels (s.rate / d.factor) d.width (total_frames d s)) (length-due d s came)
 
   -- of what the file plays that was written, and nothing behind it
   begun : (file bytes : List ℕ) → BeginsSound s came file → PlaysBy d file bytes → (back : List ℕ) × (bytes ≡ first ++ back)
   begun file bytes begins plays =
       let text = text_came law d s came file bytes begins few plays in
       let more = front_of_all d s came text.rest begins.tells.is_sound begins.tells.whole is.least text.long in
-      (more.0 ++ pad_of d s, text.is ∙ ap (file_around d s) more.1 ∙ parted (header_of d s) (due_bytes d s came) more.0 (pad_of d s))
+      (more.0 ++ pad_of d s, text.is ∙ ap (file_around d s) more.1 ∙ parted (sound_header d s) (due_bytes d s came) more.0 (pad_of d s))
 
-  pub front_came : (left : Option (List ℕ)) → IfSome left (BeginsSound s came) → WritesFront left (PlaysBy d) a c
+  pub front_came : (left : Option (List ℕ)) → IfSome left (BeginsSound s came) → WritesPrefix left (PlaysBy d) a c
   front_came None begins = tt
   front_came (Some file) begins = λ bytes plays. (let back = begun file bytes begins plays in (first, back.0, back.1, is.written))
 
@@ -57,7 +57,7 @@ module _ {W : Type 0} (held : W → Option (List ℕ)) (law : SoundIsPlayed) (ol
   keeps_came None given begins pace = tt
   keeps_came (Some file) given begins pace = λ bytes t plays told much.
       let back = begun file bytes begins plays in
-      let same : t ≡ s = told_once begins.front begins.rest s t begins.tells (subst (λ f. TellsSound f t) begins.file_is told) in
+      let same : t ≡ s = told_once begins.front begins.rest s t begins.tells (subst (λ f. StatesSound f t) begins.file_is told) in
       let n = sound_given s given - 131072 in
       subst (λ (z : Sound). WritesFrames d z (sound_given z given - 131072) bytes a c) (sym same) (
         first,
@@ -85,22 +85,22 @@ module _ {W : Type 0} (held : W → Option (List ℕ)) (left : Option (List ℕ)
   keeps_none None d a b none = tt
   keeps_none (Some xs) d a b none = λ bytes s plays told much. let before = none s (plays.recording, plays.file_holds) told in absurd (omega (arith, before, much))
 
-  refused_stands : (o : Option (List ℕ)) (s : Sound) (came : List ℕ) → IfSome o (BeginsSound s came) → IsOpeningFault old.taps.now s f → IfSome o (λ file. Stands old.taps.now file f)
+  refused_stands : (o : Option (List ℕ)) (s : Sound) (came : List ℕ) → IfSome o (BeginsSound s came) → IsOpeningFault old.taps.now s f → IfSome o (λ file. Applies old.taps.now file f)
   refused_stands None s came begins fault = tt
-  refused_stands (Some file) s came begins fault = subst (λ x. Stands old.taps.now x f) (sym begins.file_is) (opening_stands old.taps.now begins.front begins.rest s begins.tells f fault)
+  refused_stands (Some file) s came begins fault = subst (λ x. Applies old.taps.now x f) (sym begins.file_is) (opening_stands old.taps.now begins.front begins.rest s begins.tells f fault)
 
   refused_front : SoundIsPlayed → (o : Option (List ℕ)) (s : Sound) (came : List ℕ) → IfSome o (BeginsSound s came) → length came ≤ s.size → RefusesPlaying held old new s came f
-      → WritesFront o (PlaysBy old.taps.now) (held (outlet_writer old.outlet.now)) (held (outlet_writer new.outlet.now))
+      → WritesPrefix o (PlaysBy old.taps.now) (held (outlet_writer old.outlet.now)) (held (outlet_writer new.outlet.now))
   refused_front law None s came begins few refuses = tt
   refused_front law (Some file) s came begins few refuses = λ bytes plays.
       let text = text_came law old.taps.now s came file bytes begins few plays in
-      subst (AppendsFront (held (outlet_writer old.outlet.now)) (held (outlet_writer new.outlet.now))) (sym text.is) (refuses.front text.rest text.long)
+      subst (AppendsPrefix (held (outlet_writer old.outlet.now)) (held (outlet_writer new.outlet.now))) (sym text.is) (refuses.front text.rest text.long)
 
   pub play_fails : SoundIsPlayed → Stops → PlayFails held left old.taps.now (h - g) old.outlet.now new.outlet.now f
   play_fails law (inl none) = record {
     fault = outline_stands left old.taps.now f none.fault;
     unwritten = λ early. ap (λ (k : PlayingSink W). outlet_writer k.outlet.now) none.same;
-    front = subst (λ (k : PlayingSink W). WritesFront left (PlaysBy old.taps.now) (held (outlet_writer old.outlet.now)) (held (outlet_writer k.outlet.now))) (sym none.same) (none_front left (PlaysBy old.taps.now) (held (outlet_writer old.outlet.now)));
+    front = subst (λ (k : PlayingSink W). WritesPrefix left (PlaysBy old.taps.now) (held (outlet_writer old.outlet.now)) (held (outlet_writer k.outlet.now))) (sym none.same) (none_front left (PlaysBy old.taps.now) (held (outlet_writer old.outlet.now)));
     keeps_up = λ stops. keeps_none left old.taps.now (held (outlet_writer old.outlet.now)) (held (outlet_writer new.outlet.now)) (none.none stops);
     failures = omega (arith, ap (λ (k : PlayingSink W). outlet_failures k.outlet.now) none.same, outline_unwritten (Unit {0}) left f none.fault);
   }

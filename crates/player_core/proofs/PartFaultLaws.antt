@@ -4,7 +4,7 @@ use Rattle.dsd_bits.specs.declared.sound.Sound.{Sound}
 use Rattle.fir_core.specs.Decimator.{Decimator}
 use Rattle.wave_core.specs.Sizes.{riff_size}
 use Rattle.sound_core.specs.Faults.{IsSinkFault, IsWritingFault}
-use Rattle.sound_core.specs.Files.{TellsSound}
+use Rattle.sound_core.specs.Files.{StatesSound}
 use Rattle.sound_core.specs.Outlines.{IsOutlineFault}
 use Rattle.sound_core.specs.declared.fault.StreamFault.{StreamFault}
 use Rattle.sound_core.specs.declared.fault.StreamFault.TheVariants.{FileRefused, RateNotDivided, TooLarge, ReadFailed, WriteFailed, TurnLimit, Memory}
@@ -37,7 +37,7 @@ part_opening d s start stop some inside WriteFailed h = tt
 part_opening d s start stop some inside TurnLimit h = absurd h
 part_opening d s start stop some inside Memory h = tt
 
-pub part_opening_stands : (d : Decimator) (front rest : List ℕ) (s : Sound) (start stop : ℕ) → TellsSound front s → (f : StreamFault) → IsPartOpeningFault d s start stop f → StandsForPart d start stop (front ++ rest) f
+pub part_opening_stands : (d : Decimator) (front rest : List ℕ) (s : Sound) (start stop : ℕ) → StatesSound front s → (f : StreamFault) → IsPartOpeningFault d s start stop f → StandsForPart d start stop (front ++ rest) f
 part_opening_stands d front rest s start stop tells FileRefused h = inr (record { front = front; rest = rest; sound = s; file_is = refl; tells = tells; outside = h })
 part_opening_stands d front rest s start stop tells RateNotDivided h = record { front = front; rest = rest; sound = s; file_is = refl; tells = tells; not_divided = h }
 part_opening_stands d front rest s start stop tells TooLarge h = record { front = front; rest = rest; sound = s; file_is = refl; tells = tells; large = h }

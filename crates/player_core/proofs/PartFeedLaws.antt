@@ -3,9 +3,9 @@ use Rattle.std.proofs.Common.{◌≡◌, ℕ, ◌+◌, ◌-◌, ◌*◌, ◌/◌
 use Rattle.std.proofs.Math.Nat.{mul-le-mul_right}
 use Rattle.fir_core.specs.Decimator.{IsWithinLimits}
 use Rattle.fir_core.proofs.StreamLaws.{few_due}
-use Rattle.player_core.specs.Due.{bytes_heard, due_bytes, frames_due}
+use Rattle.player_core.specs.Due.{bytes_known, due_bytes, frames_due}
 use Rattle.player_core.specs.PartView.{IsPartFed, part_all, part_due}
-use Rattle.player_core.specs.PlayerView.{FeedsPlayer, FinishesPlayer, IsFed, IsPlayer, filter_of, sound_of}
+use Rattle.player_core.specs.PlayerView.{FeedsPlayer, FinishesPlayer, IsPlayerFed, IsPlayer, filter_of, sound_of}
 use Rattle.player_core.specs.declared.parts.PartPlayer.{PartPlayer}
 use Rattle.player_core.specs.declared.player.Player.{Player}
 use Rattle.player_core.proofs.PlaceLaws.{length-due}
@@ -14,7 +14,7 @@ use Rattle.player_core.proofs.StepLaws.{filter_known}
 
 -- ---- how many bytes are due
 pub limits_of : (p : Player) → IsPlayer p → IsWithinLimits (filter_of p)
-limits_of p is = filter_known p.taps.now p.sound.count (bytes_heard p.sound p.fed) p.streams.items (omega (arith, is.number, is.sound.some_channel)) is.each
+limits_of p is = filter_known p.taps.now p.sound.count (bytes_known p.sound p.fed) p.streams.items (omega (arith, is.number, is.sound.some_channel)) is.each
 
 pub few_bytes : (p : Player) → IsPlayer p → (bytes : List ℕ) → length (due_bytes (filter_of p) (sound_of p) bytes) ≤ 2 ^ 40
 few_bytes p is bytes =
@@ -27,7 +27,7 @@ few_bytes p is bytes =
       | inr more ↦ omega (arith, more)
     ] in
     let frame : s.channels * w ≤ 6 * w = mul-le-mul_right w is.sound.six_channels in
-    let number : frames_due d s (length bytes) ≤ 2 ^ 34 = few_due d s.count (bytes_heard s (length bytes)) is.sound.in_limit limits.least_factor limits.greatest_factor in
+    let number : frames_due d s (length bytes) ≤ 2 ^ 34 = few_due d s.count (bytes_known s (length bytes)) is.sound.in_limit limits.least_factor limits.greatest_factor in
     let all : frames_due d s (length bytes) * (s.channels * w) ≤ 2 ^ 34 * (s.channels * w) = mul-le-mul_right (s.channels * w) number in
     omega (arith, length-due d s bytes, all, frame, three)
 
@@ -37,7 +37,7 @@ module _ (p : PartPlayer) (q : Player) (bytes own : List ℕ) (feeds : FeedsPlay
   more = slice_range own (p.skip - p.given) (p.stop - p.given)
 
   module _ (before : List ℕ) (fed : IsPartFed p before) where
-    next_fed : IsFed q (before ++ bytes)
+    next_fed : IsPlayerFed q (before ++ bytes)
     next_fed = (feeds.2 before fed.fed).0
 
     next_due : due_bytes (filter_of p.player) (sound_of p.player) (before ++ bytes) ≡ due_bytes (filter_of p.player) (sound_of p.player) before ++ own
@@ -50,7 +50,7 @@ module _ (p : PartPlayer) (q : Player) (bytes own : List ℕ) (feeds : FeedsPlay
 
     pub part_fed_on : (r : PartPlayer) → r.player ≡ q → r.given ≡ p.given + length own → IsPartFed r (before ++ bytes)
     part_fed_on r player given = record {
-      fed = subst (λ x. IsFed x (before ++ bytes)) (sym player) next_fed;
+      fed = subst (λ x. IsPlayerFed x (before ++ bytes)) (sym player) next_fed;
       given = given ∙ next_given ∙ ap (λ x. length (due_bytes (filter_of x) (sound_of x) (before ++ bytes))) (sym player);
     }
 

@@ -23,7 +23,7 @@ use Rattle.fir_core.proofs.TileLaws.{below_ceil}
 use Rattle.wave_core.specs.Sizes.{block_align}
 use Rattle.wave_core.specs.Texts.{sample_bytes}
 use Rattle.wave_core.proofs.SizeLaws.{length_of_samples}
-use Rattle.player_core.specs.Due.{all_bytes, bytes_heard, channel_bytes, channel_whole}
+use Rattle.player_core.specs.Due.{all_bytes, bytes_known, channel_bytes, channel_whole}
 use Rattle.player_core.specs.Frames.{frame, frame_count, frames}
 use Rattle.player_core.specs.Groups.{channel_byte, group_size, in_order, part_size, place_in}
 use Rattle.player_core.specs.Laws.{total_frames}
@@ -141,11 +141,11 @@ module _ (s : Sound) (is : IsSound s) (whole : s.interleaving ≡ Bytes → s.co
     pub length_left : length left ≡ r.size
     length_left = length-drop (k * group_size s.interleaving s.channels) bytes ∙ ap (λ n. n - k * group_size s.interleaving s.channels) all
 
-    heard_here : bytes_heard s (length bytes) ≡ div_ceil s.count 8
-    heard_here = ap (bytes_heard s) all ∙ heard_whole s is whole
+    heard_here : bytes_known s (length bytes) ≡ div_ceil s.count 8
+    heard_here = ap (bytes_known s) all ∙ heard_whole s is whole
 
-    heard_left : bytes_heard r (length left) ≡ div_ceil r.count 8
-    heard_left = ap (bytes_heard r) length_left ∙ heard_whole r rest_sound rest_whole
+    heard_left : bytes_known r (length left) ≡ div_ceil r.count 8
+    heard_left = ap (bytes_known r) length_left ∙ heard_whole r rest_sound rest_whole
 
     module _ (c : ℕ) where
       abbrev q : ℕ
@@ -156,9 +156,9 @@ module _ (s : Sound) (is : IsSound s) (whole : s.interleaving ≡ Bytes → s.co
           let place : (8 * q + i) / 8 ≡ q + i / 8 = omega arith in
           let phase : (8 * q + i) % 8 ≡ i % 8 = omega arith in
           let here : get_or (channel_bytes s bytes c) (q + i / 8) 0 ≡ channel_byte s.interleaving s.channels bytes c (q + i / 8)
-          = get_or-map-range_with_len (channel_byte s.interleaving s.channels bytes c) 0 (bytes_heard s (length bytes)) (q + i / 8) (q + i / 8) 0 (omega (arith, low, heard_here)) (omega arith) in
+          = get_or-map-range_with_len (channel_byte s.interleaving s.channels bytes c) 0 (bytes_known s (length bytes)) (q + i / 8) (q + i / 8) 0 (omega (arith, low, heard_here)) (omega arith) in
           let there : get_or (channel_bytes r left c) (i / 8) 0 ≡ channel_byte s.interleaving s.channels left c (i / 8)
-          = get_or-map-range_with_len (channel_byte s.interleaving s.channels left c) 0 (bytes_heard r (length left)) (i / 8) (i / 8) 0 (omega (arith, low, heard_left)) (omega arith) in
+          = get_or-map-range_with_len (channel_byte s.interleaving s.channels left c) 0 (bytes_known r (length left)) (i / 8) (i / 8) 0 (omega (arith, low, heard_left)) (omega arith) in
           ap₂ (λ a b. eqb (bit_at (get_or (channel_bytes s bytes c) a 0) (7 - b)) 1) place phase
           ∙ ap (λ v. eqb (bit_at v (7 - i % 8)) 1) (here ∙ sym (byte_of_rest s.interleaving s.channels bytes c k (i / 8)) ∙ sym there)
 

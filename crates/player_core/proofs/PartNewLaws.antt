@@ -10,7 +10,7 @@ use Rattle.player_core.specs.Groups.{group_size}
 use Rattle.player_core.specs.Laws.{total_frames}
 use Rattle.player_core.specs.Parts.{frames_before, groups_before, part_bytes, rest_of}
 use Rattle.player_core.specs.PartView.{IsPartFed, IsPartOf}
-use Rattle.player_core.specs.PlayerView.{IsFed, filter_of, sound_of}
+use Rattle.player_core.specs.PlayerView.{IsPlayerFed, filter_of, sound_of}
 use Rattle.player_core.specs.declared.parts.PartPlayer.{PartPlayer}
 use Rattle.player_core.proofs.PartLaws.{frames_few, part_of_rest, places_are, reaches_enough, some_factor}
 use Rattle.player_core.proofs.SoundLaws.{nothing_is_due}
@@ -42,5 +42,5 @@ module _ (d : Decimator) (s : Sound) (limits : IsWithinLimits d) (is : IsSound s
         ∙ rest_gives bytes all;
   }
 
-pub new_fed : (p : PartPlayer) → IsFed p.player [] → p.given ≡ 0 → IsPartFed p []
+pub new_fed : (p : PartPlayer) → IsPlayerFed p.player [] → p.given ≡ 0 → IsPartFed p []
 new_fed p fed none = record { fed = fed; given = none ∙ sym (ap length (nothing_is_due (filter_of p.player) (sound_of p.player))) }

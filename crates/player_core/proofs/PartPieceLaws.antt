@@ -2,7 +2,7 @@
 use Rattle.std.proofs.Common.{◌≡◌, ℕ, ◌-◌, List, [], ◌++◌, drop, length, slice_range, Option, refl, sym, subst, ap, ◌∙◌, arith, append_assoc, append-nil, length-append}
 use Rattle.std.specs.Io.KnownBytes.{Appends}
 use Rattle.std.proofs.lemmas.List.{nil_from_length}
-use Rattle.chunk_core.specs.Outlets.{AppendsFront}
+use Rattle.chunk_core.specs.Outlets.{AppendsPrefix}
 use Rattle.dsd_bits.specs.declared.sound.Sound.{Sound}
 use Rattle.player_core.specs.Due.{due_bytes}
 use Rattle.player_core.specs.PartPieces.{PutsPartDue, PutsPartFront, PutsPartRest}
@@ -29,24 +29,24 @@ no_part_put p is piece a = λ before rest fed all. (let more = part_front p is b
 pub part_due_put : (p q : PartPlayer) (piece given : List ℕ) (a b : Option (List ℕ)) → FeedsPart p q piece [] given → Appends a b given → PutsPartDue p q piece a b
 part_due_put p q piece given a b feeds out = (feeds.0, subst (Appends a b) feeds.1 out, feeds.2)
 
-pub part_front_put : (p q : PartPlayer) → IsPartPlayer p → (piece given : List ℕ) (a b : Option (List ℕ)) → FeedsPart p q piece [] given → AppendsFront a b given → PutsPartFront p piece a b
+pub part_front_put : (p q : PartPlayer) → IsPartPlayer p → (piece given : List ℕ) (a b : Option (List ℕ)) → FeedsPart p q piece [] given → AppendsPrefix a b given → PutsPartFront p piece a b
 part_front_put p q is piece given a b feeds out = λ before rest fed all.
     let joined : before ++ (piece ++ rest) ≡ (before ++ piece) ++ rest = sym (append_assoc before piece rest) in
     let behind = part_front p is (before ++ piece) rest (ap length (sym joined) ∙ all) in (
       feeds.0 ++ behind.0,
       ap (part_all p) joined ∙ behind.1 ∙ ap (λ xs. xs ++ behind.0) (feeds.2 before fed).1 ∙ append_assoc (part_due p before) feeds.0 behind.0,
-      front_more a b feeds.0 behind.0 (subst (AppendsFront a b) feeds.1 out),
+      front_more a b feeds.0 behind.0 (subst (AppendsPrefix a b) feeds.1 out),
     )
 
 -- ---- the rest
 pub part_rest_put : (p : PartPlayer) (given : List ℕ) (a b : Option (List ℕ)) → FinishesPart p [] given → Appends a b given → PutsPartRest p a b
 part_rest_put p given a b finishes out = (finishes.0, subst (Appends a b) finishes.1 out, finishes.2)
 
-pub part_rest_front : (p : PartPlayer) → part_fed p ≡ (part_rest p).size → (given : List ℕ) (a b : Option (List ℕ)) → FinishesPart p [] given → AppendsFront a b given → PutsPartFront p [] a b
+pub part_rest_front : (p : PartPlayer) → part_fed p ≡ (part_rest p).size → (given : List ℕ) (a b : Option (List ℕ)) → FinishesPart p [] given → AppendsPrefix a b given → PutsPartFront p [] a b
 part_rest_front p whole given a b finishes out = λ before rest fed all.
     let none : rest ≡ [] = nil_from_length rest (omega (arith, fed.fed.fed, whole, all, length-append before rest)) in
     let same : before ++ rest ≡ before = ap (λ xs. before ++ xs) none ∙ append-nil before in
-    (finishes.0, ap (part_all p) same ∙ finishes.2 before fed, subst (AppendsFront a b) finishes.1 out)
+    (finishes.0, ap (part_all p) same ∙ finishes.2 before fed, subst (AppendsPrefix a b) finishes.1 out)
 
 -- ---- the same part
 pub due_same : (p q : PartPlayer) → IsSamePart p q → (xs : List ℕ) → part_due q xs ≡ part_due p xs

@@ -23,8 +23,8 @@ use Rattle.player_core.specs.PartPlaying.{PartIsPlayed, PartOnlyFromOutside, Pla
 use Rattle.player_core.specs.Parts.{frames_sound, part_bytes, part_file}
 use Rattle.player_core.specs.Wave.{file_size}
 use Rattle.sound_core.specs.Faults.{IsFromOutside}
-use Rattle.sound_core.specs.Files.{HoldsRecording, TellsSound}
-use Rattle.sound_core.specs.Outlines.{AreTold, StandsIn, Surroundings, with_sound}
+use Rattle.sound_core.specs.Files.{HoldsRecording, StatesSound}
+use Rattle.sound_core.specs.Outlines.{AreStated, IsPlacedIn, Surroundings, with_sound}
 use Rattle.sound_core.specs.Sinks.{BeginsSound}
 use Rattle.sound_core.specs.declared.fault.StreamFault.{StreamFault}
 use Rattle.sound_core.specs.declared.fault.StreamFault.TheVariants.{FileRefused, RateNotDivided, TooLarge, ReadFailed, WriteFailed, TurnLimit, Memory}
@@ -116,7 +116,7 @@ part_is_played law file r s d start stop has is whole least ordered inside =
 
 -- ---- of a file that begins with the front of one
 module _ (law : PartIsPlayed) (d : Decimator) (least : 8 ≤ d.factor) (start stop : ℕ) where
-  module _ (front : List ℕ) (s : Sound) (tells : TellsSound front s) where
+  module _ (front : List ℕ) (s : Sound) (tells : StatesSound front s) where
     abbrev ahead : List ℕ
     ahead = drop s.start front
 
@@ -174,7 +174,7 @@ module _ (law : PartIsPlayed) (d : Decimator) (least : 8 ≤ d.factor) (start st
       }
 
   -- ---- whose whole sound came
-  module _ (o : Surroundings) (told : AreTold o) (file sound : List ℕ) (stands : StandsIn o file sound) (divided : o.sound.rate % d.factor ≡ 0) (ordered : start ≤ stop) (inside : stop ≤ total_frames d o.sound) (fits : FitsRiff o.sound.channels d.width (stop - start)) where
+  module _ (o : Surroundings) (told : AreStated o) (file sound : List ℕ) (stands : IsPlacedIn o file sound) (divided : o.sound.rate % d.factor ≡ 0) (ordered : start ≤ stop) (inside : stop ≤ total_frames d o.sound) (fits : FitsRiff o.sound.channels d.width (stop - start)) where
     abbrev behind : List ℕ
     behind = stands.gap ++ (o.back ++ stands.rest)
 

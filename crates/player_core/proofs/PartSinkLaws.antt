@@ -5,7 +5,7 @@ use Rattle.std.proofs.KnownBytes.{Appends-trans}
 use Rattle.std.proofs.Math.Seq.{drop-nil, take-nil}
 use Rattle.std.proofs.lemmas.List.{nil_from_length}
 use Rattle.chunk_core.specs.Inlets.{inlet_reader}
-use Rattle.chunk_core.specs.Outlets.{AppendsFront, outlet_failures, outlet_writer}
+use Rattle.chunk_core.specs.Outlets.{AppendsPrefix, outlet_failures, outlet_writer}
 use Rattle.chunk_core.specs.declared.inlet.Inlet.{Inlet}
 use Rattle.std.specs.Int.{div_ceil}
 use Rattle.dsd_bits.specs.declared.interleaving.Interleaving.{Interleaving}
@@ -14,7 +14,7 @@ use Rattle.dsd_bits.specs.declared.sound.Sound.{Sound}
 use Rattle.dsd_bits.specs.Sounds.{sound_size}
 use Rattle.fir_core.specs.Decimator.{Decimator}
 use Rattle.sound_core.specs.Faults.{IsWritingFault, failed_writes}
-use Rattle.sound_core.specs.Outlines.{AreTold, StandsIn, Surroundings}
+use Rattle.sound_core.specs.Outlines.{AreStated, IsPlacedIn, Surroundings}
 use Rattle.sound_core.specs.Sinks.{BeginsSound, StopsTaking, TakesFile, TakesGiven}
 use Rattle.sound_core.specs.declared.fault.StreamFault.{StreamFault}
 use Rattle.player_core.specs.Laws.{file_around, total_frames}
@@ -24,8 +24,8 @@ use Rattle.player_core.specs.Parts.{frames_sound, part_bytes, part_file}
 use Rattle.player_core.specs.PartSinks.{FinishesPlayingPart, IsPartOpeningFault, IsPlayingPart, RefusesPart, frames_of}
 use Rattle.player_core.specs.PartView.{IsPartFed, IsPartOf, IsPartPlayer, IsSamePart, part_all, part_due, part_fed, part_rest, part_start}
 use Rattle.player_core.specs.PlayerView.{filter_of, sound_of}
-use Rattle.player_core.specs.Playing.{PlaysFile, PlaysGiven, WritesFront}
-use Rattle.player_core.specs.Wave.{file_size, header_of, pad_of}
+use Rattle.player_core.specs.Playing.{PlaysFile, PlaysGiven, WritesPrefix}
+use Rattle.player_core.specs.Wave.{file_size, sound_header, pad_of}
 use Rattle.player_core.specs.declared.part_sink.PartSink.{PartSink}
 use Rattle.player_core.specs.declared.parts.PartPlayer.{PartPlayer}
 use Rattle.player_core.proofs.FaultLaws.{outline_later, outline_unwritten, writing_later, writing_own}
@@ -80,8 +80,8 @@ module _ {W : Type 0} (held : W → Option (List ℕ)) (first old : PartSink W) 
   abbrev b : Option (List ℕ)
   b = held (outlet_writer old.outlet.now)
 
-  so_far : Appends a b (header_of d fs ++ part_due p (drop n bytes))
-  so_far = subst (λ q. Appends a b (header_of d fs ++ part_due q (drop (part_start q) bytes))) here is.written
+  so_far : Appends a b (sound_header d fs ++ part_due p (drop n bytes))
+  so_far = subst (λ q. Appends a b (sound_header d fs ++ part_due q (drop (part_start q) bytes))) here is.written
 
   -- how many bytes its rest has
   pub rest_long : (xs : List ℕ) → length xs ≡ s.size → length (drop n xs) ≡ (part_rest p).size
@@ -138,7 +138,7 @@ module _ {W : Type 0} (held : W → Option (List ℕ)) (first old : PartSink W) 
           plays = plays_on d s first.start first.stop p q same by.plays;
           fed = subst (IsPartFed q) (sym at) on.0;
           came = omega (arith, came, is.came, length-append bytes piece);
-          written = subst (Appends a c) (append_assoc (header_of d fs) (part_due p (drop n bytes)) puts.0 ∙ ap (λ xs. header_of d fs ++ xs) (sym due)) (Appends-trans a b c (header_of d fs ++ part_due p (drop n bytes)) puts.0 so_far puts.1);
+          written = subst (Appends a c) (append_assoc (sound_header d fs) (part_due p (drop n bytes)) puts.0 ∙ ap (λ xs. sound_header d fs ++ xs) (sym due)) (Appends-trans a b c (sound_header d fs ++ part_due p (drop n bytes)) puts.0 so_far puts.1);
           ready = is.ready;
           failures = failures ∙ is.failures;
         }
@@ -155,8 +155,8 @@ module _ {W : Type 0} (held : W → Option (List ℕ)) (first old : PartSink W) 
           let all : drop n whole ≡ drop n bytes ++ (fed_piece ++ behind) = drop_more_of n (bytes ++ piece) rest ∙ ap (λ xs. xs ++ behind) joined ∙ append_assoc (drop n bytes) fed_piece behind in
           let put = subst (λ k. PutsPartFront p (drop (n - k) piece) b c) is.came out (drop n bytes) behind by.fed (ap length (sym all) ∙ rest_long whole long) in
           let part : part_bytes d s whole first.start first.stop ≡ part_due p (drop n bytes) ++ put.0 = sym (by.plays.gives whole long) ∙ ap (part_all p) all ∙ put.1 in
-          subst (AppendsFront a c) (sym (ap (file_around d fs) part ∙ parted (header_of d fs) (part_due p (drop n bytes)) put.0 (pad_of d fs)))
-          (front_on a b c (header_of d fs ++ part_due p (drop n bytes)) (put.0 ++ pad_of d fs) so_far (front_more b c put.0 (pad_of d fs) put.2));
+          subst (AppendsPrefix a c) (sym (ap (file_around d fs) part ∙ parted (sound_header d fs) (part_due p (drop n bytes)) put.0 (pad_of d fs)))
+          (front_on a b c (sound_header d fs ++ part_due p (drop n bytes)) (put.0 ++ pad_of d fs) so_far (front_more b c put.0 (pad_of d fs) put.2));
       failures = failures ∙ ap (λ m. m + failed_writes {X = Unit {0}} (Err f)) is.failures;
     }
 
@@ -169,11 +169,11 @@ module _ {W : Type 0} (held : W → Option (List ℕ)) (first old : PartSink W) 
 
   -- ---- the end
   module _ (m : Option (List ℕ)) (puts : PutsPartRest p b m) (long : length bytes ≡ s.size) where
-    all_put : Appends a m (header_of d fs ++ part_bytes d s bytes first.start first.stop)
+    all_put : Appends a m (sound_header d fs ++ part_bytes d s bytes first.start first.stop)
     all_put =
         let by = part_player_of in
         let part : part_bytes d s bytes first.start first.stop ≡ part_due p (drop n bytes) ++ puts.0 = sym (by.plays.gives bytes long) ∙ puts.2 (drop n bytes) by.fed in
-        subst (Appends a m) (append_assoc (header_of d fs) (part_due p (drop n bytes)) puts.0 ∙ ap (λ xs. header_of d fs ++ xs) (sym part)) (Appends-trans a b m (header_of d fs ++ part_due p (drop n bytes)) puts.0 so_far puts.1)
+        subst (Appends a m) (append_assoc (sound_header d fs) (part_due p (drop n bytes)) puts.0 ∙ ap (λ xs. sound_header d fs ++ xs) (sym part)) (Appends-trans a b m (sound_header d fs ++ part_due p (drop n bytes)) puts.0 so_far puts.1)
 
     module _ (new : PartSink W) (reference : new.outlet.ghost_name ≡ old.outlet.ghost_name) (t : Sound) (frames : t ≡ frames_sound old.taps.now s (old.stop - old.start)) where
       frames_are : t ≡ fs
@@ -185,26 +185,26 @@ module _ {W : Type 0} (held : W → Option (List ℕ)) (first old : PartSink W) 
       pub part_finishes : Appends m (held (outlet_writer new.outlet.now)) (pad_of old.taps.now t) → outlet_failures new.outlet.now ≡ outlet_failures old.outlet.now → FinishesPlayingPart held first new s bytes
       part_finishes out failures = record {
         same = reference ∙ is.same;
-        written = subst (Appends a (held (outlet_writer new.outlet.now))) (append_assoc (header_of d fs) (part_bytes d s bytes first.start first.stop) (pad_of d fs))
-            (Appends-trans a m (held (outlet_writer new.outlet.now)) (header_of d fs ++ part_bytes d s bytes first.start first.stop) (pad_of d fs) all_put (subst (Appends m (held (outlet_writer new.outlet.now))) pad out));
+        written = subst (Appends a (held (outlet_writer new.outlet.now))) (append_assoc (sound_header d fs) (part_bytes d s bytes first.start first.stop) (pad_of d fs))
+            (Appends-trans a m (held (outlet_writer new.outlet.now)) (sound_header d fs ++ part_bytes d s bytes first.start first.stop) (pad_of d fs) all_put (subst (Appends m (held (outlet_writer new.outlet.now))) pad out));
         failures = failures ∙ is.failures;
       }
 
-      pub part_pad_refuses : (f : StreamFault) → IsWritingFault f → AppendsFront m (held (outlet_writer new.outlet.now)) (pad_of old.taps.now t) → outlet_failures new.outlet.now ≡ outlet_failures old.outlet.now + failed_writes {X = Unit {0}} (Err f) → RefusesPart held first new s bytes f
+      pub part_pad_refuses : (f : StreamFault) → IsWritingFault f → AppendsPrefix m (held (outlet_writer new.outlet.now)) (pad_of old.taps.now t) → outlet_failures new.outlet.now ≡ outlet_failures old.outlet.now + failed_writes {X = Unit {0}} (Err f) → RefusesPart held first new s bytes f
       part_pad_refuses f fault out failures = record {
         same = reference ∙ is.same;
         fault = writing_part_opening d s first.start first.stop f fault;
         unwritten = λ early. absurd (writing_later f fault early);
         front = λ rest whole.
             let none : bytes ++ rest ≡ bytes = ap (λ xs. bytes ++ xs) (nil_from_length rest (omega (arith, whole, long, length-append bytes rest))) ∙ append-nil bytes in
-            subst (λ xs. AppendsFront a (held (outlet_writer new.outlet.now)) (part_file d s first.start first.stop xs)) (sym none)
-            (subst (AppendsFront a (held (outlet_writer new.outlet.now))) (append_assoc (header_of d fs) (part_bytes d s bytes first.start first.stop) (pad_of d fs))
-            (front_on a m (held (outlet_writer new.outlet.now)) (header_of d fs ++ part_bytes d s bytes first.start first.stop) (pad_of d fs) all_put (subst (AppendsFront m (held (outlet_writer new.outlet.now))) pad out)));
+            subst (λ xs. AppendsPrefix a (held (outlet_writer new.outlet.now)) (part_file d s first.start first.stop xs)) (sym none)
+            (subst (AppendsPrefix a (held (outlet_writer new.outlet.now))) (append_assoc (sound_header d fs) (part_bytes d s bytes first.start first.stop) (pad_of d fs))
+            (front_on a m (held (outlet_writer new.outlet.now)) (sound_header d fs ++ part_bytes d s bytes first.start first.stop) (pad_of d fs) all_put (subst (AppendsPrefix m (held (outlet_writer new.outlet.now))) pad out)));
         failures = failures ∙ ap (λ k. k + failed_writes {X = Unit {0}} (Err f)) is.failures;
       }
 
 -- ---- the whole file
-module _ {W : Type 0} (held : W → Option (List ℕ)) (old mid new : PartSink W) (o : Surroundings) (told : AreTold o) where
+module _ {W : Type 0} (held : W → Option (List ℕ)) (old mid new : PartSink W) (o : Surroundings) (told : AreStated o) where
   abbrev has : Sound → ℕ → List ℕ → Type 0
   has s done bytes = IsPlayingPart held old mid s bytes
 
@@ -216,7 +216,7 @@ module _ {W : Type 0} (held : W → Option (List ℕ)) (old mid new : PartSink W
 
   module _ (law : PartIsPlayed) (least : 8 ≤ old.taps.now.factor) (ends : (first : PartSink W) (bytes : List ℕ) → IsPlayingPart held first mid o.sound bytes → length bytes ≡ o.sound.size → FinishesPlayingPart held first new o.sound bytes)
       (n : ℕ) (size : n ≡ file_size old.taps.now (frames_of old o.sound)) where
-    held_played : (file sound : List ℕ) → StandsIn o file sound → IsPlayingPart held old mid o.sound sound → all_played file n
+    held_played : (file sound : List ℕ) → IsPlacedIn o file sound → IsPlayingPart held old mid o.sound sound → all_played file n
     held_played file sound stands is = (
       part_file old.taps.now o.sound old.start old.stop sound,
       part_held law old.taps.now least old.start old.stop o told file sound stands is.divided is.ordered is.inside is.fits,
@@ -293,13 +293,13 @@ module _ {W : Type 0} (held : W → Option (List ℕ)) (left : Option (List ℕ)
   refused_stands (Some file) s came begins fault = subst (λ x. StandsForPart filter old.start old.stop x f) (sym begins.file_is) (part_opening_stands filter begins.front begins.rest s old.start old.stop begins.tells f fault)
 
   module _ (law : PartIsPlayed) (least : 8 ≤ filter.factor) where
-    refused_front : (o : Option (List ℕ)) (s : Sound) (came : List ℕ) → IfSome o (BeginsSound s came) → length came ≤ s.size → RefusesPart held old new s came f → WritesFront o (PlaysPart filter old.start old.stop) was now
+    refused_front : (o : Option (List ℕ)) (s : Sound) (came : List ℕ) → IfSome o (BeginsSound s came) → length came ≤ s.size → RefusesPart held old new s came f → WritesPrefix o (PlaysPart filter old.start old.stop) was now
     refused_front None s came begins few refuses = tt
     refused_front (Some file) s came begins few refuses = λ bytes plays.
         let text = part_text_came law filter least old.start old.stop s came file bytes begins few plays in
-        subst (AppendsFront was now) (sym text.is) (refuses.front text.rest text.long)
+        subst (AppendsPrefix was now) (sym text.is) (refuses.front text.rest text.long)
 
-    ended_front : (o : Option (List ℕ)) (s : Sound) (came : List ℕ) → IfSome o (BeginsSound s came) → length came ≤ s.size → IsPlayingPart held old new s came → WritesFront o (PlaysPart filter old.start old.stop) was now
+    ended_front : (o : Option (List ℕ)) (s : Sound) (came : List ℕ) → IfSome o (BeginsSound s came) → length came ≤ s.size → IsPlayingPart held old new s came → WritesPrefix o (PlaysPart filter old.start old.stop) was now
     ended_front None s came begins few is = tt
     ended_front (Some file) s came begins few is = λ bytes plays.
         let p = is.player in
@@ -310,9 +310,9 @@ module _ {W : Type 0} (held : W → Option (List ℕ)) (left : Option (List ℕ)
         let all : drop n whole ≡ drop n came ++ drop (n - length came) text.rest = drop_more_of n came text.rest in
         let more = part_front p is.is_player (drop n came) (drop (n - length came) text.rest) (ap length (sym all) ∙ rest_long held old new s came is p is.player_is whole text.long) in
         let part : part_bytes filter s whole old.start old.stop ≡ part_due p (drop n came) ++ more.0 = sym (is.plays.gives whole text.long) ∙ ap (part_all p) all ∙ more.1 in (
-          header_of filter fs ++ part_due p (drop n came),
+          sound_header filter fs ++ part_due p (drop n came),
           more.0 ++ pad_of filter fs,
-          text.is ∙ ap (file_around filter fs) part ∙ parted (header_of filter fs) (part_due p (drop n came)) more.0 (pad_of filter fs),
+          text.is ∙ ap (file_around filter fs) part ∙ parted (sound_header filter fs) (part_due p (drop n came)) more.0 (pad_of filter fs),
           is.written,
         )
 
@@ -320,7 +320,7 @@ module _ {W : Type 0} (held : W → Option (List ℕ)) (left : Option (List ℕ)
     part_fails (inl none) = record {
       fault = part_outline_stands left filter old.start old.stop f none.fault;
       unwritten = λ early. ap (λ (k : PartSink W). outlet_writer k.outlet.now) none.same;
-      front = subst (λ (k : PartSink W). WritesFront left (PlaysPart filter old.start old.stop) was (held (outlet_writer k.outlet.now))) (sym none.same) (none_front left (PlaysPart filter old.start old.stop) was);
+      front = subst (λ (k : PartSink W). WritesPrefix left (PlaysPart filter old.start old.stop) was (held (outlet_writer k.outlet.now))) (sym none.same) (none_front left (PlaysPart filter old.start old.stop) was);
       failures = omega (arith, ap (λ (k : PartSink W). outlet_failures k.outlet.now) none.same, outline_unwritten (Unit {0}) left f none.fault);
     }
     part_fails (inr some) = elim some.how [

@@ -12,14 +12,14 @@ use Rattle.dsd_bits.specs.declared.interleaving.Interleaving.TheVariants.{Bytes,
 use Rattle.dsd_bits.specs.declared.sound.Sound.{Sound}
 use Rattle.dsd_bits.specs.Sounds.{IsSound, sound_size}
 use Rattle.fir_core.specs.Decimator.{Decimator, sample_at}
-use Rattle.fir_core.specs.Streams.{heard}
+use Rattle.fir_core.specs.Streams.{bits_held}
 use Rattle.wave_core.specs.Sizes.{header_size}
 use Rattle.wave_core.proofs.SizeLaws.{length_of_samples}
-use Rattle.player_core.specs.Due.{bytes_heard, channel_bits, channels_heard, due_bytes, frames_due}
+use Rattle.player_core.specs.Due.{bytes_known, channel_bits, channels_known, due_bytes, frames_due}
 use Rattle.player_core.specs.Frames.{frame, frames_below}
 use Rattle.player_core.specs.Groups.{part_size, place_in}
 use Rattle.player_core.proofs.SampleLaws.{length-frames}
-use Rattle.player_core.specs.Pace.{HoldsFrames, StandsIn}
+use Rattle.player_core.specs.Pace.{HoldsFrames, IsWithinBytes}
 
 -- ---- the group of a byte, and one more, end in the sound
 module _ (c part wholes count u i : ℕ) (six : c + 1 ≤ 6) (some : 1 ≤ part) (few : part ≤ 4096) (all : u ≤ wholes * ((c + 1) * part)) (bits : 8 * (wholes * part) < count + 8 * part)
@@ -84,9 +84,9 @@ module _ (c part wholes count u i : ℕ) (six : c + 1 ≤ 6) (some : 1 ≤ part)
 one_less : (n : ℕ) → 1 ≤ n → (c : ℕ) × (n ≡ c + 1)
 one_less n some = (n - 1, omega (arith, some))
 
-module _ (s : Sound) (is : IsSound s) (u i : ℕ) (within : u ≤ s.size) (stands : StandsIn s (u - 65536) i) where
+module _ (s : Sound) (is : IsSound s) (u i : ℕ) (within : u ≤ s.size) (stands : IsWithinBytes s (u - 65536) i) where
   -- its bits are heard, and it is one of them
-  pub place_heard : i < heard s.count (bytes_heard s u)
+  pub place_heard : i < bits_held s.count (bytes_known s u)
   place_heard =
       let one = one_less s.channels is.some_channel in
       by s.interleaving one.0 one.1 (subst (λ n. n ≤ sound_size s.interleaving s.channels s.count) refl (omega (arith, within, is.size))) (stands one.0 (omega (arith, one.1)))
@@ -112,17 +112,17 @@ some_more j n factor some less = elim (cases_lt j (div_ceil n factor)) [
   | inr most ↦ (let all : div_ceil n factor * factor ≤ j * factor = mul-le-mul_right factor most in absurd (omega (arith, all, (div_ceil_times n factor some).0, less)))
 ]
 
-module _ (d : Decimator) (s : Sound) (is : IsSound s) (least : 8 ≤ d.factor) (u j : ℕ) (within : u ≤ s.size) (stands : StandsIn s (u - 65536) (j * d.factor + d.delay)) where
-  place : j * d.factor + d.delay < heard s.count (bytes_heard s u)
+module _ (d : Decimator) (s : Sound) (is : IsSound s) (least : 8 ≤ d.factor) (u j : ℕ) (within : u ≤ s.size) (stands : IsWithinBytes s (u - 65536) (j * d.factor + d.delay)) where
+  place : j * d.factor + d.delay < bits_held s.count (bytes_known s u)
   place = place_heard s is u (j * d.factor + d.delay) within stands
 
   pub frame_due : j < frames_due d s u
-  frame_due = some_more j (heard s.count (bytes_heard s u) - d.delay) d.factor (omega (arith, least)) (omega (arith, place))
+  frame_due = some_more j (bits_held s.count (bytes_known s u) - d.delay) d.factor (omega (arith, least)) (omega (arith, place))
 
 -- ---- their bytes
 pub length-due : (d : Decimator) (s : Sound) (bytes : List ℕ) → length (due_bytes d s bytes) ≡ frames_due d s (length bytes) * (s.channels * (d.width / 8))
 length-due d s bytes =
-    let channels = channels_heard s bytes in
+    let channels = channels_known s bytes in
     let n = frames_due d s (length bytes) in
     let number : length channels ≡ s.channels = length-map-range_with_len (channel_bits s bytes) 0 s.channels in
     let samples : length (frames_below d channels n) ≡ n * s.channels
@@ -132,7 +132,7 @@ length-due d s bytes =
     ∙ mul_assoc n s.channels (d.width / 8)
 
 -- a front of a WAVE file that holds so many frames
-pub frames_held : (d : Decimator) (s : Sound) (n m size : ℕ) → size ≡ header_size s.channels d.width + m * (s.channels * (d.width / 8)) → ((j : ℕ) → StandsIn s n (j * d.factor + d.delay) → j < m) → HoldsFrames d s n size
+pub frames_held : (d : Decimator) (s : Sound) (n m size : ℕ) → size ≡ header_size s.channels d.width + m * (s.channels * (d.width / 8)) → ((j : ℕ) → IsWithinBytes s n (j * d.factor + d.delay) → j < m) → HoldsFrames d s n size
 frames_held d s n m size is each = record {
   header = omega (arith, is);
   frames = λ j stands. (let most : (j + 1) * (s.channels * (d.width / 8)) ≤ m * (s.channels * (d.width / 8)) = mul-le-mul_right (s.channels * (d.width / 8)) (omega (arith, each j stands)) in omega (arith, most, is));

@@ -14,18 +14,18 @@ use Rattle.player_core.specs.Laws.{SoundIsPlayed, file_around, total_frames}
 use Rattle.player_core.proofs.SoundLaws.{file_has_size, frames_fill}
 use Rattle.wave_core.specs.Sizes.{FitsRiff, riff_size}
 use Rattle.sound_core.specs.Faults.{IsFromOutside}
-use Rattle.sound_core.specs.Files.{HoldsRecording, TellsSound}
-use Rattle.sound_core.specs.Outlines.{AreTold, HoldsIn, StandsIn, Surroundings, with_sound}
+use Rattle.sound_core.specs.Files.{HoldsRecording, StatesSound}
+use Rattle.sound_core.specs.Outlines.{AreStated, HoldsIn, IsPlacedIn, Surroundings, with_sound}
 use Rattle.sound_core.specs.Sinks.{BeginsSound}
 use Rattle.sound_core.specs.declared.fault.StreamFault.{StreamFault}
 use Rattle.sound_core.specs.declared.fault.StreamFault.TheVariants.{FileRefused, RateNotDivided, TooLarge, ReadFailed, WriteFailed, TurnLimit, Memory}
 use Rattle.sound_core.proofs.ReadLaws.{whole_is}
 use Rattle.sound_core.proofs.SameLaws.{holds_in}
-use Rattle.player_core.specs.Playing.{OnlyFromOutside, PlaysBy, Stands, WritesFront}
+use Rattle.player_core.specs.Playing.{OnlyFromOutside, PlaysBy, Applies, WritesPrefix}
 use Rattle.player_core.specs.Wave.{file_size}
 use Rattle.player_core.proofs.PieceLaws.{front_nil}
 
-module _ (law : SoundIsPlayed) (d : Decimator) (front : List ℕ) (s : Sound) (tells : TellsSound front s) where
+module _ (law : SoundIsPlayed) (d : Decimator) (front : List ℕ) (s : Sound) (tells : StatesSound front s) where
   abbrev head : List ℕ
   head = take s.start front
 
@@ -84,7 +84,7 @@ text_came law d s came file bytes begins few plays =
     }
 
 -- ---- whose whole sound came
-module _ (o : Surroundings) (told : AreTold o) (file sound : List ℕ) (stands : StandsIn o file sound) where
+module _ (o : Surroundings) (told : AreStated o) (file sound : List ℕ) (stands : IsPlacedIn o file sound) where
   abbrev behind : List ℕ
   behind = stands.gap ++ (o.back ++ stands.rest)
 
@@ -119,12 +119,12 @@ module _ (o : Surroundings) (told : AreTold o) (file sound : List ℕ) (stands :
   pub size_held : (d : Decimator) → length (file_around d o.sound (all_bytes d o.sound sound)) ≡ file_size d o.sound
   size_held d = file_has_size d o.sound (all_bytes d o.sound sound) (frames_fill d o.sound sound told.is_sound told.whole stands.sound_long)
 
-pub none_front : (left : Option (List ℕ)) (Plays : List ℕ → List ℕ → Type 0) (a : Option (List ℕ)) → WritesFront left Plays a a
+pub none_front : (left : Option (List ℕ)) (Plays : List ℕ → List ℕ → Type 0) (a : Option (List ℕ)) → WritesPrefix left Plays a a
 none_front None Plays a = tt
 none_front (Some file) Plays a = λ bytes plays. front_nil a bytes
 
 -- ---- refusals of a file that is played
-pub outside : SoundIsPlayed → (d : Decimator) (file bytes : List ℕ) (f : StreamFault) → Stands d file f → PlaysBy d file bytes → IsFromOutside f
+pub outside : SoundIsPlayed → (d : Decimator) (file bytes : List ℕ) (f : StreamFault) → Applies d file f → PlaysBy d file bytes → IsFromOutside f
 outside law d file bytes FileRefused stands plays = stands plays.recording plays.file_holds
 outside law d file bytes RateNotDivided stands plays =
     let has = stands.tells.has stands.rest plays.recording (subst (λ f. HoldsRecording f plays.recording) stands.file_is plays.file_holds) in
@@ -139,6 +139,6 @@ outside law d file bytes WriteFailed stands plays = tt
 outside law d file bytes TurnLimit stands plays = tt
 outside law d file bytes Memory stands plays = tt
 
-pub only_outside : SoundIsPlayed → (left : Option (List ℕ)) (d : Decimator) (f : StreamFault) → IfSome left (λ file. Stands d file f) → OnlyFromOutside left d f
+pub only_outside : SoundIsPlayed → (left : Option (List ℕ)) (d : Decimator) (f : StreamFault) → IfSome left (λ file. Applies d file f) → OnlyFromOutside left d f
 only_outside law None d f stands = tt
 only_outside law (Some file) d f stands = λ bytes plays. outside law d file bytes f stands plays

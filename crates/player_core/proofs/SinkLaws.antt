@@ -4,22 +4,22 @@ use Rattle.std.specs.Io.KnownBytes.{Appends, Consumes}
 use Rattle.std.proofs.KnownBytes.{Appends-trans}
 use Rattle.std.proofs.lemmas.List.{nil_from_length}
 use Rattle.chunk_core.specs.Inlets.{inlet_reader}
-use Rattle.chunk_core.specs.Outlets.{AppendsFront, outlet_failures, outlet_writer}
+use Rattle.chunk_core.specs.Outlets.{AppendsPrefix, outlet_failures, outlet_writer}
 use Rattle.chunk_core.specs.declared.inlet.Inlet.{Inlet}
 use Rattle.dsd_bits.specs.declared.sound.Sound.{Sound}
 use Rattle.fir_core.specs.Decimator.{Decimator}
 use Rattle.player_core.specs.Due.{all_bytes, due_bytes}
 use Rattle.player_core.specs.Laws.{SoundIsPlayed, file_around}
-use Rattle.player_core.specs.PlayerView.{IsFed, IsPlayer, filter_of, sound_of}
+use Rattle.player_core.specs.PlayerView.{IsPlayerFed, IsPlayer, filter_of, sound_of}
 use Rattle.player_core.specs.declared.player.Player.{Player}
 use Rattle.sound_core.specs.Faults.{IsWritingFault, failed_writes}
-use Rattle.sound_core.specs.Outlines.{AreTold, StandsIn, Surroundings}
+use Rattle.sound_core.specs.Outlines.{AreStated, IsPlacedIn, Surroundings}
 use Rattle.sound_core.specs.Sinks.{BeginsSound, TakesFile, TakesGiven}
 use Rattle.sound_core.specs.declared.fault.StreamFault.{StreamFault}
-use Rattle.player_core.specs.Pieces.{PutsDue, PutsFrontOf, PutsRest}
+use Rattle.player_core.specs.Pieces.{PutsDue, PutsPrefixOf, PutsRest}
 use Rattle.player_core.specs.Playing.{PlaysBy, PlaysFile, PlaysGiven}
 use Rattle.player_core.specs.Sinks.{FinishesPlaying, IsPlaying, RefusesPlaying}
-use Rattle.player_core.specs.Wave.{file_size, header_of, pad_of}
+use Rattle.player_core.specs.Wave.{file_size, sound_header, pad_of}
 use Rattle.player_core.specs.declared.sink.PlayingSink.{PlayingSink}
 use Rattle.player_core.proofs.FaultLaws.{writing_later, writing_opening, writing_own}
 use Rattle.player_core.proofs.PieceLaws.{front_more, front_on}
@@ -32,7 +32,7 @@ pub record IsPlayerOf (d : Decimator) (s : Sound) (bytes : List ℕ) (p : Player
   pub is_player : IsPlayer p
   pub filter_is : filter_of p ≡ d
   pub sound_is : sound_of p ≡ s
-  pub fed : IsFed p bytes
+  pub fed : IsPlayerFed p bytes
 
 module _ {W : Type 0} (held : W → Option (List ℕ)) (first old : PlayingSink W) (s : Sound) (bytes : List ℕ) (is : IsPlaying held first old s bytes) (p : Player) (was : old.player.now ≡ Some p) where
   pub player_of : IsPlayerOf first.taps.now s bytes p
@@ -73,12 +73,12 @@ module _ {W : Type 0} (held : W → Option (List ℕ)) (first old : PlayingSink 
           filter_is = filter ∙ by.filter_is;
           sound_is = sound ∙ by.sound_is;
           fed = on.0;
-          written = subst (Appends a c) (append_assoc (header_of d s) (due_bytes d s bytes) puts.0 ∙ ap (λ xs. header_of d s ++ xs) (sym due)) (Appends-trans a b c (header_of d s ++ due_bytes d s bytes) puts.0 is.written puts.1);
+          written = subst (Appends a c) (append_assoc (sound_header d s) (due_bytes d s bytes) puts.0 ∙ ap (λ xs. sound_header d s ++ xs) (sym due)) (Appends-trans a b c (sound_header d s ++ due_bytes d s bytes) puts.0 is.written puts.1);
           ready = is.ready;
           failures = failures ∙ is.failures;
         }
 
-    pub playing_refuses : (f : StreamFault) → IsWritingFault f → PutsFrontOf p piece b c → outlet_failures new.outlet.now ≡ outlet_failures old.outlet.now + failed_writes {X = Unit {0}} (Err f) → RefusesPlaying held first new s (bytes ++ piece) f
+    pub playing_refuses : (f : StreamFault) → IsWritingFault f → PutsPrefixOf p piece b c → outlet_failures new.outlet.now ≡ outlet_failures old.outlet.now + failed_writes {X = Unit {0}} (Err f) → RefusesPlaying held first new s (bytes ++ piece) f
     playing_refuses f fault out failures = record {
       same = reference ∙ is.same;
       fault = writing_opening d s f fault;
@@ -89,24 +89,24 @@ module _ {W : Type 0} (held : W → Option (List ℕ)) (first old : PlayingSink 
           let put = out bytes rest by.fed (ap length whole ∙ long ∙ ap (λ (t : Sound). t.size) (sym by.sound_is)) in
           let all : all_bytes d s ((bytes ++ piece) ++ rest) ≡ due_bytes d s bytes ++ put.0
           = ap (all_bytes d s) (sym whole) ∙ ap₂ (λ e t. all_bytes e t (bytes ++ (piece ++ rest))) (sym by.filter_is) (sym by.sound_is) ∙ put.1 ∙ ap₂ (λ e t. due_bytes e t bytes ++ put.0) by.filter_is by.sound_is in
-          subst (AppendsFront a c) (sym (ap (file_around d s) all ∙ parted (header_of d s) (due_bytes d s bytes) put.0 (pad_of d s)))
-          (front_on a b c (header_of d s ++ due_bytes d s bytes) (put.0 ++ pad_of d s) is.written (front_more b c put.0 (pad_of d s) put.2));
+          subst (AppendsPrefix a c) (sym (ap (file_around d s) all ∙ parted (sound_header d s) (due_bytes d s bytes) put.0 (pad_of d s)))
+          (front_on a b c (sound_header d s ++ due_bytes d s bytes) (put.0 ++ pad_of d s) is.written (front_more b c put.0 (pad_of d s) put.2));
       failures = failures ∙ ap (λ n. n + failed_writes {X = Unit {0}} (Err f)) is.failures;
     }
 
   -- nothing more came
-  pub rest_refuses : (new : PlayingSink W) → new.outlet.ghost_name ≡ old.outlet.ghost_name → new.taps ≡ old.taps → (f : StreamFault) → IsWritingFault f → PutsFrontOf p [] b (held (outlet_writer new.outlet.now)) → outlet_failures new.outlet.now ≡ outlet_failures old.outlet.now + failed_writes {X = Unit {0}} (Err f)
+  pub rest_refuses : (new : PlayingSink W) → new.outlet.ghost_name ≡ old.outlet.ghost_name → new.taps ≡ old.taps → (f : StreamFault) → IsWritingFault f → PutsPrefixOf p [] b (held (outlet_writer new.outlet.now)) → outlet_failures new.outlet.now ≡ outlet_failures old.outlet.now + failed_writes {X = Unit {0}} (Err f)
       → RefusesPlaying held first new s bytes f
   rest_refuses new reference taps f fault out failures = subst (λ xs. RefusesPlaying held first new s xs f) (append-nil bytes) (playing_refuses new [] reference taps f fault out failures)
 
   -- ---- the end
   module _ (m : Option (List ℕ)) (puts : PutsRest p b m) (long : length bytes ≡ s.size) where
     -- the header and all frames were written
-    all_put : Appends a m (header_of d s ++ all_bytes d s bytes)
+    all_put : Appends a m (sound_header d s ++ all_bytes d s bytes)
     all_put =
         let by = player_of in
         let all : all_bytes d s bytes ≡ due_bytes d s bytes ++ puts.0 = ap₂ (λ e t. all_bytes e t bytes) (sym by.filter_is) (sym by.sound_is) ∙ puts.2 bytes by.fed ∙ ap₂ (λ e t. due_bytes e t bytes ++ puts.0) by.filter_is by.sound_is in
-        subst (Appends a m) (append_assoc (header_of d s) (due_bytes d s bytes) puts.0 ∙ ap (λ xs. header_of d s ++ xs) (sym all)) (Appends-trans a b m (header_of d s ++ due_bytes d s bytes) puts.0 is.written puts.1)
+        subst (Appends a m) (append_assoc (sound_header d s) (due_bytes d s bytes) puts.0 ∙ ap (λ xs. sound_header d s ++ xs) (sym all)) (Appends-trans a b m (sound_header d s ++ due_bytes d s bytes) puts.0 is.written puts.1)
 
     module _ (new : PlayingSink W) (reference : new.outlet.ghost_name ≡ old.outlet.ghost_name) where
       pad : pad_of old.taps.now s ≡ pad_of d s
@@ -115,24 +115,24 @@ module _ {W : Type 0} (held : W → Option (List ℕ)) (first old : PlayingSink 
       pub finishes : Appends m (held (outlet_writer new.outlet.now)) (pad_of old.taps.now s) → outlet_failures new.outlet.now ≡ outlet_failures old.outlet.now → FinishesPlaying held first new s bytes
       finishes out failures = record {
         same = reference ∙ is.same;
-        written = subst (Appends a (held (outlet_writer new.outlet.now))) (append_assoc (header_of d s) (all_bytes d s bytes) (pad_of d s)) (Appends-trans a m (held (outlet_writer new.outlet.now)) (header_of d s ++ all_bytes d s bytes) (pad_of d s) all_put (subst (Appends m (held (outlet_writer new.outlet.now))) pad out));
+        written = subst (Appends a (held (outlet_writer new.outlet.now))) (append_assoc (sound_header d s) (all_bytes d s bytes) (pad_of d s)) (Appends-trans a m (held (outlet_writer new.outlet.now)) (sound_header d s ++ all_bytes d s bytes) (pad_of d s) all_put (subst (Appends m (held (outlet_writer new.outlet.now))) pad out));
         failures = failures ∙ is.failures;
       }
 
-      pub pad_refuses : (f : StreamFault) → IsWritingFault f → AppendsFront m (held (outlet_writer new.outlet.now)) (pad_of old.taps.now s) → outlet_failures new.outlet.now ≡ outlet_failures old.outlet.now + failed_writes {X = Unit {0}} (Err f) → RefusesPlaying held first new s bytes f
+      pub pad_refuses : (f : StreamFault) → IsWritingFault f → AppendsPrefix m (held (outlet_writer new.outlet.now)) (pad_of old.taps.now s) → outlet_failures new.outlet.now ≡ outlet_failures old.outlet.now + failed_writes {X = Unit {0}} (Err f) → RefusesPlaying held first new s bytes f
       pad_refuses f fault out failures = record {
         same = reference ∙ is.same;
         fault = writing_opening d s f fault;
         unwritten = λ early. absurd (writing_later f fault early);
         front = λ rest whole.
             let none : bytes ++ rest ≡ bytes = ap (λ xs. bytes ++ xs) (nil_from_length rest (omega (arith, whole, long, length-append bytes rest))) ∙ append-nil bytes in
-            subst (λ xs. AppendsFront a (held (outlet_writer new.outlet.now)) (file_around d s (all_bytes d s xs))) (sym none)
-            (subst (AppendsFront a (held (outlet_writer new.outlet.now))) (append_assoc (header_of d s) (all_bytes d s bytes) (pad_of d s)) (front_on a m (held (outlet_writer new.outlet.now)) (header_of d s ++ all_bytes d s bytes) (pad_of d s) all_put (subst (AppendsFront m (held (outlet_writer new.outlet.now))) pad out)));
+            subst (λ xs. AppendsPrefix a (held (outlet_writer new.outlet.now)) (file_around d s (all_bytes d s xs))) (sym none)
+            (subst (AppendsPrefix a (held (outlet_writer new.outlet.now))) (append_assoc (sound_header d s) (all_bytes d s bytes) (pad_of d s)) (front_on a m (held (outlet_writer new.outlet.now)) (sound_header d s ++ all_bytes d s bytes) (pad_of d s) all_put (subst (AppendsPrefix m (held (outlet_writer new.outlet.now))) pad out)));
         failures = failures ∙ ap (λ n. n + failed_writes {X = Unit {0}} (Err f)) is.failures;
       }
 
 -- ---- the whole file
-module _ {W : Type 0} (held : W → Option (List ℕ)) (old mid new : PlayingSink W) (o : Surroundings) (told : AreTold o) where
+module _ {W : Type 0} (held : W → Option (List ℕ)) (old mid new : PlayingSink W) (o : Surroundings) (told : AreStated o) where
   abbrev has : Sound → ℕ → List ℕ → Type 0
   has s done bytes = IsPlaying held old mid s bytes
 
@@ -140,7 +140,7 @@ module _ {W : Type 0} (held : W → Option (List ℕ)) (old mid new : PlayingSin
   all_played file n = (bytes : List ℕ) × PlaysBy old.taps.now file bytes × (n ≡ length bytes) × Appends (held (outlet_writer old.outlet.now)) (held (outlet_writer new.outlet.now)) bytes
 
   module _ (law : SoundIsPlayed) (ends : (first : PlayingSink W) (bytes : List ℕ) → IsPlaying held first mid o.sound bytes → length bytes ≡ o.sound.size → FinishesPlaying held first new o.sound bytes) (n : ℕ) (size : n ≡ file_size old.taps.now o.sound) where
-    held_played : (file sound : List ℕ) → StandsIn o file sound → IsPlaying held old mid o.sound sound → all_played file n
+    held_played : (file sound : List ℕ) → IsPlacedIn o file sound → IsPlaying held old mid o.sound sound → all_played file n
     held_played file sound stands is = (
       file_around old.taps.now o.sound (all_bytes old.taps.now o.sound sound),
       plays_held o told file sound stands law old.taps.now is.divided is.fits,

@@ -7,12 +7,12 @@ use Rattle.std.proofs.lemmas.List.{length-map, length-replicate}
 use Rattle.std.proofs.lemmas.List.FromFn.{length-map-range_with_len}
 use Rattle.dsd_bits.specs.Sounds.{sound_bytes, sound_channels}
 use Rattle.fir_core.specs.Decimator.{sample_at}
-use Rattle.fir_core.specs.Streams.{due_number, heard}
+use Rattle.fir_core.specs.Streams.{due_number, bits_held}
 use Rattle.wave_core.specs.Laws.{PartsJoin}
 use Rattle.wave_core.specs.Sizes.{pad_size, riff_size}
 use Rattle.wave_core.specs.Texts.{header, pad_bytes, sample_bytes}
 use Rattle.wave_core.proofs.SizeLaws.{length_of_header, length_of_samples}
-use Rattle.player_core.specs.Due.{all_bytes, bytes_heard, channel_whole, channels_heard}
+use Rattle.player_core.specs.Due.{all_bytes, bytes_known, channel_whole, channels_known}
 use Rattle.player_core.specs.Frames.{frame, frame_count, frames, frames_below}
 use Rattle.player_core.specs.Laws.{FileHasSize, FramesFill, NothingIsDue, SoundIsPlayed, file_around, total_frames}
 use Rattle.player_core.proofs.FinishLaws.{channels_are, count_is}
@@ -60,7 +60,7 @@ file_has_size d s bytes long =
 -- ---- nothing is due before the first byte
 pub nothing_is_due : NothingIsDue
 nothing_is_due d s =
-    let bits : heard s.count (bytes_heard s 0) - d.delay ≡ 0 = omega (arith, none_heard s) in
-    let number : due_number d s.count (bytes_heard s 0) ≡ 0
+    let bits : bits_held s.count (bytes_known s 0) - d.delay ≡ 0 = omega (arith, none_heard s) in
+    let number : due_number d s.count (bytes_known s 0) ≡ 0
     = ap (λ k. div_ceil k d.factor) bits ∙ ap₂ (λ a b. a + min 1 b) (zero-div d.factor) (zero-mod d.factor) in
-    ap (λ n. flat_map (sample_bytes d.width) (frames_below d (channels_heard s []) n)) number
+    ap (λ n. flat_map (sample_bytes d.width) (frames_below d (channels_known s []) n)) number

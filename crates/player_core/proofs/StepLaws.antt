@@ -15,7 +15,7 @@ use Rattle.fir_core.specs.declared.stream.Stream.{Stream}
 use Rattle.wave_core.specs.Contents.{IsSample}
 use Rattle.wave_core.specs.Frames.{frames_of}
 use Rattle.wave_core.specs.Texts.{sample_bytes}
-use Rattle.player_core.specs.Due.{bytes_heard, channel_bytes, channels_heard, due_bytes, frames_due}
+use Rattle.player_core.specs.Due.{bytes_known, channel_bytes, channels_known, due_bytes, frames_due}
 use Rattle.player_core.specs.Frames.{frame, tile_of}
 use Rattle.player_core.specs.Groups.{group_size, part_size}
 use Rattle.player_core.specs.PlayerView.{AllFit, AreChannels, AreReady, AreWhole, FeedAll}
@@ -24,7 +24,7 @@ use Rattle.player_core.proofs.FeedLaws.{due_grows, mul_some, some_part}
 use Rattle.player_core.proofs.FrameLaws.{all_samples, frames_are, length-tile}
 
 -- ---- how many bytes a channel gets
-pub heard_grows : (s : Sound) (a b : ℕ) → 1 ≤ s.channels → a ≤ b → bytes_heard s a ≤ bytes_heard s b
+pub heard_grows : (s : Sound) (a b : ℕ) → 1 ≤ s.channels → a ≤ b → bytes_known s a ≤ bytes_known s b
 heard_grows s a b some h =
     let gs = s.channels * part_size s.interleaving in
     let whole : a / gs ≤ b / gs = le-div (a / gs) b gs (mul_some s.channels (part_size s.interleaving) some (some_part s.interleaving)) (omega (arith, div-mul-le_self a gs)) in
@@ -89,13 +89,13 @@ module _ (s : Sound) (before bytes : List ℕ) (some : 1 ≤ s.channels) where
   long_next : length (front ++ groups) ≡ (k + more) * gs
   long_next = let spread : (k + more) * gs ≡ k * gs + more * gs = grind arith in omega (arith, length-append front groups, long, long_groups, spread)
 
-  heard_before : bytes_heard s (length before) ≡ bytes_heard s (length front)
+  heard_before : bytes_known s (length before) ≡ bytes_known s (length front)
   unfolding gs
-  heard_before = ap (λ xs. bytes_heard s (length xs)) (sym parted) ∙ heard_of_front s front rest k long part
+  heard_before = ap (λ xs. bytes_known s (length xs)) (sym parted) ∙ heard_of_front s front rest k long part
 
-  heard_next : bytes_heard s (length (before ++ bytes)) ≡ bytes_heard s (length (front ++ groups))
+  heard_next : bytes_known s (length (before ++ bytes)) ≡ bytes_known s (length (front ++ groups))
   unfolding gs
-  heard_next = ap (λ xs. bytes_heard s (length xs)) (sym parted_next) ∙ heard_of_front s (front ++ groups) left (k + more) long_next part_left
+  heard_next = ap (λ xs. bytes_known s (length xs)) (sym parted_next) ∙ heard_of_front s (front ++ groups) left (k + more) long_next part_left
 
   pub held_next : (held : List ℕ) → held ≡ drop (length before / group_size s.interleaving s.channels * group_size s.interleaving s.channels) before
       → drop (length (held ++ bytes) / group_size s.interleaving s.channels * group_size s.interleaving s.channels) (held ++ bytes)
@@ -121,18 +121,18 @@ module _ (s : Sound) (before bytes : List ℕ) (some : 1 ≤ s.channels) where
   due_step d least =
       let n = frames_due d s (length front) in
       let grown = heard_grows s (length front) (length (front ++ groups)) some (omega (arith, length-append front groups)) in
-      let grows : n ≤ frames_due d s (length (front ++ groups)) = due_grows d s.count (bytes_heard s (length front)) (bytes_heard s (length (front ++ groups))) (omega (arith, least)) grown in
+      let grows : n ≤ frames_due d s (length (front ++ groups)) = due_grows d s.count (bytes_known s (length front)) (bytes_known s (length (front ++ groups))) (omega (arith, least)) grown in
       let m = frames_due d s (length (front ++ groups)) - n in
-      let number = bytes_heard s (length (front ++ groups)) - bytes_heard s (length front) in (
-        flat_map (sample_bytes d.width) (flat_map (frame d (channels_heard s (front ++ groups))) (range_with_len n m)),
+      let number = bytes_known s (length (front ++ groups)) - bytes_known s (length front) in (
+        flat_map (sample_bytes d.width) (flat_map (frame d (channels_known s (front ++ groups))) (range_with_len n m)),
         ap (due_bytes d s) (sym parted_next) ∙ due_of_front s (front ++ groups) left (k + more) long_next part_left d
-            ∙ due_next d s (bytes_heard s (length front)) number front groups k long refl (omega (arith, grown)) least n m refl (omega (arith, grows))
-            ∙ ap (λ xs. xs ++ flat_map (sample_bytes d.width) (flat_map (frame d (channels_heard s (front ++ groups))) (range_with_len n m))) (sym (due_of_front s front rest k long part d) ∙ ap (due_bytes d s) parted),
+            ∙ due_next d s (bytes_known s (length front)) number front groups k long refl (omega (arith, grown)) least n m refl (omega (arith, grows))
+            ∙ ap (λ xs. xs ++ flat_map (sample_bytes d.width) (flat_map (frame d (channels_known s (front ++ groups))) (range_with_len n m))) (sym (due_of_front s front rest k long part d) ∙ ap (due_bytes d s) parted),
       )
 
   -- what the next bytes give
   module _ (d : Decimator) (old new : List Stream) (tile : List ℤ) (fed number : ℕ) (all_old : length old ≡ s.channels) (all_new : length new ≡ s.channels) (least : 8 ≤ d.factor)
-      (was : bytes_heard s (length before) ≡ fed) (is : bytes_heard s (length (before ++ bytes)) ≡ fed + number) (fits : AllFit s old before)
+      (was : bytes_known s (length before) ≡ fed) (is : bytes_known s (length (before ++ bytes)) ≡ fed + number) (fits : AllFit s old before)
       (held given : List ℕ) (held_is : held ≡ drop (length before / group_size s.interleaving s.channels * group_size s.interleaving s.channels) before)
       (given_is : given ≡ take (length (held ++ bytes) / group_size s.interleaving s.channels * group_size s.interleaving s.channels) (held ++ bytes))
       (feeds_given : FeedAll d s fed number old new given tile) where
@@ -140,10 +140,10 @@ module _ (s : Sound) (before bytes : List ℕ) (some : 1 ≤ s.channels) where
     unfolding gs k rest more groups
     feeds = subst (λ (xs : List ℕ). FeedAll d s fed number old new xs tile) (given_is ∙ ap (λ (xs : List ℕ). take (length (xs ++ bytes) / group_size s.interleaving s.channels * group_size s.interleaving s.channels) (xs ++ bytes)) held_is) feeds_given
 
-    was_front : bytes_heard s (length front) ≡ fed
+    was_front : bytes_known s (length front) ≡ fed
     was_front = sym heard_before ∙ was
 
-    is_next : bytes_heard s (length (front ++ groups)) ≡ fed + number
+    is_next : bytes_known s (length (front ++ groups)) ≡ fed + number
     is_next = sym heard_next ∙ is
 
     n : ℕ
@@ -152,7 +152,7 @@ module _ (s : Sound) (before bytes : List ℕ) (some : 1 ≤ s.channels) where
     m : ℕ
     m = frames_due d s (length (front ++ groups)) - n
 
-    fed_all : AllFit s new (front ++ groups) × (tile ≡ tile_of d (channels_heard s (front ++ groups)) n m)
+    fed_all : AllFit s new (front ++ groups) × (tile ≡ tile_of d (channels_known s (front ++ groups)) n m)
     unfolding gs n m
     fed_all = feeds front k long was_front is_next (fit_front old (omega (arith, all_old)) fits)
 
@@ -160,25 +160,25 @@ module _ (s : Sound) (before bytes : List ℕ) (some : 1 ≤ s.channels) where
     all_fit = fit_next new (omega (arith, all_new)) fed_all.0
 
     pub in_range : (width : ℕ) → width ≡ d.width → (d.width ≡ 16) ⊎ (d.width ≡ 24) → All (IsSample width) tile
-    in_range width same known = subst (All (IsSample width)) (sym fed_all.1) (all_samples d (channels_heard s (front ++ groups)) n m width same known)
+    in_range width same known = subst (All (IsSample width)) (sym fed_all.1) (all_samples d (channels_known s (front ++ groups)) n m width same known)
 
     columns : length tile / s.channels ≡ m
     columns =
-        let number_of : length (channels_heard s (front ++ groups)) ≡ s.channels = length-map-range_with_len _ 0 s.channels in
-        let size : length tile ≡ s.channels * m = ap length fed_all.1 ∙ length-tile d (channels_heard s (front ++ groups)) n m ∙ ap (λ c. c * m) number_of in
+        let number_of : length (channels_known s (front ++ groups)) ≡ s.channels = length-map-range_with_len _ 0 s.channels in
+        let size : length tile ≡ s.channels * m = ap length fed_all.1 ∙ length-tile d (channels_known s (front ++ groups)) n m ∙ ap (λ c. c * m) number_of in
         ap (λ l. l / s.channels) size ∙ mul-div_cancel_left m some
 
     pub gives_due : due_bytes d s (before ++ bytes) ≡ due_bytes d s before ++ flat_map (sample_bytes d.width) (frames_of tile (length tile / s.channels))
     unfolding gs n m
     gives_due =
-        let grows : frames_due d s (length front) ≤ frames_due d s (length (front ++ groups)) = due_grows d s.count (bytes_heard s (length front)) (bytes_heard s (length (front ++ groups))) (omega (arith, least)) (omega (arith, was_front, is_next)) in
+        let grows : frames_due d s (length front) ≤ frames_due d s (length (front ++ groups)) = due_grows d s.count (bytes_known s (length front)) (bytes_known s (length (front ++ groups))) (omega (arith, least)) (omega (arith, was_front, is_next)) in
         ap (due_bytes d s) (sym parted_next) ∙ due_of_front s (front ++ groups) left (k + more) long_next part_left d
         ∙ due_next d s fed number front groups k long was_front is_next least (frames_due d s (length front)) (frames_due d s (length (front ++ groups)) - frames_due d s (length front)) refl (omega arith)
         ∙ ap₂ (λ xs ys. xs ++ flat_map (sample_bytes d.width) ys) (sym (due_of_front s front rest k long part d) ∙ ap (due_bytes d s) parted)
-        (sym (frames_are d (channels_heard s (front ++ groups)) n m) ∙ ap₂ (λ xs (l : ℕ). frames_of xs l) (sym fed_all.1) (sym columns))
+        (sym (frames_are d (channels_known s (front ++ groups)) n m) ∙ ap₂ (λ xs (l : ℕ). frames_of xs l) (sym fed_all.1) (sym columns))
 
 pub heard_more : (s : Sound) (fed size held whole : ℕ) → 1 ≤ s.channels → held ≡ fed % group_size s.interleaving s.channels → whole ≡ (held + size) / group_size s.interleaving s.channels * group_size s.interleaving s.channels
-    → bytes_heard s (fed + size) - bytes_heard s fed ≤ whole / group_size s.interleaving s.channels * part_size s.interleaving
+    → bytes_known s (fed + size) - bytes_known s fed ≤ whole / group_size s.interleaving s.channels * part_size s.interleaving
 heard_more s fed size held whole some rest is =
     let gs = s.channels * part_size s.interleaving in
     let ps = part_size s.interleaving in
@@ -195,7 +195,7 @@ pub held_size : (before held : List ℕ) (gs : ℕ) → held ≡ drop (length be
 held_size before held gs is = omega (arith, ap length is ∙ length-drop (length before / gs * gs) before, div-add-mod' (length before) gs)
 
 -- streams that can take what comes next
-pub ready_more : (d : Decimator) (s : Sound) (streams : List Stream) (a b number : ℕ) → 1 ≤ s.channels → a ≤ b → number ≡ bytes_heard s b - bytes_heard s a → AreChannels d s.count (bytes_heard s a) streams → AreReady number streams
+pub ready_more : (d : Decimator) (s : Sound) (streams : List Stream) (a b number : ℕ) → 1 ≤ s.channels → a ≤ b → number ≡ bytes_known s b - bytes_known s a → AreChannels d s.count (bytes_known s a) streams → AreReady number streams
 ready_more d s streams a b number some h is are = λ i t low.
     let chan = are i t low in
     let grows = heard_grows s a b some h in
@@ -216,7 +216,7 @@ filter_known d count fed [] some are = absurd (omega arith)
 filter_known d count fed (t ∷ ts) some are = let chan = are 0 t some in subst IsWithinLimits chan.filter chan.ready.limits
 
 -- streams of which all is heard
-pub all_whole : (d : Decimator) (s : Sound) (streams : List Stream) (size : ℕ) → bytes_heard s size ≡ div_ceil s.count 8 → AreChannels d s.count (bytes_heard s size) streams → AreWhole streams
+pub all_whole : (d : Decimator) (s : Sound) (streams : List Stream) (size : ℕ) → bytes_known s size ≡ div_ceil s.count 8 → AreChannels d s.count (bytes_known s size) streams → AreWhole streams
 all_whole d s streams size all are = λ i t low.
     let chan = are i t low in
     (chan.ready, chan.bytes ∙ all ∙ ap (λ n. div_ceil n 8) (sym chan.bits))

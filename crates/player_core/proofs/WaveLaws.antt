@@ -8,16 +8,16 @@ use Rattle.wave_core.specs.Contents.{spec_of}
 use Rattle.wave_core.specs.Sizes.{FitsRiff}
 use Rattle.wave_core.specs.Texts.{header, pad_bytes}
 use Rattle.wave_core.specs.declared.spec.WaveSpec.{WaveSpec}
-use Rattle.player_core.specs.Wave.{OpensWave, header_of, pad_of}
+use Rattle.player_core.specs.Wave.{OpensWave, sound_header, pad_of}
 
 module _ (d : Decimator) (s : Sound) (spec : WaveSpec) (n : ℕ) (old made : List ℕ) (spec_is : spec ≡ spec_of s.channels (s.rate / d.factor) d.width) (number : n ≡ total_frames d s) (none : old ≡ []) where
-  pub header_is : made ≡ old ++ header spec.channels spec.rate spec.width n → made ≡ header_of d s
+  pub header_is : made ≡ old ++ header spec.channels spec.rate spec.width n → made ≡ sound_header d s
   header_is is = is ∙ ap (λ xs. xs ++ header spec.channels spec.rate spec.width n) none ∙ ap₂ (λ (t : WaveSpec) m. header t.channels t.rate t.width m) spec_is number
 
   pub pad_is : made ≡ old ++ pad_bytes spec.channels spec.width n → made ≡ pad_of d s
   pad_is is = is ∙ ap (λ xs. xs ++ pad_bytes spec.channels spec.width n) none ∙ ap₂ (λ (t : WaveSpec) m. pad_bytes t.channels t.width m) spec_is number
 
-  pub opens_wave : (bytes : List ℕ) (a b : Option (List ℕ)) → s.rate % d.factor ≡ 0 → FitsRiff spec.channels spec.width n → bytes ≡ header_of d s → Appends a b bytes → OpensWave d s a b
+  pub opens_wave : (bytes : List ℕ) (a b : Option (List ℕ)) → s.rate % d.factor ≡ 0 → FitsRiff spec.channels spec.width n → bytes ≡ sound_header d s → Appends a b bytes → OpensWave d s a b
   opens_wave bytes a b divided fits is out = record {
     divided = divided;
     fits = subst (FitsRiff s.channels d.width) number (subst (λ (t : WaveSpec). FitsRiff t.channels t.width n) spec_is fits);

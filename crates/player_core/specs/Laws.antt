@@ -45,6 +45,6 @@ abbrev pub NothingIsDue : Type 0
 NothingIsDue = (d : Decimator) (s : Sound) → due_bytes d s [] ≡ []
 
 -- the bytes that are due after a prefix of the sound bytes are a prefix of those of all frames
-abbrev pub FrontComesFirst : Type 0
-FrontComesFirst = (d : Decimator) (s : Sound) (before bytes : List ℕ) → IsSound s → (s.interleaving ≡ Bytes → s.count % 8 ≡ 0) → 8 ≤ d.factor
+abbrev pub PrefixComesFirst : Type 0
+PrefixComesFirst = (d : Decimator) (s : Sound) (before bytes : List ℕ) → IsSound s → (s.interleaving ≡ Bytes → s.count % 8 ≡ 0) → 8 ≤ d.factor
     → length (before ++ bytes) ≡ s.size → (more : List ℕ) × (all_bytes d s (before ++ bytes) ≡ due_bytes d s before ++ more)

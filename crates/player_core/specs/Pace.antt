@@ -5,23 +5,23 @@ use Rattle.dsd_bits.specs.declared.sound.Sound.{Sound}
 use Rattle.fir_core.specs.Decimator.{Decimator}
 use Rattle.player_core.specs.Groups.{place_in}
 use Rattle.wave_core.specs.Sizes.{block_align, header_size}
-use Rattle.sound_core.specs.Files.{TellsSound}
+use Rattle.sound_core.specs.Files.{StatesSound}
 use Rattle.sound_core.specs.Sinks.{sound_given}
-use Rattle.player_core.specs.Playing.{PlaysBy, Stands, WritesFront}
+use Rattle.player_core.specs.Playing.{PlaysBy, Applies, WritesPrefix}
 use Rattle.chunk_core.specs.Outlets.{outlet_failures, outlet_writer}
 use Rattle.chunk_core.specs.declared.outlet.Outlet.{Outlet}
 use Rattle.sound_core.specs.Faults.{IsBeforeWriting, StopsReading, failed_writes}
 use Rattle.sound_core.specs.declared.fault.StreamFault.{StreamFault}
 
 -- the first n bytes of the sound hold bit i of every channel
-abbrev pub StandsIn : Sound → ℕ → ℕ → Type 0
-StandsIn s n i = (c : ℕ) → c < s.channels → place_in s.interleaving s.channels c (i / 8) < n
+abbrev pub IsWithinBytes : Sound → ℕ → ℕ → Type 0
+IsWithinBytes s n i = (c : ℕ) → c < s.channels → place_in s.interleaving s.channels c (i / 8) < n
 
 -- the first `size` bytes of a WAVE file hold its header, and each frame j whose place is in the first n bytes of the
 -- sound
 pub record HoldsFrames (d : Decimator) (s : Sound) (n size : ℕ) : Type 0 where
   pub header : header_size s.channels d.width ≤ size
-  pub frames : (j : ℕ) → StandsIn s n (j * d.factor + d.delay) → header_size s.channels d.width + (j + 1) * block_align s.channels d.width ≤ size
+  pub frames : (j : ℕ) → IsWithinBytes s n (j * d.factor + d.delay) → header_size s.channels d.width + (j + 1) * block_align s.channels d.width ≤ size
 
 -- a prefix of these bytes was written that holds them
 abbrev pub WritesFrames : Decimator → Sound → ℕ → List ℕ → Option (List ℕ) → Option (List ℕ) → Type 0
@@ -30,7 +30,7 @@ WritesFrames d s n bytes held_old held_new = (front : List ℕ) × (back : List 
 -- if more than 131,072 bytes of the sound of a file that can be played were read, what was written lags by at most that
 -- many: it holds the header, and each frame whose place is in the bytes before
 abbrev pub KeepsUp : Option (List ℕ) → Decimator → List ℕ → ℕ → Option (List ℕ) → Option (List ℕ) → Type 0
-KeepsUp left_old d front given held_old held_new = IfSome left_old (λ left. (bytes : List ℕ) (s : Sound) → PlaysBy d (front ++ left) bytes → TellsSound (front ++ left) s → 131072 < sound_given s given
+KeepsUp left_old d front given held_old held_new = IfSome left_old (λ left. (bytes : List ℕ) (s : Sound) → PlaysBy d (front ++ left) bytes → StatesSound (front ++ left) s → 131072 < sound_given s given
     → WritesFrames d s (sound_given s given - 131072) bytes held_old held_new)
 
 -- ---- stages
@@ -38,8 +38,8 @@ KeepsUp left_old d front given held_old held_new = IfSome left_old (λ left. (by
 -- why a file is not played to its end: a fault applies, and a prefix of what it plays was written, which keeps up with
 -- the reading
 pub record PlayFails {W : Type 0} (held : W → Option (List ℕ)) (left : Option (List ℕ)) (d : Decimator) (given : ℕ) (old new : Outlet W) (f : StreamFault) : Type 0 where
-  pub fault : IfSome left (λ file. Stands d file f)
+  pub fault : IfSome left (λ file. Applies d file f)
   pub unwritten : IsBeforeWriting f → outlet_writer new ≡ outlet_writer old
-  pub front : WritesFront left (PlaysBy d) (held (outlet_writer old)) (held (outlet_writer new))
+  pub front : WritesPrefix left (PlaysBy d) (held (outlet_writer old)) (held (outlet_writer new))
   pub keeps_up : StopsReading f → KeepsUp left d [] given (held (outlet_writer old)) (held (outlet_writer new))
   pub failures : outlet_failures new ≡ outlet_failures old + failed_writes {X = Unit {0}} (Err f)

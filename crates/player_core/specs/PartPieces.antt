@@ -1,7 +1,7 @@
 -- A part of a sound that is played piece by piece.
 use Rattle.std.specs.Prelude.{◌≡◌, ℕ, List, ◌++◌, length, Option}
 use Rattle.std.specs.Io.KnownBytes.{Appends}
-use Rattle.chunk_core.specs.Outlets.{AppendsFront}
+use Rattle.chunk_core.specs.Outlets.{AppendsPrefix}
 use Rattle.player_core.specs.PartView.{IsPartFed, part_all, part_due, part_rest}
 use Rattle.player_core.specs.declared.parts.PartPlayer.{PartPlayer}
 
@@ -18,4 +18,4 @@ PutsPartRest old held_old held_new = (more : List ℕ) × Appends held_old held_
 -- whatever the sound is whose rest the player was fed a front of, with these bytes behind it, a front was written of those frames of the part that were not due
 abbrev pub PutsPartFront : PartPlayer → List ℕ → Option (List ℕ) → Option (List ℕ) → Type 0
 PutsPartFront p bytes held_old held_new = (before rest : List ℕ) → IsPartFed p before → length (before ++ (bytes ++ rest)) ≡ (part_rest p).size
-    → (more : List ℕ) × (part_all p (before ++ (bytes ++ rest)) ≡ part_due p before ++ more) × AppendsFront held_old held_new more
+    → (more : List ℕ) × (part_all p (before ++ (bytes ++ rest)) ≡ part_due p before ++ more) × AppendsPrefix held_old held_new more

@@ -11,13 +11,13 @@ use Rattle.wave_core.specs.Contents.{Pcm}
 use Rattle.wave_core.specs.Sizes.{FitsRiff, riff_size}
 use Rattle.wave_core.specs.Texts.{wave_text}
 use Rattle.sound_core.specs.Faults.{IsBeforeWriting, IsFromOutside, failed_writes}
-use Rattle.sound_core.specs.Files.{HoldsRecording, IsRefused, TellsSound}
+use Rattle.sound_core.specs.Files.{HoldsRecording, IsRefused, StatesSound}
 use Rattle.sound_core.specs.declared.fault.StreamFault.{StreamFault}
 use Rattle.sound_core.specs.declared.fault.StreamFault.TheVariants.{FileRefused, RateNotDivided, TooLarge, ReadFailed, WriteFailed, TurnLimit, Memory}
 use Rattle.player_core.specs.Frames.{frame_count, frames}
 use Rattle.player_core.specs.Laws.{total_frames}
 use Rattle.player_core.specs.Parts.{part_file}
-use Rattle.player_core.specs.Playing.{IsNotDivided, WritesFront}
+use Rattle.player_core.specs.Playing.{IsNotDivided, WritesPrefix}
 
 -- the samples of the frames of a recording from one on, up to another that is not among them: a slice of those of all its frames
 abbrev pub part_pcm : Content → Decimator → ℕ → ℕ → Pcm
@@ -47,7 +47,7 @@ pub record IsOutsideOf (d : Decimator) (start stop : ℕ) (file : List ℕ) : Ty
   pub rest : List ℕ
   pub sound : Sound
   pub file_is : file ≡ front ++ rest
-  pub tells : TellsSound front sound
+  pub tells : StatesSound front sound
   pub outside : IsOutside d sound start stop
 
 -- the front of the file tells of a sound whose rate the factor divides, and the sizes of the part's WAVE file do not fit
@@ -56,7 +56,7 @@ pub record IsPartTooLarge (d : Decimator) (start stop : ℕ) (file : List ℕ) :
   pub rest : List ℕ
   pub sound : Sound
   pub file_is : file ≡ front ++ rest
-  pub tells : TellsSound front sound
+  pub tells : StatesSound front sound
   pub large : 2 ^ 32 ≤ riff_size sound.channels d.width (stop - start)
 
 -- this fault of playing a part stands
@@ -87,5 +87,5 @@ PartIsPlayed = (file : List ℕ) (r : Content) (s : Sound) (d : Decimator) (star
 pub record PartFails {W : Type 0} (held : W → Option (List ℕ)) (left : Option (List ℕ)) (d : Decimator) (start stop : ℕ) (old new : Outlet W) (f : StreamFault) : Type 0 where
   pub fault : IfSome left (λ file. StandsForPart d start stop file f)
   pub unwritten : IsBeforeWriting f → outlet_writer new ≡ outlet_writer old
-  pub front : WritesFront left (PlaysPart d start stop) (held (outlet_writer old)) (held (outlet_writer new))
+  pub front : WritesPrefix left (PlaysPart d start stop) (held (outlet_writer old)) (held (outlet_writer new))
   pub failures : outlet_failures new ≡ outlet_failures old + failed_writes {X = Unit {0}} (Err f)

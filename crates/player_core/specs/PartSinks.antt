@@ -1,7 +1,7 @@
 -- What plays a part of a sound to an outlet while its file is read.
 use Rattle.std.specs.Prelude.{◌≡◌, ◌≢◌, ℕ, ◌+◌, ◌-◌, ◌%◌, ◌<◌, ◌≤◌, ◌^◌, List, ◌++◌, drop, length, Option, Some, Err, ⊤}
 use Rattle.std.specs.Io.KnownBytes.{Appends}
-use Rattle.chunk_core.specs.Outlets.{AppendsFront, outlet_failures, outlet_writer}
+use Rattle.chunk_core.specs.Outlets.{AppendsPrefix, outlet_failures, outlet_writer}
 use Rattle.dsd_bits.specs.declared.sound.Sound.{Sound}
 use Rattle.dsd_bits.specs.Sounds.{IsSound}
 use Rattle.fir_core.specs.Decimator.{Decimator}
@@ -13,7 +13,7 @@ use Rattle.player_core.specs.Laws.{total_frames}
 use Rattle.player_core.specs.PartPlaying.{IsOutside}
 use Rattle.player_core.specs.Parts.{frames_sound, part_file}
 use Rattle.player_core.specs.PartView.{IsPartFed, IsPartOf, IsPartPlayer, part_due, part_start}
-use Rattle.player_core.specs.Wave.{header_of}
+use Rattle.player_core.specs.Wave.{sound_header}
 use Rattle.player_core.specs.declared.part_sink.PartSink.{PartSink}
 use Rattle.player_core.specs.declared.parts.PartPlayer.{PartPlayer}
 
@@ -38,7 +38,7 @@ pub record IsPlayingPart {W : Type 0} (held : W → Option (List ℕ)) (first no
   pub plays : IsPartOf first.taps.now s first.start first.stop player
   pub fed : IsPartFed player (drop (part_start player) bytes)
   pub came : now.came ≡ length bytes
-  pub written : Appends (held (outlet_writer first.outlet.now)) (held (outlet_writer now.outlet.now)) (header_of first.taps.now (frames_of first s) ++ part_due player (drop (part_start player) bytes))
+  pub written : Appends (held (outlet_writer first.outlet.now)) (held (outlet_writer now.outlet.now)) (sound_header first.taps.now (frames_of first s) ++ part_due player (drop (part_start player) bytes))
   pub ready : outlet_failures first.outlet.now < 2 ^ 64 - 1
   pub failures : outlet_failures now.outlet.now ≡ outlet_failures first.outlet.now
 
@@ -56,7 +56,7 @@ pub record RefusesPart {W : Type 0} (held : W → Option (List ℕ)) (first now 
   pub same : now.outlet.ghost_name ≡ first.outlet.ghost_name
   pub fault : IsPartOpeningFault first.taps.now s first.start first.stop f
   pub unwritten : IsBeforeWriting f → outlet_writer now.outlet.now ≡ outlet_writer first.outlet.now
-  pub front : (rest : List ℕ) → length (came ++ rest) ≡ s.size → AppendsFront (held (outlet_writer first.outlet.now)) (held (outlet_writer now.outlet.now)) (part_file first.taps.now s first.start first.stop (came ++ rest))
+  pub front : (rest : List ℕ) → length (came ++ rest) ≡ s.size → AppendsPrefix (held (outlet_writer first.outlet.now)) (held (outlet_writer now.outlet.now)) (part_file first.taps.now s first.start first.stop (came ++ rest))
   pub failures : outlet_failures now.outlet.now ≡ outlet_failures first.outlet.now + failed_writes {X = Unit {0}} (Err f)
 
 -- the WAVE file of the part of these sound bytes was written

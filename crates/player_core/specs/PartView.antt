@@ -5,7 +5,7 @@ use Rattle.fir_core.specs.Decimator.{Decimator}
 use Rattle.player_core.specs.Due.{all_bytes, due_bytes}
 use Rattle.player_core.specs.Groups.{group_size}
 use Rattle.player_core.specs.Parts.{groups_before, part_bytes, rest_of}
-use Rattle.player_core.specs.PlayerView.{IsFed, IsPlayer, fed_of, filter_of, sound_of}
+use Rattle.player_core.specs.PlayerView.{IsPlayerFed, IsPlayer, fed_of, filter_of, sound_of}
 use Rattle.player_core.specs.declared.parts.PartPlayer.{PartPlayer}
 
 -- the filter by which a part is played
@@ -34,7 +34,7 @@ part_all p bytes = slice_range (all_bytes (filter_of p.player) (sound_of p.playe
 
 -- it was fed these bytes of the rest
 pub record IsPartFed (p : PartPlayer) (bytes : List ℕ) : Type 0 where
-  pub fed : IsFed p.player bytes
+  pub fed : IsPlayerFed p.player bytes
   pub given : p.given ≡ length (due_bytes (filter_of p.player) (sound_of p.player) bytes)
 
 -- what each such player keeps to

@@ -9,7 +9,7 @@ use Rattle.fir_core.specs.Decimator.{Decimator}
 use Rattle.fir_core.specs.Streams.{Fits}
 use Rattle.fir_core.specs.StreamView.{IsStream, state_of}
 use Rattle.fir_core.specs.declared.stream.Stream.{Stream}
-use Rattle.player_core.specs.Due.{all_bytes, bytes_heard, channel_bytes, channel_whole, channels_heard, due_bytes, frames_due}
+use Rattle.player_core.specs.Due.{all_bytes, bytes_known, channel_bytes, channel_whole, channels_known, due_bytes, frames_due}
 use Rattle.player_core.specs.Frames.{tile_of}
 use Rattle.player_core.specs.Groups.{group_size}
 use Rattle.player_core.specs.declared.player.Player.{Player}
@@ -54,7 +54,7 @@ abbrev pub AllFit : Sound → List Stream → List ℕ → Type 0
 AllFit s streams bytes = (c : ℕ) (t : Stream) → c < length streams → Fits (state_of (slice_index_or streams c t)) (channel_bytes s bytes c)
 
 -- the player was fed these sound bytes
-pub record IsFed (p : Player) (bytes : List ℕ) : Type 0 where
+pub record IsPlayerFed (p : Player) (bytes : List ℕ) : Type 0 where
   pub fed : p.fed ≡ length bytes
   pub held : p.held.items ≡ drop (length bytes / group_size p.sound.interleaving p.sound.channels * group_size p.sound.interleaving p.sound.channels) bytes
   pub each : AllFit p.sound p.streams.items bytes
@@ -65,28 +65,28 @@ pub record IsPlayer (p : Player) : Type 0 where
   pub whole : p.sound.interleaving ≡ Bytes → p.sound.count % 8 ≡ 0
   pub within : p.fed ≤ p.sound.size
   pub number : length p.streams.items ≡ p.sound.channels
-  pub each : AreChannels p.taps.now p.sound.count (bytes_heard p.sound p.fed) p.streams.items
-  pub history : (bytes : List ℕ) × IsFed p bytes
+  pub each : AreChannels p.taps.now p.sound.count (bytes_known p.sound p.fed) p.streams.items
+  pub history : (bytes : List ℕ) × IsPlayerFed p bytes
 
 -- streams that fit whole groups of sound bytes, which are `fed` bytes of each channel, fit `number` more after them,
 -- and returned the samples that are due then and not before
 abbrev pub FeedAll : Decimator → Sound → ℕ → ℕ → List Stream → List Stream → List ℕ → List ℤ → Type 0
 FeedAll d s fed number old new groups tile = (front : List ℕ) (k : ℕ) → length front ≡ k * group_size s.interleaving s.channels
-    → bytes_heard s (length front) ≡ fed → bytes_heard s (length (front ++ groups)) ≡ fed + number
-    → AllFit s old front → AllFit s new (front ++ groups) × (tile ≡ tile_of d (channels_heard s (front ++ groups)) (frames_due d s (length front)) (frames_due d s (length (front ++ groups)) - frames_due d s (length front)))
+    → bytes_known s (length front) ≡ fed → bytes_known s (length (front ++ groups)) ≡ fed + number
+    → AllFit s old front → AllFit s new (front ++ groups) × (tile ≡ tile_of d (channels_known s (front ++ groups)) (frames_due d s (length front)) (frames_due d s (length (front ++ groups)) - frames_due d s (length front)))
 
 -- streams that fit all sound bytes returned the rest of their samples
 abbrev pub FinishAll : Decimator → Sound → List Stream → List ℤ → Type 0
-FinishAll d s streams tile = (bytes : List ℕ) → AreChannels d s.count (bytes_heard s (length bytes)) streams → AllFit s streams bytes
+FinishAll d s streams tile = (bytes : List ℕ) → AreChannels d s.count (bytes_known s (length bytes)) streams → AllFit s streams bytes
     → tile ≡ tile_of d (map (channel_whole s bytes) (range_with_len 0 s.channels)) (frames_due d s (length bytes)) (div_ceil s.count d.factor - frames_due d s (length bytes))
 
 -- after whatever sound bytes the player was fed, it was fed these, and returned the bytes that were due then and not
 -- before
 abbrev pub FeedsPlayer : Player → Player → List ℕ → List ℕ → List ℕ → Type 0
 FeedsPlayer old new bytes given_old given_new = (more : List ℕ) × (given_new ≡ given_old ++ more)
-    × ((before : List ℕ) → IsFed old before → IsFed new (before ++ bytes) × (due_bytes old.taps.now old.sound (before ++ bytes) ≡ due_bytes old.taps.now old.sound before ++ more))
+    × ((before : List ℕ) → IsPlayerFed old before → IsPlayerFed new (before ++ bytes) × (due_bytes old.taps.now old.sound (before ++ bytes) ≡ due_bytes old.taps.now old.sound before ++ more))
 
 -- after all sound bytes, the player returned the rest of the frames' bytes
 abbrev pub FinishesPlayer : Player → List ℕ → List ℕ → Type 0
 FinishesPlayer old given_old given_new = (more : List ℕ) × (given_new ≡ given_old ++ more)
-    × ((before : List ℕ) → IsFed old before → all_bytes old.taps.now old.sound before ≡ due_bytes old.taps.now old.sound before ++ more)
+    × ((before : List ℕ) → IsPlayerFed old before → all_bytes old.taps.now old.sound before ≡ due_bytes old.taps.now old.sound before ++ more)

@@ -1,7 +1,7 @@
 -- What is played of a reader's file, and which faults apply.
 use Rattle.std.specs.Prelude.{◌≡◌, ◌≢◌, ℕ, ◌%◌, ◌≤◌, ◌^◌, List, ◌++◌, length, Option, Some, IfSome, ⊤}
 use Rattle.std.specs.Io.KnownBytes.{Appends}
-use Rattle.chunk_core.specs.Outlets.{AppendsFront}
+use Rattle.chunk_core.specs.Outlets.{AppendsPrefix}
 use Rattle.chunk_core.specs.declared.inlet.Inlet.{Inlet}
 use Rattle.dsd_bits.specs.declared.sound.Sound.{Sound}
 use Rattle.dsd_bits.specs.Contents.{Content}
@@ -11,7 +11,7 @@ use Rattle.player_core.specs.Samples.{pcm}
 use Rattle.wave_core.specs.Sizes.{riff_size}
 use Rattle.wave_core.specs.Texts.{wave_text}
 use Rattle.sound_core.specs.Faults.{IsFromOutside}
-use Rattle.sound_core.specs.Files.{HoldsRecording, IsRefused, TellsSound}
+use Rattle.sound_core.specs.Files.{HoldsRecording, IsRefused, StatesSound}
 use Rattle.sound_core.specs.Reads.{Reads}
 use Rattle.sound_core.specs.declared.fault.StreamFault.{StreamFault}
 use Rattle.sound_core.specs.declared.fault.StreamFault.TheVariants.{FileRefused, RateNotDivided, TooLarge, ReadFailed, WriteFailed, TurnLimit, Memory}
@@ -29,7 +29,7 @@ pub record IsNotDivided (d : Decimator) (file : List ℕ) : Type 0 where
   pub rest : List ℕ
   pub sound : Sound
   pub file_is : file ≡ front ++ rest
-  pub tells : TellsSound front sound
+  pub tells : StatesSound front sound
   pub not_divided : sound.rate % d.factor ≢ 0
 
 -- the front of the file describes a sound whose rate the factor divides, and the sizes of its WAVE file do not fit
@@ -38,19 +38,19 @@ pub record IsTooLarge (d : Decimator) (file : List ℕ) : Type 0 where
   pub rest : List ℕ
   pub sound : Sound
   pub file_is : file ≡ front ++ rest
-  pub tells : TellsSound front sound
+  pub tells : StatesSound front sound
   pub divided : sound.rate % d.factor ≡ 0
   pub large : 2 ^ 32 ≤ riff_size sound.channels d.width (total_frames d sound)
 
 -- this fault applies; a device, the number of reads and memory don't depend on the file
-abbrev pub Stands : Decimator → List ℕ → StreamFault → Type 0
-Stands d file FileRefused = IsRefused file
-Stands d file RateNotDivided = IsNotDivided d file
-Stands d file TooLarge = IsTooLarge d file
-Stands d file ReadFailed = ⊤
-Stands d file WriteFailed = ⊤
-Stands d file TurnLimit = ⊤
-Stands d file Memory = ⊤
+abbrev pub Applies : Decimator → List ℕ → StreamFault → Type 0
+Applies d file FileRefused = IsRefused file
+Applies d file RateNotDivided = IsNotDivided d file
+Applies d file TooLarge = IsTooLarge d file
+Applies d file ReadFailed = ⊤
+Applies d file WriteFailed = ⊤
+Applies d file TurnLimit = ⊤
+Applies d file Memory = ⊤
 
 -- ---- whatever it is that says what a file plays
 
@@ -63,8 +63,8 @@ abbrev pub PlaysGiven : {R : Type 0} → (R → Option (List ℕ)) → Inlet R �
 PlaysGiven left old new Plays held_old held_new n = (read : List ℕ) × (bytes : List ℕ) × Reads left old new read × Plays read bytes × (n ≡ length bytes) × Appends held_old held_new bytes
 
 -- a prefix of whatever the file plays was written
-abbrev pub WritesFront : Option (List ℕ) → (List ℕ → List ℕ → Type 0) → Option (List ℕ) → Option (List ℕ) → Type 0
-WritesFront left Plays held_old held_new = IfSome left (λ file. (bytes : List ℕ) → Plays file bytes → AppendsFront held_old held_new bytes)
+abbrev pub WritesPrefix : Option (List ℕ) → (List ℕ → List ℕ → Type 0) → Option (List ℕ) → Option (List ℕ) → Type 0
+WritesPrefix left Plays held_old held_new = IfSome left (λ file. (bytes : List ℕ) → Plays file bytes → AppendsPrefix held_old held_new bytes)
 
 -- a file that can be played is refused only for memory, a device or the number of reads
 abbrev pub OnlyFromOutside : Option (List ℕ) → Decimator → StreamFault → Type 0

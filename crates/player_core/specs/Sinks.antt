@@ -1,16 +1,16 @@
 -- The sink that plays a sound to an outlet while its file is read.
 use Rattle.std.specs.Prelude.{◌≡◌, ℕ, ◌+◌, ◌-◌, ◌%◌, ◌<◌, ◌≤◌, ◌^◌, List, ◌++◌, length, Option, Some, Err}
 use Rattle.std.specs.Io.KnownBytes.{Appends}
-use Rattle.chunk_core.specs.Outlets.{AppendsFront, outlet_failures, outlet_writer}
+use Rattle.chunk_core.specs.Outlets.{AppendsPrefix, outlet_failures, outlet_writer}
 use Rattle.dsd_bits.specs.declared.sound.Sound.{Sound}
 use Rattle.player_core.specs.Due.{all_bytes, due_bytes}
 use Rattle.player_core.specs.Laws.{file_around, total_frames}
-use Rattle.player_core.specs.PlayerView.{IsFed, IsPlayer, filter_of, sound_of}
+use Rattle.player_core.specs.PlayerView.{IsPlayerFed, IsPlayer, filter_of, sound_of}
 use Rattle.player_core.specs.declared.player.Player.{Player}
 use Rattle.wave_core.specs.Sizes.{FitsRiff}
 use Rattle.sound_core.specs.Faults.{IsBeforeWriting, failed_writes}
 use Rattle.sound_core.specs.declared.fault.StreamFault.{StreamFault}
-use Rattle.player_core.specs.Wave.{IsOpeningFault, header_of}
+use Rattle.player_core.specs.Wave.{IsOpeningFault, sound_header}
 use Rattle.player_core.specs.declared.sink.PlayingSink.{PlayingSink}
 
 -- after these bytes of a sound whose rate the factor divides and whose sizes fit, the player was fed them; the header
@@ -26,8 +26,8 @@ pub record IsPlaying {W : Type 0} (held : W → Option (List ℕ)) (first now : 
   pub is_player : IsPlayer player
   pub filter_is : filter_of player ≡ first.taps.now
   pub sound_is : sound_of player ≡ s
-  pub fed : IsFed player bytes
-  pub written : Appends (held (outlet_writer first.outlet.now)) (held (outlet_writer now.outlet.now)) (header_of first.taps.now s ++ due_bytes first.taps.now s bytes)
+  pub fed : IsPlayerFed player bytes
+  pub written : Appends (held (outlet_writer first.outlet.now)) (held (outlet_writer now.outlet.now)) (sound_header first.taps.now s ++ due_bytes first.taps.now s bytes)
   pub ready : outlet_failures first.outlet.now < 2 ^ 64 - 1
   pub failures : outlet_failures now.outlet.now ≡ outlet_failures first.outlet.now
 
@@ -37,7 +37,7 @@ pub record RefusesPlaying {W : Type 0} (held : W → Option (List ℕ)) (first n
   pub same : now.outlet.ghost_name ≡ first.outlet.ghost_name
   pub fault : IsOpeningFault first.taps.now s f
   pub unwritten : IsBeforeWriting f → outlet_writer now.outlet.now ≡ outlet_writer first.outlet.now
-  pub front : (rest : List ℕ) → length (came ++ rest) ≡ s.size → AppendsFront (held (outlet_writer first.outlet.now)) (held (outlet_writer now.outlet.now)) (file_around first.taps.now s (all_bytes first.taps.now s (came ++ rest)))
+  pub front : (rest : List ℕ) → length (came ++ rest) ≡ s.size → AppendsPrefix (held (outlet_writer first.outlet.now)) (held (outlet_writer now.outlet.now)) (file_around first.taps.now s (all_bytes first.taps.now s (came ++ rest)))
   pub failures : outlet_failures now.outlet.now ≡ outlet_failures first.outlet.now + failed_writes {X = Unit {0}} (Err f)
 
 -- the WAVE file of these sound bytes was written

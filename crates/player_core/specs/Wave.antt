@@ -11,8 +11,8 @@ use Rattle.sound_core.specs.declared.fault.StreamFault.{StreamFault}
 use Rattle.sound_core.specs.declared.fault.StreamFault.TheVariants.{RateNotDivided, TooLarge, WriteFailed, Memory}
 
 -- the bytes before the frames
-abbrev pub header_of : Decimator → Sound → List ℕ
-header_of d s = header s.channels (s.rate / d.factor) d.width (total_frames d s)
+abbrev pub sound_header : Decimator → Sound → List ℕ
+sound_header d s = header s.channels (s.rate / d.factor) d.width (total_frames d s)
 
 -- the bytes after the frames: one zero byte after odd data, else nothing
 abbrev pub pad_of : Decimator → Sound → List ℕ
@@ -26,7 +26,7 @@ file_size d s = sizes.file_size s.channels d.width (total_frames d s)
 pub record OpensWave (d : Decimator) (s : Sound) (held_old held_new : Option (List ℕ)) : Type 0 where
   pub divided : s.rate % d.factor ≡ 0
   pub fits : FitsRiff s.channels d.width (total_frames d s)
-  pub written : Appends held_old held_new (header_of d s)
+  pub written : Appends held_old held_new (sound_header d s)
 
 -- a fault of the header: the factor does not divide the rate, the sizes do not fit, or the header is not written
 abbrev pub IsOpeningFault : Decimator → Sound → StreamFault → Type 0

@@ -32,9 +32,9 @@ pub(crate) fn group_size(sound: &Sound) -> usize
 }
 
 /// How many bytes of each channel are in the whole groups of `size` sound bytes.
-pub(crate) fn bytes_heard(sound: &Sound, size: usize) -> usize
+pub(crate) fn bytes_known(sound: &Sound, size: usize) -> usize
     requires { (1 ≤ sound.now.channels) × (sound.now.channels ≤ 6) }
-    ensures { result ≡ Due.bytes_heard sound.now size }
+    ensures { result ≡ Due.bytes_known sound.now size }
 {
     let whole = size / group_size(sound) * part_size(sound.interleaving);
     sound.count.div_ceil(8).min(whole)
@@ -143,7 +143,7 @@ fn push_in_order(own: &mut Vec<u8>, bytes: &[u8], order: BitOrder) -> Result<(),
 }
 
 /// Drops the first bytes.
-pub(crate) fn drop_front(held: &mut Vec<u8>, cut: usize)
+pub(crate) fn drop_first(held: &mut Vec<u8>, cut: usize)
     requires { cut ≤ length held.old.items }
     ensures { held.new.items ≡ drop cut held.old.items }
 {

@@ -1,6 +1,6 @@
 //! Laws of what a player returns. Each function does nothing: a caller's proof cites what it ensures.
 
-ghost use Rattle.player_core.specs.Laws.{FileHasSize, FramesFill, FrontComesFirst, NothingIsDue, SoundIsPlayed};
+ghost use Rattle.player_core.specs.Laws.{FileHasSize, FramesFill, PrefixComesFirst, NothingIsDue, SoundIsPlayed};
 ghost use Rattle.player_core.specs.PartPlaying.{PartIsPlayed};
 ghost use Rattle.player_core.specs.Parts.{PartHasFrames, PartsMeet, WholeIsPart};
 
@@ -31,8 +31,8 @@ pub fn nothing_is_due_at_first()
 
 /// The law of prefixes: the bytes of the frames that are due after a prefix of the sound bytes are a prefix of those of
 /// all frames.
-pub fn frames_of_a_front_come_first()
-    ensures { FrontComesFirst }
+pub fn frames_of_a_prefix_come_first()
+    ensures { PrefixComesFirst }
 {}
 
 /// The law of parts: the bytes of a part are those of its frames, as the whole has them, and no others.

@@ -22,11 +22,11 @@
 //!   channel's byte (`specs/Groups.antt`).
 //! - `due_bytes d s bytes` is the bytes of the frames that are due after some sound bytes: those whose place is among
 //!   the bits in the whole groups of them. `all_bytes` is the bytes of all frames (`specs/Due.antt`).
-//! - `IsFed p bytes` says that a player was fed these bytes, `FeedsPlayer` what the next ones add, and `FinishesPlayer`
-//!   what is left (`specs/PlayerView.antt`).
+//! - `IsPlayerFed p bytes` says that a player was fed these bytes, `FeedsPlayer` what the next ones add, and
+//!   `FinishesPlayer` what is left (`specs/PlayerView.antt`).
 //! - `file_around d s bytes` is a header, these bytes and a pad, `IsPlayed` what is played of a recording in a file
 //!   (`specs/Laws.antt`).
-//! - `PlaysBy d file bytes` says that these bytes are the WAVE text of the file's recording by this decimator, `Stands
+//! - `PlaysBy d file bytes` says that these bytes are the WAVE text of the file's recording by this decimator, `Applies
 //!   d file fault` that a fault applies (`specs/Playing.antt`).
 //! - `KeepsUp left d front given old new` says that what was written lags what was read by at most 131,072 bytes of the
 //!   sound (`specs/Pace.antt`).
@@ -49,8 +49,8 @@
 //!
 //! Laws for those who write the file in parts: [`sound_is_played`], the WAVE text of a recording in a file is the
 //! header, the bytes of all frames of its sound, and the pad; [`frames_fill_the_data`] and [`file_has_its_size`], their
-//! sizes; [`nothing_is_due_at_first`]; and [`frames_of_a_front_come_first`], what is due after a prefix of the sound is
-//! a prefix of all.
+//! sizes; [`nothing_is_due_at_first`]; and [`frames_of_a_prefix_come_first`], what is due after a prefix of the sound
+//! is a prefix of all.
 //!
 //! ```text
 //! let mut player = Player::new(alloc, &taps, sound)?;
@@ -79,8 +79,9 @@ mod wave;
 mod wave_file;
 
 pub use laws::{
-    file_has_its_size, frames_fill_the_data, frames_of_a_front_come_first, nothing_is_due_at_first,
-    part_has_its_frames, part_is_played, parts_meet, sound_is_played, whole_is_a_part,
+    file_has_its_size, frames_fill_the_data, frames_of_a_prefix_come_first,
+    nothing_is_due_at_first, part_has_its_frames, part_is_played, parts_meet, sound_is_played,
+    whole_is_a_part,
 };
 pub use part_playing::play_part;
 pub use parts::PartPlayer;

@@ -6,7 +6,7 @@ ghost use Rattle.chunk_core.specs.Outlets.{outlet_failures, outlet_writer};
 ghost use Rattle.fir_core.specs.Decimator.{IsWithinLimits};
 ghost use Rattle.sound_core.specs.Faults.{IsBeforeWriting, failed_reads, failed_writes};
 ghost use Rattle.player_core.specs.PartPlaying.{PartFails, PartOnlyFromOutside, PlaysPart, StandsForPart};
-ghost use Rattle.player_core.specs.Playing.{PlaysFile, PlaysGiven, WritesFront};
+ghost use Rattle.player_core.specs.Playing.{PlaysFile, PlaysGiven, WritesPrefix};
 
 use crate::laws::part_is_played;
 use crate::part_sink::{PartSink, finish_part, frames_sound};
@@ -46,7 +46,7 @@ pub fn play_part<R: Read, W: Write>(
     ensures fault { IfErr result (λ f. IfSome (R.remaining (inlet_reader inlet.old)) (λ file. StandsForPart taps.now start stop file f)) }
     ensures cause { IfErr result (PartOnlyFromOutside (R.remaining (inlet_reader inlet.old)) taps.now start stop) }
     ensures unwritten { IfErr result (λ f. IsBeforeWriting f → outlet_writer outlet.new ≡ outlet_writer outlet.old) }
-    ensures front { OnErr result (WritesFront (R.remaining (inlet_reader inlet.old)) (PlaysPart taps.now start stop)
+    ensures front { OnErr result (WritesPrefix (R.remaining (inlet_reader inlet.old)) (PlaysPart taps.now start stop)
         (W.contents (outlet_writer outlet.old)) (W.contents (outlet_writer outlet.new))) }
     ensures read_failed { inlet_failures inlet.new ≡ inlet_failures inlet.old + failed_reads result }
     ensures write_failed { outlet_failures outlet.new ≡ outlet_failures outlet.old + failed_writes result }

@@ -19,7 +19,7 @@ struct PausedPlayer {
 impl PausedPlayer {
     ghost use Rattle.std.specs.Prelude.{◌≡◌, List, ℕ};
     ghost use Rattle.player_core.specs.PausedView.{IsPaused};
-    ghost use Rattle.player_core.specs.PlayerView.{IsFed, IsPlayer, fed_of, filter_of, sound_of};
+    ghost use Rattle.player_core.specs.PlayerView.{IsPlayerFed, IsPlayer, fed_of, filter_of, sound_of};
     ghost use Rattle.player_core.specs.declared.player.Player.{Player as Playing};
 
     // What a player holds beside its filter.
@@ -50,7 +50,7 @@ impl PausedPlayer {
         ensures filter { filter_of result ≡ taps.now }
         ensures same { (p : Playing) → IsPaused p self → (sound_of result ≡ sound_of p) × (fed_of result ≡ fed_of p) }
         ensures ready { (p : Playing) → IsPaused p self → filter_of p ≡ taps.now → IsPlayer p → IsPlayer result }
-        ensures fed { (p : Playing) (bytes : List ℕ) → IsPaused p self → IsFed p bytes → IsFed result bytes }
+        ensures fed { (p : Playing) (bytes : List ℕ) → IsPaused p self → IsPlayerFed p bytes → IsPlayerFed result bytes }
     {
         Player {
             taps,

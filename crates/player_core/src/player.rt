@@ -14,7 +14,7 @@ ghost use Rattle.player_core.specs.Groups as Groups;
 ghost use Rattle.player_core.specs.Groups.{channel_part};
 ghost use Rattle.player_core.specs.PlayerView.{AreChannels, AreNew, AreReady, AreWhole, FeedAll, FinishAll};
 
-use crate::groups::{bytes_heard, drop_front, fill_channel, group_size};
+use crate::groups::{bytes_known, drop_first, fill_channel, group_size};
 use dsd_bits::{Interleaving, Sound};
 use fir_core::{Stream, Taps};
 use std::alloc::{AllocError, Global};
@@ -36,7 +36,7 @@ pub struct Player<'a> {
 impl<'a> Player<'a> {
     ghost use Rattle.std.specs.Prelude.{◌≡◌, ◌+◌, ◌%◌, ◌≤◌, [], IfOk, OnOk, length};
     ghost use Rattle.dsd_bits.specs.Sounds.{IsSound};
-    ghost use Rattle.player_core.specs.PlayerView.{FeedsPlayer, FinishesPlayer, IsFed, IsPlayer};
+    ghost use Rattle.player_core.specs.PlayerView.{FeedsPlayer, FinishesPlayer, IsPlayerFed, IsPlayer};
 
     /// The player before the first byte of a sound: 1 to 6 channels of the same number of bits, whole bytes if they are
     /// in frames. The only refusal is out of memory.
@@ -45,7 +45,7 @@ impl<'a> Player<'a> {
         requires whole { sound.interleaving ≡ Interleaving.Bytes → sound.count % 8 ≡ 0 }
         ensures ready { IfOk result IsPlayer }
         ensures made { IfOk result (λ p. (p.taps.now ≡ taps.now) × (p.sound ≡ sound) × (p.fed ≡ 0)) }
-        ensures fed { IfOk result (λ p. IsFed p []) }
+        ensures fed { IfOk result (λ p. IsPlayerFed p []) }
     {
         let streams = streams_of(alloc, taps, &sound)?;
         Ok(Player {
@@ -70,7 +70,7 @@ impl<'a> Player<'a> {
         ensures ok { OnOk result (FeedsPlayer self.old self.new bytes.now out.old.items out.new.items) }
     {
         let fed = self.fed + bytes.len();
-        let number = bytes_heard(&self.sound, fed) - bytes_heard(&self.sound, self.fed);
+        let number = bytes_known(&self.sound, fed) - bytes_known(&self.sound, self.fed);
         self.held.extend_from_slice(bytes)?;
         let size = group_size(&self.sound);
         let whole = self.held.len() / size * size;
@@ -89,7 +89,7 @@ impl<'a> Player<'a> {
             self.tile.as_slice(),
             self.sound.channels,
         )?;
-        drop_front(&mut self.held, whole);
+        drop_first(&mut self.held, whole);
         self.fed = fed;
         Ok(())
     }

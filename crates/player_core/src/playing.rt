@@ -5,7 +5,7 @@ ghost use Rattle.chunk_core.specs.Inlets.{inlet_failures, inlet_given, inlet_rea
 ghost use Rattle.chunk_core.specs.Outlets.{outlet_failures, outlet_writer};
 ghost use Rattle.sound_core.specs.Faults.{IsBeforeWriting, StopsReading, failed_reads, failed_writes};
 ghost use Rattle.player_core.specs.Pace.{KeepsUp, PlayFails};
-ghost use Rattle.player_core.specs.Playing.{OnlyFromOutside, PlaysBy, PlaysFile, PlaysGiven, Stands, WritesFront};
+ghost use Rattle.player_core.specs.Playing.{OnlyFromOutside, PlaysBy, PlaysFile, PlaysGiven, Applies, WritesPrefix};
 
 use crate::laws::sound_is_played;
 use crate::sink::{PlayingSink, finish};
@@ -35,11 +35,11 @@ pub fn play<R: Read, W: Write>(
         (W.contents (outlet_writer outlet.old)) (W.contents (outlet_writer outlet.new))) }
     // A fault of the file applies; a file that can be played is refused only from outside, and a prefix of its WAVE
     // file was written.
-    ensures fault { IfErr result (λ f. IfSome (R.remaining (inlet_reader inlet.old)) (λ file. Stands taps.now file f)) }
+    ensures fault { IfErr result (λ f. IfSome (R.remaining (inlet_reader inlet.old)) (λ file. Applies taps.now file f)) }
     ensures cause { IfErr result (OnlyFromOutside (R.remaining (inlet_reader inlet.old)) taps.now) }
     // Nothing is written for a sound that can't be played.
     ensures unwritten { IfErr result (λ f. IsBeforeWriting f → outlet_writer outlet.new ≡ outlet_writer outlet.old) }
-    ensures front { OnErr result (WritesFront (R.remaining (inlet_reader inlet.old)) (PlaysBy taps.now)
+    ensures front { OnErr result (WritesPrefix (R.remaining (inlet_reader inlet.old)) (PlaysBy taps.now)
         (W.contents (outlet_writer outlet.old)) (W.contents (outlet_writer outlet.new))) }
     // If the reading stops, what was written lags by at most 131,072 bytes of the one sound that the file describes.
     ensures keeps_up { IfErr result (λ f. StopsReading f

@@ -7,19 +7,19 @@ use Rattle.project_core.specs.declared.key.Key.TheVariants as keys
 use Rattle.splice_core.specs.declared.cue.Target.{Target}
 use Rattle.project_core.specs.declared.fault.ProjectFault.{ProjectFault}
 use Rattle.project_core.specs.declared.fault.ProjectFault.TheVariants.{OutOfLimit, NoTake, ShortCue}
-use Rattle.project_core.specs.Keys.{name_of, cue_keys}
+use Rattle.project_core.specs.Keys.{key_name, cue_keys}
 use Rattle.project_core.specs.Steps.{◌>>=◌, optional}
 use Rattle.project_core.specs.Reading.{table_of, integer_of, text_of, below, limited_at}
 use Rattle.splice_core.specs.Cues.{CueContent, IsCueWithin}
-use Rattle.project_core.specs.ReadingCue.{take_at, bridge_of, bridge_at, target_at, title_of, title_at, cue_of}
+use Rattle.project_core.specs.ReadingCue.{take_number_at, bridge_of, bridge_at, target_at, title_of, title_at, cue_of}
 use Rattle.project_core.specs.Tables.{Has, number}
 use Rattle.project_core.specs.Meaning.{IsCue}
 use Rattle.project_core.proofs.TableAgain.{table_again, value_again, limited_again}
 use Rattle.project_core.proofs.TargetLaws.{target_again, target_ok}
 use Rattle.project_core.proofs.TableLaws.{bind_ok, not_refused, integer_ok, text_ok, table_ok, below_ok, integer_at_ok, limited_ok}
 
-take_ok : (i takes : ℕ) (t : Members) (n : ℕ) → take_at i takes t ≡ Ok n → Has t keys.Take (number n) × (n < takes)
-unfolding take_at
+take_ok : (i takes : ℕ) (t : Members) (n : ℕ) → take_number_at i takes t ≡ Ok n → Has t keys.Take (number n) × (n < takes)
+unfolding take_number_at
 take_ok i takes t n e =
     let a = integer_at_ok keys.Take t (λ z. ok_or (below takes z) (NoTake i)) n e in
     let b = below_ok takes a.0 (NoTake i) n a.2 in
@@ -65,21 +65,21 @@ parts weights i (Ok a) (Ok b) (Ok c) (Ok d) (Ok g) (Ok s) p e =
 pub cue_ok : (weights takes i : ℕ) (d : Data) (p : CueContent) → cue_of weights takes i d ≡ Ok p → (t : Members) × (d ≡ table t) × IsCue weights takes t p
 unfolding cue_of bridge_at title_at
 cue_ok weights takes i d p e =
-    let a = bind_ok (table_of keys.Cue cue_keys d) (λ t. take_at i takes t >>= λ a. limited_at keys.Start (2 ^ 36) t >>= λ b. limited_at keys.Stop (2 ^ 36) t >>= λ c. bridge_at t >>= λ d. target_at t >>= λ g. title_at t >>= λ s. cond (ltb (c + 1) (b + weights)) (Err (ShortCue i)) (Ok (record { take = a; start = b; stop = c; bridge = d; target = g; title = s }))) p e in
+    let a = bind_ok (table_of keys.Cue cue_keys d) (λ t. take_number_at i takes t >>= λ a. limited_at keys.Start (2 ^ 36) t >>= λ b. limited_at keys.Stop (2 ^ 36) t >>= λ c. bridge_at t >>= λ d. target_at t >>= λ g. title_at t >>= λ s. cond (ltb (c + 1) (b + weights)) (Err (ShortCue i)) (Ok (record { take = a; start = b; stop = c; bridge = d; target = g; title = s }))) p e in
     let t = a.0 in
     let known = table_ok keys.Cue cue_keys d t a.1 in
-    let q = parts weights i (take_at i takes t) (limited_at keys.Start (2 ^ 36) t) (limited_at keys.Stop (2 ^ 36) t) (bridge_at t) (target_at t) (title_at t) p a.2 in
+    let q = parts weights i (take_number_at i takes t) (limited_at keys.Start (2 ^ 36) t) (limited_at keys.Stop (2 ^ 36) t) (bridge_at t) (target_at t) (title_at t) p a.2 in
     let take = take_ok i takes t p.take q.0 in
     let start = limited_ok keys.Start (2 ^ 36) t p.start q.1 in
     let stop = limited_ok keys.Stop (2 ^ 36) t p.stop q.2 in
-    let bridge = bridge_found (get_member (name_of keys.Bridge) t) p.bridge q.3 in
+    let bridge = bridge_found (get_member (key_name keys.Bridge) t) p.bridge q.3 in
     let target = target_ok t p.target q.4 in
-    let title = title_found (get_member (name_of keys.Title) t) p.title q.5 in
+    let title = title_found (get_member (key_name keys.Title) t) p.title q.5 in
     let limits : IsCueWithin weights takes p = record { take_is_there = take.1; start_fits = start.1; stop_fits = stop.1; bridge_fits = bridge.1; target_fits = target.limits; title_fits = title.1; long_enough = q.6 } in
     (t, known.0, record { no_others = known.1; take = take.0; start = start.0; stop = stop.0; bridge = bridge.0; target = target.name; line = target.line; title = title.0; limits = limits })
 
-take_again : (i takes : ℕ) (t : Members) (n : ℕ) → Has t keys.Take (number n) → n < takes → take_at i takes t ≡ Ok n
-unfolding take_at
+take_again : (i takes : ℕ) (t : Members) (n : ℕ) → Has t keys.Take (number n) → n < takes → take_number_at i takes t ≡ Ok n
+unfolding take_number_at
 take_again i takes t n h lt = rw (value_again keys.Take t (number n) h, lt-ltb n takes lt)
 
 bridge_read : (o : Option Data) (n : ℕ) → (o ≡ Some (number n)) ⊎ ((o ≡ None) × (n ≡ 0)) → n ≤ 4096 → bridge_of o ≡ Ok n
@@ -100,8 +100,8 @@ cue_again weights takes i t p h =
       take_again i takes t p.take h.take h.limits.take_is_there,
       limited_again keys.Start (2 ^ 36) t p.start h.start h.limits.start_fits,
       limited_again keys.Stop (2 ^ 36) t p.stop h.stop h.limits.stop_fits,
-      bridge_read (get_member (name_of keys.Bridge) t) p.bridge h.bridge h.limits.bridge_fits,
+      bridge_read (get_member (key_name keys.Bridge) t) p.bridge h.bridge h.limits.bridge_fits,
       target_again t p.target (record { name = h.target; line = h.line; limits = h.limits.target_fits }),
-      title_read (get_member (name_of keys.Title) t) p.title h.title h.limits.title_fits,
+      title_read (get_member (key_name keys.Title) t) p.title h.title h.limits.title_fits,
       le-ltb (p.stop + 1) (p.start + weights) h.limits.long_enough,
     )

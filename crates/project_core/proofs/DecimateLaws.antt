@@ -4,7 +4,7 @@ use Rattle.toml.specs.Data.{Data, table, Members}
 use Rattle.fir_core.specs.declared.fault.TapsFault.{TapsFault}
 use Rattle.fir_core.specs.Decimator.{Decimator, IsWithinLimits}
 use Rattle.fir_core.specs.declared.fault.TapsFault.TheVariants.{TapNumber, TapSum, Factor, Delay, Shift, Width, Memory}
-use Rattle.fir_core.specs.Faults.{first_fault, named}
+use Rattle.fir_core.specs.Faults.{broken_limit, named_limit}
 use Rattle.fir_core.proofs.LimitLaws.{IsWithinLimits-from_no_fault, no_fault-from_IsWithinLimits}
 use Rattle.project_core.specs.declared.key.Key.TheVariants as keys
 use Rattle.project_core.specs.declared.fault.ProjectFault.{ProjectFault}
@@ -24,8 +24,8 @@ unless_ok (Some fault) d y e = absurd cc
 
 -- the parts of a decimator that was read
 parts : (taps : Result (List ℤ) ProjectFault) (factor delay shift width : Result ℕ ProjectFault) (y : Decimator)
-    → (taps >>= λ a. factor >>= λ b. delay >>= λ c. shift >>= λ d. width >>= λ f. let made : Decimator = record { taps = a; factor = b; delay = c; shift = d; width = f } in unless_broken (first_fault made) made) ≡ Ok y
-    → (taps ≡ Ok y.taps) × (factor ≡ Ok y.factor) × (delay ≡ Ok y.delay) × (shift ≡ Ok y.shift) × (width ≡ Ok y.width) × (first_fault y ≡ None)
+    → (taps >>= λ a. factor >>= λ b. delay >>= λ c. shift >>= λ d. width >>= λ f. let made : Decimator = record { taps = a; factor = b; delay = c; shift = d; width = f } in unless_broken (broken_limit made) made) ≡ Ok y
+    → (taps ≡ Ok y.taps) × (factor ≡ Ok y.factor) × (delay ≡ Ok y.delay) × (shift ≡ Ok y.shift) × (width ≡ Ok y.width) × (broken_limit y ≡ None)
 parts (Err x) factor delay shift width y e = absurd cc
 parts (Ok a) (Err x) delay shift width y e = absurd cc
 parts (Ok a) (Ok b) (Err x) shift width y e = absurd cc
@@ -33,14 +33,14 @@ parts (Ok a) (Ok b) (Ok c) (Err x) width y e = absurd cc
 parts (Ok a) (Ok b) (Ok c) (Ok d) (Err x) y e = absurd cc
 parts (Ok a) (Ok b) (Ok c) (Ok d) (Ok f) y e =
     let made : Decimator = record { taps = a; factor = b; delay = c; shift = d; width = f } in
-    let w = unless_ok (first_fault made) made y e in
+    let w = unless_ok (broken_limit made) made y e in
     let same = w.1 in
     rw (← same) (refl, refl, refl, refl, refl, w.0)
 
 pub decimate_ok : (d : Data) (y : Decimator) → decimate_of d ≡ Ok y → (t : Members) × (d ≡ table t) × IsDecimate t y
 unfolding decimate_of
 decimate_ok d y e =
-    let a = bind_ok (table_of keys.Decimate decimate_keys d) (λ t. integers_at keys.Taps t >>= λ a. unsigned_at keys.Factor t >>= λ b. unsigned_at keys.Delay t >>= λ c. unsigned_at keys.Shift t >>= λ d. unsigned_at keys.Width t >>= λ f. let made : Decimator = record { taps = a; factor = b; delay = c; shift = d; width = f } in unless_broken (first_fault made) made) y e in
+    let a = bind_ok (table_of keys.Decimate decimate_keys d) (λ t. integers_at keys.Taps t >>= λ a. unsigned_at keys.Factor t >>= λ b. unsigned_at keys.Delay t >>= λ c. unsigned_at keys.Shift t >>= λ d. unsigned_at keys.Width t >>= λ f. let made : Decimator = record { taps = a; factor = b; delay = c; shift = d; width = f } in unless_broken (broken_limit made) made) y e in
     let t = a.0 in
     let known = table_ok keys.Decimate decimate_keys d t a.1 in
     let q = parts (integers_at keys.Taps t) (unsigned_at keys.Factor t) (unsigned_at keys.Delay t) (unsigned_at keys.Shift t) (unsigned_at keys.Width t) y a.2 in (
@@ -84,7 +84,7 @@ factor_fails value t taps faults.Memory is_table are_taps is = tt
 factor_fails value t taps e is_table are_taps is = rw (is_table, are_taps, is) refl
 
 -- what is refused where a limit is broken
-pub broken_fails : (d : Decimator) (fault : TapsFault) → first_fault d ≡ named fault → Fails (limit_fault fault) (unless_broken (first_fault d) d)
+pub broken_fails : (d : Decimator) (fault : TapsFault) → broken_limit d ≡ named_limit fault → Fails (limit_fault fault) (unless_broken (broken_limit d) d)
 broken_fails d Memory e = tt
 broken_fails d TapNumber e = rw e
 broken_fails d TapSum e = rw e
@@ -93,5 +93,5 @@ broken_fails d Delay e = rw e
 broken_fails d Shift e = rw e
 broken_fails d Width e = rw e
 
-pub unbroken_is : (d made : Decimator) → first_fault d ≡ None → made ≡ d → unless_broken (first_fault d) d ≡ Ok made
+pub unbroken_is : (d made : Decimator) → broken_limit d ≡ None → made ≡ d → unless_broken (broken_limit d) d ≡ Ok made
 unbroken_is d made e is = rw (e, is)

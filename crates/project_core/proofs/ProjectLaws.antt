@@ -7,7 +7,7 @@ use Rattle.project_core.specs.declared.key.Key.TheVariants as keys
 use Rattle.project_core.specs.declared.project.Project.{Project}
 use Rattle.project_core.specs.declared.fault.ProjectFault.{ProjectFault}
 use Rattle.project_core.specs.declared.fault.ProjectFault.TheVariants.{NotToml, UnknownKey}
-use Rattle.project_core.specs.Keys.{name_of, top_keys}
+use Rattle.project_core.specs.Keys.{key_name, top_keys}
 use Rattle.project_core.specs.Steps.{◌>>=◌, Gives, optional}
 use Rattle.project_core.specs.Tables.{has_only, table_in}
 use Rattle.project_core.specs.ReadingDecimate.{decimate_of}
@@ -53,8 +53,8 @@ top_ok t p e =
     let q = parts (decimate_in t) (splice_in t) p a.1 in
     record {
       no_others = finds_only top_keys t a.0;
-      decimate = optional_ok decimate_of IsDecimate decimate_ok (get_member (name_of keys.Decimate) t) p.decimate q.0;
-      splice = optional_ok splice_of IsSplice splice_ok (get_member (name_of keys.Splice) t) p.splice q.1;
+      decimate = optional_ok decimate_of IsDecimate decimate_ok (get_member (key_name keys.Decimate) t) p.decimate q.0;
+      splice = optional_ok splice_of IsSplice splice_ok (get_member (key_name keys.Splice) t) p.splice q.1;
     }
 
 top_again : (t : Members) (p : ProjectContent) → IsProjectTable t p → project_of t ≡ Ok p
@@ -62,8 +62,8 @@ unfolding project_of decimate_in splice_in
 top_again t p h =
     rw (
       has_only_from top_keys t h.no_others,
-      optional_again decimate_of IsDecimate decimate_again (get_member (name_of keys.Decimate) t) p.decimate h.decimate,
-      optional_again splice_of IsSplice splice_again (get_member (name_of keys.Splice) t) p.splice h.splice,
+      optional_again decimate_of IsDecimate decimate_again (get_member (key_name keys.Decimate) t) p.decimate h.decimate,
+      optional_again splice_of IsSplice splice_again (get_member (key_name keys.Splice) t) p.splice h.splice,
     )
 
 pub project_ok : (bytes : List ℕ) (p : ProjectContent) → project_at bytes ≡ Ok p → IsProject bytes p

@@ -8,7 +8,7 @@ use Rattle.toml.specs.View.{items_of}
 use Rattle.project_core.specs.declared.key.Key.{Key}
 use Rattle.project_core.specs.declared.fault.ProjectFault.{ProjectFault}
 use Rattle.project_core.specs.declared.fault.ProjectFault.TheVariants.{UnknownKey, MissingKey, OutOfLimit}
-use Rattle.project_core.specs.Keys.{name_of}
+use Rattle.project_core.specs.Keys.{key_name}
 use Rattle.project_core.specs.Steps.{◌>>=◌, each}
 use Rattle.project_core.specs.Tables.{has_only, FindsOnly, list_of, Has, number, numbers, texts}
 use Rattle.project_core.specs.Reading.{value_at, integer_of, text_of, array_of, table_of, below, limited_at, unsigned_of, unsigned_at, fits_i32, signed_of, integers_of, narrow, integers_at, texts_of, texts_at}
@@ -38,9 +38,9 @@ pub ok_or_ok : {A : Type 0} (o : Option A) (d : ProjectFault) (x : A) → ok_or 
 ok_or_ok None d x e = absurd cc
 ok_or_ok (Some y) d x e = cc
 
-pub value_ok : (key : Key) (t : Members) (d : Data) → value_at key t ≡ Ok d → get_member (name_of key) t ≡ Some d
+pub value_ok : (key : Key) (t : Members) (d : Data) → value_at key t ≡ Ok d → get_member (key_name key) t ≡ Some d
 unfolding value_at
-value_ok key t d e = ok_or_ok (get_member (name_of key) t) (MissingKey key) d e
+value_ok key t d e = ok_or_ok (get_member (key_name key) t) (MissingKey key) d e
 
 pub integer_ok : (key : Key) (d : Data) (z : ℤ) → integer_of key d ≡ Ok z → d ≡ integer z
 integer_ok key (string s) z e = absurd cc
@@ -94,13 +94,13 @@ below_ok bound (pos m) d n e = of_test (ltb m bound) refl e
 below_ok bound (negsuc m) d n e = absurd cc
 
 -- the integer at a key, and what follows
-pub integer_at_ok : {A : Type 0} (key : Key) (t : Members) (g : ℤ → Result A ProjectFault) (y : A) → (value_at key t >>= λ d. integer_of key d >>= g) ≡ Ok y → (z : ℤ) × (get_member (name_of key) t ≡ Some (integer z)) × (g z ≡ Ok y)
+pub integer_at_ok : {A : Type 0} (key : Key) (t : Members) (g : ℤ → Result A ProjectFault) (y : A) → (value_at key t >>= λ d. integer_of key d >>= g) ≡ Ok y → (z : ℤ) × (get_member (key_name key) t ≡ Some (integer z)) × (g z ≡ Ok y)
 integer_at_ok key t g y e =
     let a = bind_ok (value_at key t) (λ d. integer_of key d >>= g) y e in
     let b = bind_ok (integer_of key a.0) g y a.2 in
     (b.0, value_ok key t a.0 a.1 ∙ ap (λ (d : Data). Some d) (integer_ok key a.0 b.0 b.1), b.2)
 
-pub limited_ok : (key : Key) (limit : ℕ) (t : Members) (n : ℕ) → limited_at key limit t ≡ Ok n → (get_member (name_of key) t ≡ Some (integer (pos n))) × (n ≤ limit)
+pub limited_ok : (key : Key) (limit : ℕ) (t : Members) (n : ℕ) → limited_at key limit t ≡ Ok n → (get_member (key_name key) t ≡ Some (integer (pos n))) × (n ≤ limit)
 unfolding limited_at
 limited_ok key limit t n e =
     let a = integer_at_ok key t (λ z. ok_or (below (limit + 1) z) (OutOfLimit key)) n e in

@@ -9,8 +9,8 @@ use Rattle.splice_core.specs.declared.cue.Target.{Target}
 use Rattle.splice_core.specs.declared.cue.Target.TheVariants.{Fade, Line}
 use Rattle.splice_core.specs.Cues.{IsLine, IsTarget}
 use Rattle.project_core.specs.declared.fault.ProjectFault.TheVariants.{OutOfLimit}
-use Rattle.project_core.specs.Keys.{name_of}
-use Rattle.project_core.specs.Meaning.{ends_of, target_name}
+use Rattle.project_core.specs.Keys.{key_name}
+use Rattle.project_core.specs.Meaning.{line_ends, target_name}
 use Rattle.project_core.specs.Reading.{integers_at}
 use Rattle.project_core.specs.ReadingCue.{fade_at, fade_of, is_end, line_at, line_of, target_at, target_name_at, target_name_of, target_named}
 use Rattle.project_core.specs.Tables.{numbers}
@@ -19,8 +19,8 @@ use Rattle.project_core.proofs.TableLaws.{bind_ok, integers_ok, passed, text_ok}
 
 -- what a table says of a target: its name, or none for the fade, and the ends of a line
 pub record SaysTarget (t : Members) (g : Target) : Type 0 where
-  pub name : (get_member (name_of keys.Target) t ≡ Some (string (target_name g))) ⊎ ((get_member (name_of keys.Target) t ≡ None) × (g ≡ Fade))
-  pub line : get_member (name_of keys.Line) t ≡ option_map numbers (ends_of g)
+  pub name : (get_member (key_name keys.Target) t ≡ Some (string (target_name g))) ⊎ ((get_member (key_name keys.Target) t ≡ None) × (g ≡ Fade))
+  pub line : get_member (key_name keys.Line) t ≡ option_map numbers (line_ends g)
   pub limits : IsTarget g
 
 -- ---- what was read was said
@@ -47,16 +47,16 @@ line_found (a ∷ b ∷ []) g e =
     (a, b, refl, sym p.1, record { a_fits = leb-true (unsigned_abs a) 4096 q.0; b_fits = leb-true (unsigned_abs b) 4096 q.1 })
 line_found (a ∷ b ∷ c ∷ zs) g e = absurd cc
 
-fade_said : (t : Members) (n : List ℕ) (g : Target) → (get_member (name_of keys.Target) t ≡ Some (string n)) ⊎ ((get_member (name_of keys.Target) t ≡ None) × (n ≡ codes "fade")) → n ≡ codes "fade" → fade_at t ≡ Ok g → SaysTarget t g
+fade_said : (t : Members) (n : List ℕ) (g : Target) → (get_member (key_name keys.Target) t ≡ Some (string n)) ⊎ ((get_member (key_name keys.Target) t ≡ None) × (n ≡ codes "fade")) → n ≡ codes "fade" → fade_at t ≡ Ok g → SaysTarget t g
 unfolding fade_at
 fade_said t n g (inl there) is e =
-    let p = fade_found (get_member (name_of keys.Line) t) g e in
+    let p = fade_found (get_member (key_name keys.Line) t) g e in
     rw p.1 (record { name = inl (there ∙ ap (λ (s : List ℕ). Some (string s)) is); line = p.0; limits = fade_limits })
 fade_said t n g (inr none) is e =
-    let p = fade_found (get_member (name_of keys.Line) t) g e in
+    let p = fade_found (get_member (key_name keys.Line) t) g e in
     rw p.1 (record { name = inr (none.0, refl); line = p.0; limits = fade_limits })
 
-line_said : (t : Members) (n : List ℕ) (g : Target) → (get_member (name_of keys.Target) t ≡ Some (string n)) ⊎ ((get_member (name_of keys.Target) t ≡ None) × (n ≡ codes "fade")) → n ≡ codes "line" → line_at t ≡ Ok g → SaysTarget t g
+line_said : (t : Members) (n : List ℕ) (g : Target) → (get_member (key_name keys.Target) t ≡ Some (string n)) ⊎ ((get_member (key_name keys.Target) t ≡ None) × (n ≡ codes "fade")) → n ≡ codes "line" → line_at t ≡ Ok g → SaysTarget t g
 unfolding line_at
 line_said t n g (inl there) is e =
     let p = bind_ok (integers_at keys.Line t) line_of g e in
@@ -64,7 +64,7 @@ line_said t n g (inl there) is e =
     rw target (record { name = inl (there ∙ ap (λ (s : List ℕ). Some (string s)) is); line = integers_ok keys.Line t p.0 p.1 ∙ ap (λ (zs : List ℤ). Some (numbers zs)) both; limits = line_limits a b fits })
 line_said t n g (inr none) is e = let first : 102 ≡ 108 = ap (λ (s : List ℕ). get_or s 0 0) (sym none.1 ∙ is) in absurd (omega (arith, first))
 
-named_said : (t : Members) (n : List ℕ) (g : Target) → (get_member (name_of keys.Target) t ≡ Some (string n)) ⊎ ((get_member (name_of keys.Target) t ≡ None) × (n ≡ codes "fade")) → target_named n t ≡ Ok g → SaysTarget t g
+named_said : (t : Members) (n : List ℕ) (g : Target) → (get_member (key_name keys.Target) t ≡ Some (string n)) ⊎ ((get_member (key_name keys.Target) t ≡ None) × (n ≡ codes "fade")) → target_named n t ≡ Ok g → SaysTarget t g
 named_said t n g told e = by (bytes_eq n (codes "fade")) (bytes_eq n (codes "line")) refl refl e
   where
     by : (p q : Bool) → bytes_eq n (codes "fade") ≡ p → bytes_eq n (codes "line") ≡ q → cond p (fade_at t) (cond q (line_at t) (Err (OutOfLimit keys.Target))) ≡ Ok g → SaysTarget t g
@@ -75,14 +75,14 @@ named_said t n g told e = by (bytes_eq n (codes "fade")) (bytes_eq n (codes "lin
 pub target_ok : (t : Members) (g : Target) → target_at t ≡ Ok g → SaysTarget t g
 unfolding target_at target_name_at
 target_ok t g e =
-    let p = bind_ok (target_name_of (get_member (name_of keys.Target) t)) (λ n. target_named n t) g e in
-    named_said t p.0 g (name_found (get_member (name_of keys.Target) t) p.0 p.1) p.2
+    let p = bind_ok (target_name_of (get_member (key_name keys.Target) t)) (λ n. target_named n t) g e in
+    named_said t p.0 g (name_found (get_member (key_name keys.Target) t) p.0 p.1) p.2
 
 -- ---- what is said is read
 end_is : (z : ℤ) → unsigned_abs z ≤ 4096 → is_end z ≡ true
 end_is z h = le-leb (unsigned_abs z) 4096 h
 
-line_read : (t : Members) (a b : ℤ) → get_member (name_of keys.Line) t ≡ Some (numbers (a ∷ b ∷ [])) → IsLine a b → line_at t ≡ Ok (Line a b)
+line_read : (t : Members) (a b : ℤ) → get_member (key_name keys.Line) t ≡ Some (numbers (a ∷ b ∷ [])) → IsLine a b → line_at t ≡ Ok (Line a b)
 unfolding line_at
 line_read t a b told fits =
     rw (integers_again keys.Line t (a ∷ b ∷ []) told (fits_one a (omega (arith, fits.a_fits)), (fits_one b (omega (arith, fits.b_fits)), tt)), end_is a fits.a_fits, end_is b fits.b_fits)
@@ -93,5 +93,5 @@ name_read o g (inr h) = rw (h.0, h.1)
 
 pub target_again : (t : Members) (g : Target) → SaysTarget t g → target_at t ≡ Ok g
 unfolding target_at target_name_at fade_at
-target_again t Fade says = rw (name_read (get_member (name_of keys.Target) t) Fade says.name, says.line)
-target_again t (Line a b) says = rw (name_read (get_member (name_of keys.Target) t) (Line a b) says.name, line_read t a b says.line (says.limits a b refl))
+target_again t Fade says = rw (name_read (get_member (key_name keys.Target) t) Fade says.name, says.line)
+target_again t (Line a b) says = rw (name_read (get_member (key_name keys.Target) t) (Line a b) says.name, line_read t a b says.line (says.limits a b refl))

@@ -4,24 +4,24 @@ use Rattle.project_core.specs.declared.key.Key.{Key}
 use Rattle.project_core.specs.declared.key.Key.TheVariants.{Decimate, Taps, Factor, Delay, Shift, Width, Splice, Weights, Takes, Cue, Take, Start, Stop, Bridge, Target, Line, Title}
 
 -- a key as a text spells it
-unfoldable pub name_of : Key → List ℕ
-name_of Decimate = codes "decimate"
-name_of Taps = codes "taps"
-name_of Factor = codes "factor"
-name_of Delay = codes "delay"
-name_of Shift = codes "shift"
-name_of Width = codes "width"
-name_of Splice = codes "splice"
-name_of Weights = codes "weights"
-name_of Takes = codes "takes"
-name_of Cue = codes "cue"
-name_of Take = codes "take"
-name_of Start = codes "start"
-name_of Stop = codes "stop"
-name_of Bridge = codes "bridge"
-name_of Target = codes "target"
-name_of Line = codes "line"
-name_of Title = codes "title"
+unfoldable pub key_name : Key → List ℕ
+key_name Decimate = codes "decimate"
+key_name Taps = codes "taps"
+key_name Factor = codes "factor"
+key_name Delay = codes "delay"
+key_name Shift = codes "shift"
+key_name Width = codes "width"
+key_name Splice = codes "splice"
+key_name Weights = codes "weights"
+key_name Takes = codes "takes"
+key_name Cue = codes "cue"
+key_name Take = codes "take"
+key_name Start = codes "start"
+key_name Stop = codes "stop"
+key_name Bridge = codes "bridge"
+key_name Target = codes "target"
+key_name Line = codes "line"
+key_name Title = codes "title"
 
 -- the keys of a project text
 abbrev pub top_keys : List Key

@@ -5,7 +5,7 @@ use Rattle.toml.specs.Data.{Data, string, array, table, Members, get_member}
 use Rattle.toml.specs.View.{items_of}
 use Rattle.fir_core.specs.Decimator.{Decimator, IsWithinLimits}
 use Rattle.project_core.specs.declared.key.Key.TheVariants as keys
-use Rattle.project_core.specs.Keys.{name_of, top_keys, decimate_keys, splice_keys, cue_keys}
+use Rattle.project_core.specs.Keys.{key_name, top_keys, decimate_keys, splice_keys, cue_keys}
 use Rattle.project_core.specs.Tables.{FindsOnly, Has, Lacks, number, numbers, table_in, texts}
 use Rattle.splice_core.specs.declared.cue.Target.{Target}
 use Rattle.splice_core.specs.declared.cue.Target.TheVariants.{Fade, Line}
@@ -29,9 +29,9 @@ target_name Fade = codes "fade"
 target_name (Line a b) = codes "line"
 
 -- the two ends of a line, if the target is one
-abbrev pub ends_of : Target → Option (List ℤ)
-ends_of Fade = None
-ends_of (Line a b) = Some (a ∷ b ∷ [])
+abbrev pub line_ends : Target → Option (List ℤ)
+line_ends Fade = None
+line_ends (Line a b) = Some (a ∷ b ∷ [])
 
 -- a table describes this cue, for a number of weights and of takes; without a bridge it is a plain cut, and without a
 -- target its target is the fade
@@ -42,8 +42,8 @@ pub record IsCue (weights takes : ℕ) (t : Members) (c : CueContent) : Type 0 w
   pub stop : Has t keys.Stop (number c.stop)
   pub bridge : Has t keys.Bridge (number c.bridge) ⊎ (Lacks t keys.Bridge × (c.bridge ≡ 0))
   pub target : Has t keys.Target (string (target_name c.target)) ⊎ (Lacks t keys.Target × (c.target ≡ Fade))
-  pub line : get_member (name_of keys.Line) t ≡ option_map numbers (ends_of c.target)
-  pub title : get_member (name_of keys.Title) t ≡ option_map string c.title
+  pub line : get_member (key_name keys.Line) t ≡ option_map numbers (line_ends c.target)
+  pub title : get_member (key_name keys.Title) t ≡ option_map string c.title
   pub limits : IsCueWithin weights takes c
 
 -- a table describes this splice: weights, the names of takes, and a table for each cue
@@ -64,8 +64,8 @@ SaysOptional P (Some d) (Some x) = (t : Members) × (d ≡ table t) × P t x
 -- a document describes this project: each of its two tables is there exactly if the project has it
 pub record IsProjectTable (t : Members) (p : ProjectContent) : Type 0 where
   pub no_others : FindsOnly top_keys t
-  pub decimate : SaysOptional IsDecimate (get_member (name_of keys.Decimate) t) p.decimate
-  pub splice : SaysOptional IsSplice (get_member (name_of keys.Splice) t) p.splice
+  pub decimate : SaysOptional IsDecimate (get_member (key_name keys.Decimate) t) p.decimate
+  pub splice : SaysOptional IsSplice (get_member (key_name keys.Splice) t) p.splice
 
 -- the bytes are a text that describes this project
 abbrev pub IsProject : List ℕ → ProjectContent → Type 0

@@ -5,13 +5,13 @@ use Rattle.toml.specs.Data.{Data, Items, Members, get_member, as_integer, as_str
 use Rattle.project_core.specs.declared.key.Key.{Key}
 use Rattle.project_core.specs.declared.fault.ProjectFault.{ProjectFault}
 use Rattle.project_core.specs.declared.fault.ProjectFault.TheVariants.{UnknownKey, MissingKey, WrongKind, OutOfLimit}
-use Rattle.project_core.specs.Keys.{name_of}
+use Rattle.project_core.specs.Keys.{key_name}
 use Rattle.project_core.specs.Steps.{◌>>=◌, each}
 use Rattle.project_core.specs.Tables.{has_only, list_of}
 
 -- the value at a key that the table must have
 unfoldable pub value_at : Key → Members → Result Data ProjectFault
-value_at key table = ok_or (get_member (name_of key) table) (MissingKey key)
+value_at key table = ok_or (get_member (key_name key) table) (MissingKey key)
 
 -- the integer that the value at a key is
 abbrev pub integer_of : Key → Data → Result ℤ ProjectFault

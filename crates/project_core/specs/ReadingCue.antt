@@ -8,14 +8,14 @@ use Rattle.splice_core.specs.declared.cue.Target.{Target}
 use Rattle.splice_core.specs.declared.cue.Target.TheVariants.{Fade, Line}
 use Rattle.project_core.specs.declared.fault.ProjectFault.{ProjectFault}
 use Rattle.project_core.specs.declared.fault.ProjectFault.TheVariants.{OutOfLimit, NoTake, ShortCue}
-use Rattle.project_core.specs.Keys.{name_of, cue_keys}
+use Rattle.project_core.specs.Keys.{key_name, cue_keys}
 use Rattle.splice_core.specs.Cues.{CueContent}
 use Rattle.project_core.specs.Steps.{◌>>=◌, optional}
 use Rattle.project_core.specs.Reading.{below, integer_of, integers_at, limited_at, table_of, text_of, value_at}
 
 -- the number of the cue's take, below the number of takes
-unfoldable pub take_at : ℕ → ℕ → Members → Result ℕ ProjectFault
-take_at number takes table = do
+unfoldable pub take_number_at : ℕ → ℕ → Members → Result ℕ ProjectFault
+take_number_at number takes table = do
   d ← value_at keys.Take table
   z ← integer_of keys.Take d
   ok_or (below takes z) (NoTake number)
@@ -29,7 +29,7 @@ bridge_of (Some d) = do
 
 -- the length of the cue's bridge
 unfoldable pub bridge_at : Members → Result ℕ ProjectFault
-bridge_at table = bridge_of (get_member (name_of keys.Bridge) table)
+bridge_at table = bridge_of (get_member (key_name keys.Bridge) table)
 
 -- the name of a target, that of the fade if it isn't given
 abbrev pub target_name_of : Option Data → Result (List ℕ) ProjectFault
@@ -38,7 +38,7 @@ target_name_of (Some d) = text_of keys.Target d
 
 -- the name of the cue's target
 unfoldable pub target_name_at : Members → Result (List ℕ) ProjectFault
-target_name_at table = target_name_of (get_member (name_of keys.Target) table)
+target_name_at table = target_name_of (get_member (key_name keys.Target) table)
 
 -- the fade, which has no ends
 abbrev pub fade_of : Option Data → Result Target ProjectFault
@@ -62,7 +62,7 @@ line_at table = do
 
 -- the fade, if nothing is given at `line`
 unfoldable pub fade_at : Members → Result Target ProjectFault
-fade_at table = fade_of (get_member (name_of keys.Line) table)
+fade_at table = fade_of (get_member (key_name keys.Line) table)
 
 -- the target of a name
 abbrev pub target_named : List ℕ → Members → Result Target ProjectFault
@@ -84,13 +84,13 @@ title_of d = do
 
 -- the cue's title, if it has one
 unfoldable pub title_at : Members → Result (Option (List ℕ)) ProjectFault
-title_at table = optional title_of (get_member (name_of keys.Title) table)
+title_at table = optional title_of (get_member (key_name keys.Title) table)
 
 -- the cue that a value describes, for a number of weights and of takes, under its number
 unfoldable pub cue_of : ℕ → ℕ → ℕ → Data → Result CueContent ProjectFault
 cue_of weights takes number d = do
   table ← table_of keys.Cue cue_keys d
-  take ← take_at number takes table
+  take ← take_number_at number takes table
   start ← limited_at keys.Start (2 ^ 36) table
   stop ← limited_at keys.Stop (2 ^ 36) table
   bridge ← bridge_at table

@@ -3,7 +3,7 @@ use Rattle.std.specs.Prelude.{Option, Some, None, Result, Ok, Err}
 use Rattle.toml.specs.Data.{Data}
 use Rattle.fir_core.specs.declared.fault.TapsFault.{TapsFault}
 use Rattle.fir_core.specs.Decimator.{Decimator}
-use Rattle.fir_core.specs.Faults.{first_fault}
+use Rattle.fir_core.specs.Faults.{broken_limit}
 use Rattle.project_core.specs.declared.key.Key.TheVariants as keys
 use Rattle.project_core.specs.declared.fault.ProjectFault.{ProjectFault}
 use Rattle.project_core.specs.Faults.{limit_fault}
@@ -25,4 +25,4 @@ decimate_of value = do
   delay ← unsigned_at keys.Delay table
   shift ← unsigned_at keys.Shift table
   width ← unsigned_at keys.Width table
-  let d : Decimator = record { taps = taps; factor = factor; delay = delay; shift = shift; width = width } in unless_broken (first_fault d) d
+  let d : Decimator = record { taps = taps; factor = factor; delay = delay; shift = shift; width = width } in unless_broken (broken_limit d) d

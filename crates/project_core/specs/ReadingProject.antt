@@ -6,7 +6,7 @@ use Rattle.fir_core.specs.Decimator.{Decimator}
 use Rattle.project_core.specs.declared.key.Key.TheVariants as keys
 use Rattle.project_core.specs.declared.fault.ProjectFault.{ProjectFault}
 use Rattle.project_core.specs.declared.fault.ProjectFault.TheVariants.{NotToml, UnknownKey}
-use Rattle.project_core.specs.Keys.{name_of, top_keys}
+use Rattle.project_core.specs.Keys.{key_name, top_keys}
 use Rattle.splice_core.specs.Splices.{SpliceContent}
 use Rattle.project_core.specs.Projects.{ProjectContent}
 use Rattle.project_core.specs.Steps.{◌>>=◌, optional}
@@ -20,11 +20,11 @@ document bytes = ok_or (table_in bytes) NotToml
 
 -- the decimator, if there is one
 unfoldable pub decimate_in : Members → Result (Option Decimator) ProjectFault
-decimate_in table = optional decimate_of (get_member (name_of keys.Decimate) table)
+decimate_in table = optional decimate_of (get_member (key_name keys.Decimate) table)
 
 -- the splice, if there is one
 unfoldable pub splice_in : Members → Result (Option SpliceContent) ProjectFault
-splice_in table = optional splice_of (get_member (name_of keys.Splice) table)
+splice_in table = optional splice_of (get_member (key_name keys.Splice) table)
 
 -- the project of a document
 unfoldable pub project_of : Members → Result ProjectContent ProjectFault

@@ -6,7 +6,7 @@ use Rattle.toml.specs.Data.{Data, string, integer, array, Items, no_items, item,
 use Rattle.toml.specs.Parse.{parse_document}
 use Rattle.toml.specs.View.{items_of}
 use Rattle.project_core.specs.declared.key.Key.{Key}
-use Rattle.project_core.specs.Keys.{name_of}
+use Rattle.project_core.specs.Keys.{key_name}
 
 -- the table that the bytes are in TOML
 abbrev pub table_in : List ℕ → Option Members
@@ -14,7 +14,7 @@ table_in bytes = if is_utf8 bytes then parse_document bytes else None
 
 -- the name is that of one of the keys
 unfoldable pub is_among : List Key → List ℕ → Bool
-is_among keys name = list_any (λ k. bytes_eq (name_of k) name) keys
+is_among keys name = list_any (λ k. bytes_eq (key_name k) name) keys
 
 -- each name that a look-up finds in the table is one of these keys
 abbrev pub FindsOnly : List Key → Members → Type 0
@@ -27,11 +27,11 @@ has_only keys (member name d rest) = is_among keys name && has_only keys rest
 
 -- the table has this value at the key
 abbrev pub Has : Members → Key → Data → Type 0
-Has t key d = get_member (name_of key) t ≡ Some d
+Has t key d = get_member (key_name key) t ≡ Some d
 
 -- the table has nothing at the key
 abbrev pub Lacks : Members → Key → Type 0
-Lacks t key = get_member (name_of key) t ≡ None
+Lacks t key = get_member (key_name key) t ≡ None
 
 -- a number with no sign as a value
 abbrev pub number : ℕ → Data

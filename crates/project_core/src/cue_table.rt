@@ -4,7 +4,7 @@ ghost use Rattle.std.specs.Prelude.{◌≡◌, ◌≤◌, option_map, string_byt
 ghost use Rattle.toml.specs.View.{view, table_view};
 ghost use Rattle.splice_core.specs.Cues.{cue_content};
 ghost use Rattle.project_core.specs.Steps.{Gives};
-ghost use Rattle.project_core.specs.ReadingCue.{bridge_at, cue_of, fade_at, is_end, line_at, line_of, take_at, target_at, target_name_at, title_at, title_of};
+ghost use Rattle.project_core.specs.ReadingCue.{bridge_at, cue_of, fade_at, is_end, line_at, line_of, take_number_at, target_at, target_name_at, title_at, title_of};
 
 use crate::fault::ProjectFault;
 use crate::key::Key;
@@ -48,7 +48,7 @@ pub(crate) fn cue_of(
     ensures { Gives cue_content result (cue_of weights takes number (view value.now)) }
 {
     let table = table_of(value, Key::Cue, &KEYS)?;
-    let take = take_at(table, number, takes)?;
+    let take = take_number_at(table, number, takes)?;
     let start = limited_at(table, Key::Start, MAX_PLACE)?;
     let stop = limited_at(table, Key::Stop, MAX_PLACE)?;
     let bridge = bridge_at(table)?;
@@ -68,9 +68,9 @@ pub(crate) fn cue_of(
 }
 
 // The number of the cue's take, below the number of takes.
-#[tactic(auto, unfolding(crate::specs::ReadingCue::take_at))]
-fn take_at(table: &Table, number: usize, takes: usize) -> Result<usize, ProjectFault>
-    ensures { Gives (λ n. n) result (take_at number takes (table_view table.now)) }
+#[tactic(auto, unfolding(crate::specs::ReadingCue::take_number_at))]
+fn take_number_at(table: &Table, number: usize, takes: usize) -> Result<usize, ProjectFault>
+    ensures { Gives (λ n. n) result (take_number_at number takes (table_view table.now)) }
 {
     let integer = integer_of(value_at(table, Key::Take)?, Key::Take)?;
     below(integer, takes).ok_or(ProjectFault::NoTake(number))

@@ -1,7 +1,7 @@
 //! The keys of a project text.
 
 ghost use Rattle.std.specs.Prelude.{◌≡◌};
-ghost use Rattle.project_core.specs.Keys.{name_of};
+ghost use Rattle.project_core.specs.Keys.{key_name};
 
 use std::fmt;
 
@@ -46,9 +46,9 @@ pub enum Key {
 
 impl Key {
     /// The key as it is spelled in a text.
-    #[tactic(auto, unfolding(crate::specs::Keys::name_of))]
+    #[tactic(auto, unfolding(crate::specs::Keys::key_name))]
     pub fn name(self) -> &'static str
-        ensures { result.now ≡ name_of self }
+        ensures { result.now ≡ key_name self }
     {
         match self {
             Key::Decimate => "decimate",
@@ -75,7 +75,7 @@ impl Key {
 impl fmt::Display for Key {
     ghost use Rattle.std.specs.Prelude.{Some};
 
-    ghost output = { λ key. Some (name_of key) };
+    ghost output = { λ key. Some (key_name key) };
 
     fn fmt<W: fmt::Write>(&self, f: &mut fmt::Formatter<W>) -> fmt::Result {
         f.write_str(self.name())

@@ -3,7 +3,7 @@
 ghost use Rattle.std.specs.Prelude.{◌≡◌, ◌≤◌, ◌<◌, ◌^◌, IfOk, option_map, map, string_bytes};
 ghost use Rattle.toml.specs.Data.{get_member};
 ghost use Rattle.toml.specs.View.{view, table_view, items_view};
-ghost use Rattle.project_core.specs.Keys.{name_of};
+ghost use Rattle.project_core.specs.Keys.{key_name};
 ghost use Rattle.project_core.specs.Steps.{Gives};
 ghost use Rattle.project_core.specs.Tables.{has_only, is_among, list_of};
 ghost use Rattle.project_core.specs.Reading.{below, integer_of, integers_at, integers_of, limited_at, narrow, signed_of, table_of, text_of, texts_at, texts_of, unsigned_at, value_at};
@@ -15,7 +15,7 @@ use toml::{Table, Value};
 
 /// The value at a key, if there is one.
 pub(crate) fn find(table: &Table, key: Key) -> Option<&Value>
-    ensures { option_map (λ v. view v.now) result ≡ get_member (name_of key) (table_view table.now) }
+    ensures { option_map (λ v. view v.now) result ≡ get_member (key_name key) (table_view table.now) }
 {
     table.get(key.name())
 }

@@ -19,7 +19,7 @@ use Rattle.dsdiff_core.specs.declared.fault.DsdiffFault.{DsdiffFault}
 use Rattle.dsdiff_core.specs.declared.fault.DsdiffFault.TheVariants as dsdiff_faults
 use Rattle.dsdiff_core.specs.Fields.{form_size}
 use Rattle.dsdiff_core.specs.Fronts as dsdiff
-use Rattle.dsdiff_core.specs.Located.{EndsAtHead, sound_size}
+use Rattle.dsdiff_core.specs.Located.{EndsAtHead, stated_size}
 use Rattle.dsdiff_core.specs.Reading.{recording_of}
 use Rattle.dsdiff_core.specs.Steps.{Fails}
 use Rattle.dsdiff_core.proofs.CutLaws.{form_is_read}
@@ -30,12 +30,12 @@ use Rattle.form_core.specs.Faults.{dsdiff_fault}
 use Rattle.form_core.specs.Opening.{opened_of}
 use Rattle.form_core.specs.declared.fault.ReadFault.{ReadFault}
 use Rattle.dsdiff_core.specs.Outlines as frames
-use Rattle.dsf_core.specs.Fields.{needed, tag_told}
+use Rattle.dsf_core.specs.Fields.{needed, stated_tag}
 use Rattle.dsf_core.specs.Files.{IsDsf}
 use Rattle.dsf_core.specs.Fronts as dsf
 use Rattle.dsf_core.proofs.FrontLaws.{found_leads}
-use Rattle.sound_core.specs.Files.{EndsAt, HoldsRecording, IsRefused, TellsSound}
-use Rattle.sound_core.specs.Outlines.{AreTold, HoldsIn, KeepsBehind, IsOutlineFault, IsRestFault, IsTagFault, ReadsTag, StandsIn, Surroundings, Surrounds, with_sound}
+use Rattle.sound_core.specs.Files.{EndsAt, HoldsRecording, IsRefused, StatesSound}
+use Rattle.sound_core.specs.Outlines.{AreStated, HoldsIn, KeepsBehind, IsOutlineFault, IsRestFault, IsTagFault, ReadsTag, IsPlacedIn, Surroundings, Surrounds, with_sound}
 use Rattle.sound_core.specs.Naming.{IsNamed, IsRestNamed, IsSure, NamesFault, is_memory}
 use Rattle.sound_core.specs.Readers.{FallsShort, IsPassFault, Passes}
 use Rattle.sound_core.specs.Reads.{Reads}
@@ -60,7 +60,7 @@ module _ (head : List ℕ) (s : Sound) (at : EndsAt head s) (order : BitOrder) (
 
   module _ (place gap : ℕ) (tag : List ℕ) (tag_place : dsf.IsTagPlace head place) (none : place ≡ 0 → tag ≡ []) (at_place : place ≢ 0 → length head + s.size + gap ≡ place) where
     -- the tag behind a gap is that of the file
-    own_tag : (sound passed : List ℕ) → length sound ≡ s.size → length passed ≡ gap → tag ≡ tag_told (head ++ (sound ++ (passed ++ tag)))
+    own_tag : (sound passed : List ℕ) → length sound ≡ s.size → length passed ≡ gap → tag ≡ stated_tag (head ++ (sound ++ (passed ++ tag)))
     own_tag sound passed long gap_long = elim (cases_lt 0 place) [
       | inl some ↦ (
           let differs : place ≢ 0 = λ zero. omega (arith, some, zero) in
@@ -84,7 +84,7 @@ module _ (head : List ℕ) (s : Sound) (at : EndsAt head s) (order : BitOrder) (
       abbrev around : Surroundings
       around = record { sound = s; head = head; gap = gap; back = tag; ends = true; recording = recording }
 
-      blocks_told : AreTold around
+      blocks_told : AreStated around
       blocks_told = record {
         tells = tells_at head s at;
         start = at.start;
@@ -93,7 +93,7 @@ module _ (head : List ℕ) (s : Sound) (at : EndsAt head s) (order : BitOrder) (
         silent = outline.no_bits s (leads head s at order told);
         keeps = λ file sound stands.
             let is : head ++ (sound ++ (stands.gap ++ tag)) ≡ file = sym (stands.file_is ∙ ap (λ xs. head ++ (sound ++ (stands.gap ++ xs))) (ap (λ xs. tag ++ xs) (stands.ended refl) ∙ append-nil tag)) in
-            subst (λ i. KeepsBehind i around file) (sym told) (own_tag sound stands.gap stands.sound_long stands.gap_long ∙ ap tag_told is, refl);
+            subst (λ i. KeepsBehind i around file) (sym told) (own_tag sound stands.gap stands.sound_long stands.gap_long ∙ ap stated_tag is, refl);
         holds = λ file sound stands.
             let rest = sound ++ (stands.gap ++ tag) in
             let ended : stands.gap ++ (tag ++ stands.rest) ≡ stands.gap ++ tag = ap (λ xs. stands.gap ++ xs) (ap (λ xs. tag ++ xs) (stands.ended refl) ∙ append-nil tag) in
@@ -159,7 +159,7 @@ module _ (head : List ℕ) (s : Sound) (at : EndsAt head s) (order : BitOrder) (
   tag_fault left place stop back Memory tag_place stop_is h = tt
 
   pub blocks_refused : {R : Type 0} (left : R → Option (List ℕ)) (i j : Inlet R) (place gap total stop : ℕ) (back tag : List ℕ) → (read : ReadsTag left i j place stop back tag gap) → total ≡ length head + s.size + length back + length read.read
-      → dsf.TellsOutline head total tag None → IsRestFault (left (inlet_reader i)) s head back FileRefused
+      → dsf.StatesOutline head total tag None → IsRestFault (left (inlet_reader i)) s head back FileRefused
   blocks_refused left i j place gap total stop back tag read size refused = by (left (inlet_reader i)) refl
     where
       by : (o : Option (List ℕ)) → left (inlet_reader i) ≡ o → IsRestFault o s head back FileRefused
@@ -190,10 +190,10 @@ pub record IsBehind (head : List ℕ) (size : ℕ) (all back : List ℕ) (ends :
   pub rest : List ℕ
   pub parts : all ≡ back ++ rest
   pub shorter : ends ≡ true → (rest ≡ []) × IsAtEnd new
-  pub whole : ends ≡ false → length back ≡ dsdiff.left_behind head size
-  pub less : ends ≡ true → length back < dsdiff.left_behind head size
+  pub whole : ends ≡ false → length back ≡ dsdiff.left_after head size
+  pub less : ends ≡ true → length back < dsdiff.left_after head size
 
-pub is_behind : (head : List ℕ) (size : ℕ) (all back : List ℕ) (ends : Bool) (new : Option (List ℕ)) (wanted : ℕ) → wanted ≡ dsdiff.left_behind head size → (wanted ≤ length all) ⊎ IsAtEnd new
+pub is_behind : (head : List ℕ) (size : ℕ) (all back : List ℕ) (ends : Bool) (new : Option (List ℕ)) (wanted : ℕ) → wanted ≡ dsdiff.left_after head size → (wanted ≤ length all) ⊎ IsAtEnd new
     → ends ≡ nat_lt (length all) wanted → back ≡ take (min (length all) wanted) all → IsBehind head size all back ends new
 is_behind head size all back ends new wanted left enough short cut = record {
   rest = drop (min (length all) wanted) all;
@@ -211,7 +211,7 @@ is_behind head size all back ends new wanted left enough short cut = record {
 
 module _ (head : List ℕ) (s : Sound) (at : EndsAt head s) (told : s.interleaving ≡ Bytes) (is_sound : IsSound s) (whole_bytes : s.count % 8 ≡ 0) where
   -- with what follows a whole form, or nothing, a file holds what it holds without
-  followed : (sound back rest : List ℕ) (ends : Bool) (r : Content) → length sound ≡ s.size → (ends ≡ true → rest ≡ []) → (ends ≡ false → dsdiff.left_behind head s.size ≤ length back)
+  followed : (sound back rest : List ℕ) (ends : Bool) (r : Content) → length sound ≡ s.size → (ends ≡ true → rest ≡ []) → (ends ≡ false → dsdiff.left_after head s.size ≤ length back)
       → IsDsdiff (head ++ (sound ++ back)) r ↔ IsDsdiff (head ++ (sound ++ (back ++ rest))) r
   followed sound back rest false r long none enough = same_form head s at told sound back rest r long (enough refl)
   followed sound back rest true r long none enough =
@@ -219,21 +219,21 @@ module _ (head : List ℕ) (s : Sound) (at : EndsAt head s) (told : s.interleavi
       (λ is. subst (λ xs. IsDsdiff (head ++ (sound ++ xs)) r) (sym same) is, λ is. subst (λ xs. IsDsdiff (head ++ (sound ++ xs)) r) same is)
 
   -- where nothing but this is kept of the bytes behind the sound
-  kept_behind : (back rest : List ℕ) (ends : Bool) → (ends ≡ false → length back ≡ dsdiff.left_behind head s.size) → (ends ≡ true → length back < dsdiff.left_behind head s.size) → (ends ≡ true → rest ≡ [])
-      → (back ≡ take (dsdiff.left_behind head s.size) (back ++ rest)) × (ends ≡ nat_lt (length (back ++ rest)) (dsdiff.left_behind head s.size))
+  kept_behind : (back rest : List ℕ) (ends : Bool) → (ends ≡ false → length back ≡ dsdiff.left_after head s.size) → (ends ≡ true → length back < dsdiff.left_after head s.size) → (ends ≡ true → rest ≡ [])
+      → (back ≡ take (dsdiff.left_after head s.size) (back ++ rest)) × (ends ≡ nat_lt (length (back ++ rest)) (dsdiff.left_after head s.size))
   kept_behind back rest false exact less none =
-      let n = dsdiff.left_behind head s.size in
+      let n = dsdiff.left_after head s.size in
       (sym (ap (λ m. take m (back ++ rest)) (sym (exact refl)) ∙ take-append_seam back rest), sym (le-ltb (length (back ++ rest)) n (omega (arith, exact refl, length-append back rest))))
   kept_behind back rest true exact less none =
-      let n = dsdiff.left_behind head s.size in
+      let n = dsdiff.left_after head s.size in
       let same : back ++ rest ≡ back = ap (λ xs. back ++ xs) (none refl) ∙ append-nil back in
       (sym (ap (take n) same ∙ take_all n back (omega (arith, less refl))), sym (lt-ltb (length (back ++ rest)) n (omega (arith, less refl, ap length same))))
 
-  module _ (back : List ℕ) (ends : Bool) (exact : ends ≡ false → length back ≡ dsdiff.left_behind head s.size) (less : ends ≡ true → length back < dsdiff.left_behind head s.size) (recording : Content) (outline : frames.TellsOutline head s back (Some recording)) where
+  module _ (back : List ℕ) (ends : Bool) (exact : ends ≡ false → length back ≡ dsdiff.left_after head s.size) (less : ends ≡ true → length back < dsdiff.left_after head s.size) (recording : Content) (outline : frames.StatesOutline head s back (Some recording)) where
     abbrev own : Surroundings
     own = record { sound = s; head = head; gap = 0; back = back; ends = ends; recording = recording }
 
-    frames_told : AreTold own
+    frames_told : AreStated own
     frames_told = record {
       tells = tells_at head s at;
       start = at.start;
@@ -259,7 +259,7 @@ module _ (head : List ℕ) (s : Sound) (at : EndsAt head s) (told : s.interleavi
         in_order (Blocks order) is file sound h = absurd cc
 
   pub frames_around : {R : Type 0} (left : R → Option (List ℕ)) (i j : Inlet R) (old all back read : List ℕ) (ends : Bool) (recording : Content) → Reads left i j read → all ≡ old ++ read → IsBehind head s.size all back ends (left (inlet_reader j))
-      → frames.TellsOutline head s back (Some recording) → Surrounds left i j old (record { sound = s; head = head; gap = 0; back = back; ends = ends; recording = recording })
+      → frames.StatesOutline head s back (Some recording) → Surrounds left i j old (record { sound = s; head = head; gap = 0; back = back; ends = ends; recording = recording })
   frames_around left i j old all back read ends recording reads is behind outline = record {
     read = read;
     reads = reads;
@@ -283,7 +283,7 @@ module _ (head : List ℕ) (s : Sound) (at : EndsAt head s) (told : s.interleavi
   }
 
   pub frames_refused : {R : Type 0} (left : R → Option (List ℕ)) (i j : Inlet R) (old all back read : List ℕ) (ends : Bool) → Reads left i j read → all ≡ old ++ read → IsBehind head s.size all back ends (left (inlet_reader j))
-      → frames.TellsOutline head s back None → IsRestFault (left (inlet_reader i)) s head old FileRefused
+      → frames.StatesOutline head s back None → IsRestFault (left (inlet_reader i)) s head old FileRefused
   frames_refused left i j old all back read ends reads is behind refused = by (left (inlet_reader i)) refl
     where
       by : (o : Option (List ℕ)) → left (inlet_reader i) ≡ o → IsRestFault o s head old FileRefused
@@ -302,7 +302,7 @@ module _ (head : List ℕ) (s : Sound) (at : EndsAt head s) (told : s.interleavi
 
   -- the fault of what stands around the sound is that of all that is known
   pub frames_named : (new : Option (List ℕ)) (old all back read : List ℕ) (ends : Bool) (e : DsdiffFault) → all ≡ old ++ read → IsBehind head s.size all back ends new → e ≢ dsdiff_faults.Memory
-      → ((sound : List ℕ) → length sound ≡ sound_size head → Fails e (recording_of (head ++ (sound ++ back)))) → (sound : List ℕ) → length sound ≡ s.size → IsSure new (head ++ (sound ++ (old ++ read))) (dsdiff_fault e)
+      → ((sound : List ℕ) → length sound ≡ stated_size head → Fails e (recording_of (head ++ (sound ++ back)))) → (sound : List ℕ) → length sound ≡ s.size → IsSure new (head ++ (sound ++ (old ++ read))) (dsdiff_fault e)
   frames_named new old all back read final e is behind some fails sound long = by final refl
     where
       h : EndsAtHead head
@@ -342,7 +342,7 @@ module _ (head : List ℕ) (s : Sound) (at : EndsAt head s) (told : s.interleavi
           subst (λ f. opened_of f ≡ Err (dsdiff_fault e)) (sym file_is) (named (sound ++ (back ++ more)) same))
 
 -- ---- the whole file, of which the front was read, and then the sound passed
-module _ {R : Type 0} (left : R → Option (List ℕ)) (i j : Inlet R) (front head ahead : List ℕ) (s : Sound) (reads : Reads left i j front) (tells : TellsSound front s) (head_is : head ≡ take s.start front) (ahead_is : ahead ≡ drop s.start front) where
+module _ {R : Type 0} (left : R → Option (List ℕ)) (i j : Inlet R) (front head ahead : List ℕ) (s : Sound) (reads : Reads left i j front) (tells : StatesSound front s) (head_is : head ≡ take s.start front) (ahead_is : ahead ≡ drop s.start front) where
   front_is : front ≡ head ++ ahead
   front_is = sym (take-append-drop s.start front) ∙ ap₂ (λ xs ys. xs ++ ys) (sym head_is) (sym ahead_is)
 
@@ -474,16 +474,16 @@ module _ {R : Type 0} (left : R → Option (List ℕ)) (i j : Inlet R) (front he
       long = passes.long ∙ ap (λ (t : Sound). t.size) (sym sound_is)
 
       -- what was read is that sound in the surroundings
-      pub given_stands : Reads left i l (front ++ (passes.read ++ surrounds.read)) × StandsIn o (front ++ (passes.read ++ surrounds.read)) passes.passed
+      pub given_stands : Reads left i l (front ++ (passes.read ++ surrounds.read)) × IsPlacedIn o (front ++ (passes.read ++ surrounds.read)) passes.passed
       given_stands = (
         reads_on left i j l front (passes.read ++ surrounds.read) reads (reads_on left j k l passes.read surrounds.read passes.reads surrounds.reads),
-        subst (λ f. StandsIn o f passes.passed) (ap (λ xs. xs ++ (passes.passed ++ (back ++ surrounds.read))) own_head ∙ sym (read_is surrounds.read)) (surrounds.given passes.passed long),
+        subst (λ f. IsPlacedIn o f passes.passed) (ap (λ xs. xs ++ (passes.passed ++ (back ++ surrounds.read))) own_head ∙ sym (read_is surrounds.read)) (surrounds.given passes.passed long),
       )
 
       -- and so is the file
-      pub file_stands : (xs : List ℕ) → left (inlet_reader i) ≡ Some xs → StandsIn o xs passes.passed
+      pub file_stands : (xs : List ℕ) → left (inlet_reader i) ≡ Some xs → IsPlacedIn o xs passes.passed
       file_stands xs known =
           let ys = parted xs known in
           let zs = left_is left k l surrounds.read surrounds.reads ys.0 ys.1 in
           let is : o.head ++ (passes.passed ++ (back ++ (surrounds.read ++ zs.0))) ≡ xs = ap (λ us. us ++ (passes.passed ++ (back ++ (surrounds.read ++ zs.0)))) own_head ∙ ap (λ us. head ++ (passes.passed ++ (back ++ us))) (sym zs.2) ∙ sym ys.2 in
-          subst (λ f. StandsIn o f passes.passed) is (surrounds.stands passes.passed zs.0 long zs.1)
+          subst (λ f. IsPlacedIn o f passes.passed) is (surrounds.stands passes.passed zs.0 long zs.1)

@@ -22,11 +22,11 @@ use Rattle.dsdiff_core.proofs.WalkLaws as form_walk
 use Rattle.dsf_core.specs.Fronts as dsf
 use Rattle.dsf_core.proofs.FrontLaws as blocks
 use Rattle.dsf_core.proofs.FrontLaws.{found_leads}
-use Rattle.sound_core.specs.Files.{EndsAt, LeadsTo, TellsSound}
+use Rattle.sound_core.specs.Files.{EndsAt, StatesSoundAs, StatesSound}
 use Rattle.sound_core.proofs.HeadLaws.{IsFound, found_told, told_found}
 
 -- ---- the head, up to the sound
-pub ends_at : (front : List ℕ) (s : Sound) → TellsSound front s → EndsAt (take s.start front) s
+pub ends_at : (front : List ℕ) (s : Sound) → StatesSound front s → EndsAt (take s.start front) s
 ends_at front s tells = record { leads = found_told s.interleaving (take s.start front) s (by s.interleaving (told_found s.interleaving front s tells.leads)); start = sym (length-take-le s.start front tells.within) }
   where
     by : (o : Interleaving) → IsFound o front s → IsFound o (take s.start front) s
@@ -53,7 +53,7 @@ no_order (Blocks order) none = absurd cc
 -- ---- a DSF file
 module _ (head : List ℕ) (s : Sound) (at : EndsAt head s) (order : BitOrder) (told : s.interleaving ≡ Blocks order) where
   pub leads : dsf.sound_at head ≡ Found s
-  leads = told_found (Blocks order) head s (subst (λ o. LeadsTo o head s) told at.leads)
+  leads = told_found (Blocks order) head s (subst (λ o. StatesSoundAs o head s) told at.leads)
 
   pub ends : dsf.EndsAtSound head
   ends = (s, leads, at.start)
@@ -68,7 +68,7 @@ module _ (head : List ℕ) (s : Sound) (at : EndsAt head s) (order : BitOrder) (
 -- ---- a DSDIFF file
 module _ (head : List ℕ) (s : Sound) (at : EndsAt head s) (told : s.interleaving ≡ Bytes) where
   pub found : dsdiff.sound_at head ≡ Found s
-  found = told_found Bytes head s (subst (λ o. LeadsTo o head s) told at.leads)
+  found = told_found Bytes head s (subst (λ o. StatesSoundAs o head s) told at.leads)
 
   pub form_ends_at : dsdiff.EndsAt head s
   form_ends_at = record { found = found; start = at.start }
@@ -76,7 +76,7 @@ module _ (head : List ℕ) (s : Sound) (at : EndsAt head s) (told : s.interleavi
   joined : (sound back rest : List ℕ) → (head ++ (sound ++ back)) ++ rest ≡ head ++ (sound ++ (back ++ rest))
   joined sound back rest = append_assoc head (sound ++ back) rest ∙ ap (λ xs. head ++ xs) (append_assoc sound back rest)
 
-  pub same_form : (sound back rest : List ℕ) (r : Content) → length sound ≡ s.size → dsdiff.left_behind head s.size ≤ length back → IsDsdiff (head ++ (sound ++ back)) r ↔ IsDsdiff (head ++ (sound ++ (back ++ rest))) r
+  pub same_form : (sound back rest : List ℕ) (r : Content) → length sound ≡ s.size → dsdiff.left_after head s.size ≤ length back → IsDsdiff (head ++ (sound ++ back)) r ↔ IsDsdiff (head ++ (sound ++ (back ++ rest))) r
   same_form sound back rest r long enough =
       let file = head ++ (sound ++ back) in
       let least : 28 ≤ length head = form_walk.long head (ends_at_head head s form_ends_at).0 in

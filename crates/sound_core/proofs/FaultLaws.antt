@@ -1,7 +1,7 @@
 -- What holds of each fault of a kind; faults of a stage are faults of the whole.
 use Rattle.std.proofs.Common.{◌≡◌, ◌≢◌, ◌-◌, ◌<◌, ℕ, inl, inr, arith, List, Option, None, Some, Result, Ok, Err, IfErr, IsErrAnd, IsErrOf, refl, subst}
 use Rattle.sound_core.specs.Faults.{IsReadingFault, IsSinkFault, IsWritingFault, failed_reads}
-use Rattle.sound_core.specs.Files.{IsFrontFault}
+use Rattle.sound_core.specs.Files.{IsHeaderFault}
 use Rattle.sound_core.specs.Outlines.{IsOutlineFault, IsTagFault}
 use Rattle.sound_core.specs.Readers.{IsPassFault}
 use Rattle.sound_core.specs.declared.fault.StreamFault.{StreamFault}
@@ -41,8 +41,8 @@ pub memory_no_turn : {X Q : Type 0} → IsErrOf {T = X} (Err Memory) TurnLimit �
 memory_no_turn turn = absurd (subst (λ r. IfErr r IsWritingFault) turn tt)
 
 -- ---- stages
-pub reading_in_front : (left : Option (List ℕ)) (f : StreamFault) → IsReadingFault f → IsFrontFault left f
-reading_in_front left f h = by_reading (IsFrontFault left) tt tt tt f h
+pub reading_in_front : (left : Option (List ℕ)) (f : StreamFault) → IsReadingFault f → IsHeaderFault left f
+reading_in_front left f h = by_reading (IsHeaderFault left) tt tt tt f h
 
 pub reading_in_pass : (left : Option (List ℕ)) (n : ℕ) (ahead : List ℕ) (f : StreamFault) → IsReadingFault f → IsPassFault left n ahead f
 reading_in_pass left n ahead f h = by_reading (IsPassFault left n ahead) tt tt tt f h
@@ -66,7 +66,7 @@ pub early_tag : (left : Option (List ℕ)) (place stop : ℕ) (back : List ℕ) 
 early_tag None place stop back some early = tt
 early_tag (Some xs) place stop back some early = (some, inl early)
 
-pub front_in_outline : (left : Option (List ℕ)) (f : StreamFault) → IsFrontFault left f → IsOutlineFault left f
+pub front_in_outline : (left : Option (List ℕ)) (f : StreamFault) → IsHeaderFault left f → IsOutlineFault left f
 front_in_outline left FileRefused h = h
 front_in_outline left RateNotDivided h = absurd h
 front_in_outline left TooLarge h = absurd h

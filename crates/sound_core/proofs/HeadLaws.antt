@@ -18,7 +18,7 @@ use Rattle.dsdiff_core.proofs.ToldLaws as form_told
 use Rattle.dsf_core.specs.Files.{IsDsf}
 use Rattle.dsf_core.specs.Fronts as dsf
 use Rattle.dsf_core.proofs.ToldLaws as blocks_told
-use Rattle.sound_core.specs.Files.{IsRefused, LeadsTo, TellsSound}
+use Rattle.sound_core.specs.Files.{IsRefused, StatesSoundAs, StatesSound}
 
 -- ---- a DSF file is no DSDIFF file
 -- a form begins otherwise
@@ -59,11 +59,11 @@ abbrev pub IsFound : Interleaving → List ℕ → Sound → Type 0
 IsFound Bytes front s = dsdiff.sound_at front ≡ Found s
 IsFound (Blocks order) front s = dsf.sound_at front ≡ Found s
 
-pub told_found : (o : Interleaving) (front : List ℕ) (s : Sound) → LeadsTo o front s → IsFound o front s
+pub told_found : (o : Interleaving) (front : List ℕ) (s : Sound) → StatesSoundAs o front s → IsFound o front s
 told_found Bytes front s leads = (form_told.found_is_told front s).1 leads
 told_found (Blocks order) front s leads = (blocks_told.found_is_told front s).1 leads
 
-pub found_told : (o : Interleaving) (front : List ℕ) (s : Sound) → IsFound o front s → LeadsTo o front s
+pub found_told : (o : Interleaving) (front : List ℕ) (s : Sound) → IsFound o front s → StatesSoundAs o front s
 found_told Bytes front s found = (form_told.found_is_told front s).0 found
 found_told (Blocks order) front s found = (blocks_told.found_is_told front s).0 found
 
@@ -75,15 +75,15 @@ not_refused Refused P other = absurd (other refl)
 
 module _ (front : List ℕ) (x : SoundAt) (is : x ≡ dsdiff.sound_at front) where
   pub dsdiff_found : IfFound x (λ s. (rest : List ℕ) (r : Content) → IsDsdiff (front ++ rest) r → HasSound (front ++ rest) r s)
-      → IfFound x (λ s. IsSound s × (s.interleaving ≡ Bytes) × (s.count % 8 ≡ 0)) → IfFound x (λ s. s.start ≤ length front) → IfFound x (TellsSound front)
+      → IfFound x (λ s. IsSound s × (s.interleaving ≡ Bytes) × (s.count % 8 ≡ 0)) → IfFound x (λ s. s.start ≤ length front) → IfFound x (StatesSound front)
   dsdiff_found has limits within = by x is has limits within
     where
       by : (x : SoundAt) → x ≡ dsdiff.sound_at front → IfFound x (λ s. (rest : List ℕ) (r : Content) → IsDsdiff (front ++ rest) r → HasSound (front ++ rest) r s)
-          → IfFound x (λ s. IsSound s × (s.interleaving ≡ Bytes) × (s.count % 8 ≡ 0)) → IfFound x (λ s. s.start ≤ length front) → IfFound x (TellsSound front)
+          → IfFound x (λ s. IsSound s × (s.interleaving ≡ Bytes) × (s.count % 8 ≡ 0)) → IfFound x (λ s. s.start ≤ length front) → IfFound x (StatesSound front)
       by More is has limits within = tt
       by Refused is has limits within = tt
       by (Found s) is has limits within = record {
-        leads = subst (λ o. LeadsTo o front s) (sym limits.1) (found_told Bytes front s (sym is));
+        leads = subst (λ o. StatesSoundAs o front s) (sym limits.1) (found_told Bytes front s (sym is));
         is_sound = limits.0;
         whole = λ _. limits.2;
         within = within;
@@ -107,10 +107,10 @@ module _ (front : List ℕ) (x : SoundAt) (is : x ≡ dsdiff.sound_at front) whe
 -- ---- by the DSF reading, where the DSDIFF reading refuses
 module _ (front : List ℕ) (no_form : (rest : List ℕ) → dsdiff.IsAccepted (front ++ rest) → ⊥) (x : SoundAt) (is : x ≡ dsf.sound_at front) where
   pub dsf_found : IfFound x (λ s. (rest : List ℕ) (r : Content) (order : BitOrder) → IsDsf (front ++ rest) r order → HasSound (front ++ rest) r s × (s.interleaving ≡ Blocks order))
-      → IfFound x IsSound → IfFound x (λ s. s.start ≤ length front) → IfFound x (λ s. has_blocks s.interleaving ≡ true) → IfFound x (TellsSound front)
+      → IfFound x IsSound → IfFound x (λ s. s.start ≤ length front) → IfFound x (λ s. has_blocks s.interleaving ≡ true) → IfFound x (StatesSound front)
   dsf_found has limits within order = by x is has limits within order
     where
-      leads : (o : Interleaving) (s : Sound) → has_blocks o ≡ true → dsf.sound_at front ≡ Found s → LeadsTo o front s
+      leads : (o : Interleaving) (s : Sound) → has_blocks o ≡ true → dsf.sound_at front ≡ Found s → StatesSoundAs o front s
       leads Bytes s some e = absurd cc
       leads (Blocks order) s some e = found_told (Blocks order) front s e
 
@@ -119,7 +119,7 @@ module _ (front : List ℕ) (no_form : (rest : List ℕ) → dsdiff.IsAccepted (
       not_bytes (Blocks order) some e = absurd cc
 
       by : (x : SoundAt) → x ≡ dsf.sound_at front → IfFound x (λ s. (rest : List ℕ) (r : Content) (order : BitOrder) → IsDsf (front ++ rest) r order → HasSound (front ++ rest) r s × (s.interleaving ≡ Blocks order))
-          → IfFound x IsSound → IfFound x (λ s. s.start ≤ length front) → IfFound x (λ s. has_blocks s.interleaving ≡ true) → IfFound x (TellsSound front)
+          → IfFound x IsSound → IfFound x (λ s. s.start ≤ length front) → IfFound x (λ s. has_blocks s.interleaving ≡ true) → IfFound x (StatesSound front)
       by More is has limits within order = tt
       by Refused is has limits within order = tt
       by (Found s) is has limits within order = record {

@@ -13,7 +13,7 @@ use Rattle.dsd_bits.specs.Lacing.{laced_bit, unlaced}
 use Rattle.dsd_bits.specs.Shape.{HasShape}
 use Rattle.dsd_bits.specs.Sounds.{sound_channels, sound_size}
 use Rattle.dsd_bits.specs.Stretches.{silent}
-use Rattle.sound_core.specs.Outlines.{AreTold, StandsIn, around_of, with_sound}
+use Rattle.sound_core.specs.Outlines.{AreStated, IsPlacedIn, around_of, with_sound}
 use Rattle.sound_core.specs.declared.outline.Outline.{Outline}
 use Rattle.sound_core.proofs.KeeperLaws.{channel_bits}
 
@@ -39,7 +39,7 @@ channels_level : (interleaving : Interleaving) (channels count : ℕ) (bytes : L
 channels_level Bytes channels count bytes some = level_of (unlaced bytes channels) (8 * (length bytes / channels)) channels some (λ c. length-map-range_with_len (laced_bit bytes channels c) 0 (8 * (length bytes / channels)))
 channels_level (Blocks order) channels count bytes some = level_of (unblocked order bytes channels count) count channels some (λ c. length-map-range_with_len (block_bit order bytes channels c) 0 count)
 
-module _ (outline : Outline) (shape : HasShape outline.recording) (told : AreTold (around_of outline)) (file sound : List ℕ) (stands : StandsIn (around_of outline) file sound) where
+module _ (outline : Outline) (shape : HasShape outline.recording) (told : AreStated (around_of outline)) (file sound : List ℕ) (stands : IsPlacedIn (around_of outline) file sound) where
   abbrev pub held : Content
   held = with_sound outline.recording outline.sound sound
 

@@ -10,9 +10,9 @@ use Rattle.dsd_bits.specs.declared.sound.Sound.{Sound}
 use Rattle.dsd_bits.specs.Blocks.{block_bit, unblocked}
 use Rattle.dsd_bits.specs.Lacing.{unlaced}
 use Rattle.dsd_bits.specs.Sounds.{IsSound, sound_channels, sound_size}
-use Rattle.relace_core.proofs.GroupLaws.{size_on}
-use Rattle.relace_core.proofs.JoinLaws.{Appended, taken}
-use Rattle.relace_core.proofs.TakenLaws.{channel_long}
+use Rattle.interleave_core.proofs.GroupLaws.{size_on}
+use Rattle.interleave_core.proofs.JoinLaws.{Appended, taken}
+use Rattle.interleave_core.proofs.TakenLaws.{channel_long}
 use Rattle.sound_core.specs.Keepers.{Keeps}
 use Rattle.sound_core.specs.declared.part.SoundPart.{SoundPart}
 use Rattle.dsd_bits.specs.Stretches.{stretch_of, stretches_of}

@@ -41,7 +41,7 @@ use Rattle.form_core.specs.Opening.{from_dsdiff, is_other, opened_of}
 use Rattle.form_core.specs.declared.fault.ReadFault.{ReadFault}
 use Rattle.form_core.specs.declared.fault.ReadFault.TheVariants.{UnknownForm}
 use Rattle.form_core.specs.declared.opening.Opened.{Opened}
-use Rattle.sound_core.specs.Files.{EndsAt, HoldsRecording, IsBeforeSound, IsRefused, TellsSound}
+use Rattle.sound_core.specs.Files.{EndsAt, HoldsRecording, IsBeforeSound, IsRefused, StatesSound}
 use Rattle.sound_core.specs.Naming.{IsSure, NamesFault}
 use Rattle.sound_core.specs.Reads.{Reads}
 use Rattle.sound_core.proofs.ClosingLaws.{apart, leads}
@@ -51,7 +51,7 @@ use Rattle.sound_core.proofs.ToldLaws.{dsf_wanted, form_wanted}
 
 -- ---- by the DSDIFF reading
 module _ (front : List ℕ) (x : SoundAt) (is : x ≡ dsdiff.sound_at front) where
-  pub form_found : IfFound x (TellsSound front)
+  pub form_found : IfFound x (StatesSound front)
   form_found = dsdiff_found front x is (form_fronts.if_found front x is) (form_fronts.in_limits front x is) (form_fronts.inside front x is)
 
   pub form_more : IfMore x (IsRefused front)
@@ -105,7 +105,7 @@ module _ (front : List ℕ) (no_form : (rest : List ℕ) → dsdiff_reading.reco
   unfolding dsf.sound_at
   located_is x e = ap dsf.without_fault e
 
-  pub blocks_tell : (s : Sound) → answers.Found s ≡ dsf.located front → TellsSound front s
+  pub blocks_tell : (s : Sound) → answers.Found s ≡ dsf.located front → StatesSound front s
   blocks_tell s e =
       let is : Found s ≡ dsf.sound_at front = located_is (answers.Found s) e in
       dsf_found front none (Found s) is (blocks.if_found front (Found s) is) (blocks.in_limits front (Found s) is) (blocks.inside front (Found s) is) (blocks.in_blocks front (Found s) is)
@@ -166,7 +166,7 @@ file_named left i j e named = by (left (inlet_reader i)) refl
 
 -- ---- a file that ends inside its sound
 blocks_cut : (head rest : List ℕ) (s : Sound) → dsf.sound_at head ≡ Found s → s.start ≡ length head → length (head ++ rest) < length head + s.size → dsf_reading.recording_of (head ++ rest) ≡ Err dsf_faults.DataCut
-unfolding dsf_reading.ends_of
+unfolding dsf_reading.ends_fit
 blocks_cut head rest s leads start short =
     let f = found_front head s leads in
     let end : length (head ++ rest) < f.1.sound.start + f.1.sound.size = omega (arith, short, start, ap (λ (t : Sound). t.start) f.3, ap (λ (t : Sound). t.size) f.3) in

@@ -11,11 +11,11 @@ use Rattle.chunk_core.specs.declared.outlet.Outlet.{Outlet}
 use Rattle.dsd_bits.specs.declared.interleaving.Interleaving.{Interleaving}
 use Rattle.dsd_bits.specs.declared.sound.Sound.{Sound}
 use Rattle.dsd_bits.specs.Sounds.{sound_size}
-use Rattle.relace_core.proofs.GroupLaws.{size_on}
-use Rattle.relace_core.proofs.JoinLaws.{groups_join}
-use Rattle.relace_core.specs.Relacing.{relaced}
+use Rattle.interleave_core.proofs.GroupLaws.{size_on}
+use Rattle.interleave_core.proofs.JoinLaws.{groups_join}
+use Rattle.interleave_core.specs.Reinterleaving.{reinterleaved}
 use Rattle.sound_core.specs.Faults.{IsSinkFault, IsWritingFault, failed_writes}
-use Rattle.sound_core.specs.Outlines.{AreTold, IsOutlineFault, StandsIn, Surroundings}
+use Rattle.sound_core.specs.Outlines.{AreStated, IsOutlineFault, IsPlacedIn, Surroundings}
 use Rattle.sound_core.specs.Sinks.{BeginsSound, IsFed, StopsTaking, TakesFile, TakesGiven}
 use Rattle.sound_core.specs.declared.fault.StreamFault.{StreamFault}
 use Rattle.sound_core.specs.declared.fault.StreamFault.TheVariants.{FileRefused, RateNotDivided, TooLarge, ReadFailed, WriteFailed, TurnLimit, Memory}
@@ -24,8 +24,8 @@ use Rattle.sound_core.proofs.FaultLaws.{by_writing}
 use Rattle.sound_core.proofs.KeeperLaws.{no_size}
 use Rattle.sound_core.proofs.SameLaws.{not_refused, same_around, same_front, same_rest, same_stands, told_same}
 use Rattle.sound_core.proofs.TakingLaws.{fed_on}
-use Rattle.sound_core.specs.Relays.{AppendsUntil, IsOwnFault, IsRelayFault, IsRelaying, IsSameAround, RefusesRelaying, RelayFails, Relays, RelaysFront, RelaysGiven, relaced_sound, relayed}
-use Rattle.sound_core.specs.declared.relaying.Target.{Target}
+use Rattle.sound_core.specs.Relays.{AppendsUntil, IsOwnFault, IsRelayFault, IsRelaying, IsSameAround, RefusesRelaying, RelayFails, Relays, RelaysPrefix, RelaysGiven, reinterleaved_sound, relayed}
+use Rattle.sound_core.specs.declared.relaying.NewFile.{NewFile}
 use Rattle.sound_core.specs.declared.relaying_sink.RelayingSink.{RelayingSink}
 
 -- ---- prefixes of what is written
@@ -52,40 +52,40 @@ until_on a b c xs ys f p q = (xs ++ q.0, q.1, ap (λ zs. xs ++ zs) q.2 ∙ sym (
 
 -- ---- a sound interleaved otherwise, part by part
 -- nothing of a sound is nothing of another
-pub relaced_none : (s : Sound) (to : Interleaving) → relaced s.interleaving to s.channels 0 [] ≡ []
+pub relaced_none : (s : Sound) (to : Interleaving) → reinterleaved s.interleaving to s.channels 0 [] ≡ []
 relaced_none s to =
-    let made = relaced s.interleaving to s.channels 0 [] in
+    let made = reinterleaved s.interleaving to s.channels 0 [] in
     let none = sym (no_size s.interleaving s.channels) in
     let twice : made ≡ made ++ made = groups_join s.interleaving to s.channels 0 0 [] [] refl none none in
     nil_from_length made (omega (arith, ap length twice, length-append made made))
 
 -- what came and a part behind it
 pub relaced_on : (part : SoundPart) (before bytes : List ℕ) (to : Interleaving) → IsFed part.sound part.done before → length bytes ≡ sound_size part.sound.interleaving part.sound.channels part.bits
-    → relaced part.sound.interleaving to part.sound.channels (part.done + part.bits) (before ++ bytes) ≡ relaced part.sound.interleaving to part.sound.channels part.done before ++ relaced part.sound.interleaving to part.sound.channels part.bits bytes
+    → reinterleaved part.sound.interleaving to part.sound.channels (part.done + part.bits) (before ++ bytes) ≡ reinterleaved part.sound.interleaving to part.sound.channels part.done before ++ reinterleaved part.sound.interleaving to part.sound.channels part.bits bytes
 relaced_on part before bytes to fed long = groups_join part.sound.interleaving to part.sound.channels part.done part.bits before bytes (fed.groups (omega (arith, part.some, part.within))) fed.size long
 
 -- what came begins the whole
-pub relaced_begins : (s : Sound) (to : Interleaving) (done : ℕ) (came rest : List ℕ) → IsFed s done came → length (came ++ rest) ≡ s.size → (more : List ℕ) × (relaced_sound s to (came ++ rest) ≡ relaced s.interleaving to s.channels done came ++ more)
+pub relaced_begins : (s : Sound) (to : Interleaving) (done : ℕ) (came rest : List ℕ) → IsFed s done came → length (came ++ rest) ≡ s.size → (more : List ℕ) × (reinterleaved_sound s to (came ++ rest) ≡ reinterleaved s.interleaving to s.channels done came ++ more)
 relaced_begins s to done came rest fed long = elim (cases_lt done s.count) [
   | inl less ↦ (
       let bits = s.count - done in
       let sum : done + bits ≡ s.count = omega (arith, less) in
       let size = size_on s.interleaving s.channels done bits (fed.groups less) in
       let rest_long : length rest ≡ sound_size s.interleaving s.channels bits = omega (arith, long, length-append came rest, fed.size, fed.is_sound.size, size, ap (sound_size s.interleaving s.channels) sum) in (
-        relaced s.interleaving to s.channels bits rest,
-        ap (λ n. relaced s.interleaving to s.channels n (came ++ rest)) (sym sum) ∙ groups_join s.interleaving to s.channels done bits came rest (fed.groups less) fed.size rest_long,
+        reinterleaved s.interleaving to s.channels bits rest,
+        ap (λ n. reinterleaved s.interleaving to s.channels n (came ++ rest)) (sym sum) ∙ groups_join s.interleaving to s.channels done bits came rest (fed.groups less) fed.size rest_long,
       ))
   | inr all ↦ (
       let is : s.count ≡ done = omega (arith, all, fed.within) in
       let none : rest ≡ [] = nil_from_length rest (omega (arith, long, length-append came rest, fed.size, fed.is_sound.size, ap (sound_size s.interleaving s.channels) is)) in (
         [],
-        ap₂ (λ n xs. relaced s.interleaving to s.channels n xs) is (ap (λ xs. came ++ xs) none ∙ append-nil came) ∙ sym (append-nil (relaced s.interleaving to s.channels done came)),
+        ap₂ (λ n xs. reinterleaved s.interleaving to s.channels n xs) is (ap (λ xs. came ++ xs) none ∙ append-nil came) ∙ sym (append-nil (reinterleaved s.interleaving to s.channels done came)),
       ))
 ]
 
 -- ---- faults
 -- one of reading around the sound
-module _ (o : Surroundings) (told : AreTold o) (left : Option (List ℕ)) where
+module _ (o : Surroundings) (told : AreStated o) (left : Option (List ℕ)) where
   pub outline_stands : (f : StreamFault) → IsOutlineFault left f → IsRelayFault left o f
   outline_stands FileRefused h = by left h
     where
@@ -143,13 +143,13 @@ module _ {W : Type 0} (held : W → Option (List ℕ)) (first old new : Relaying
     s = part.sound
 
     abbrev made : List ℕ
-    made = relaced s.interleaving old.target.interleaving s.channels part.bits bytes
+    made = reinterleaved s.interleaving old.target.interleaving s.channels part.bits bytes
 
-    made_is : made ≡ relaced s.interleaving to s.channels part.bits bytes
-    made_is = ap (λ (t : Target). relaced s.interleaving t.interleaving s.channels part.bits bytes) is.target
+    made_is : made ≡ reinterleaved s.interleaving to s.channels part.bits bytes
+    made_is = ap (λ (t : NewFile). reinterleaved s.interleaving t.interleaving s.channels part.bits bytes) is.target
 
     abbrev so_far : List ℕ
-    so_far = relaced s.interleaving to s.channels part.done before
+    so_far = reinterleaved s.interleaving to s.channels part.done before
 
     pub relaying_on : new.target ≡ old.target → Appends b c made → outlet_failures new.outlet.now ≡ outlet_failures old.outlet.now → IsRelaying held first new s (part.done + part.bits) (before ++ bytes)
     relaying_on target out failures = record {
@@ -168,7 +168,7 @@ module _ {W : Type 0} (held : W → Option (List ℕ)) (first old new : Relaying
       front = λ own rest whole.
           let more = relaced_begins s to (part.done + part.bits) (before ++ bytes) rest (fed_on part before fed bytes long) whole in
           let tail = first.target.tail.now in
-          let now : relaced_sound s to ((before ++ bytes) ++ rest) ≡ so_far ++ (made ++ more.0) =
+          let now : reinterleaved_sound s to ((before ++ bytes) ++ rest) ≡ so_far ++ (made ++ more.0) =
           more.1 ∙ ap (λ xs. xs ++ more.0) (relaced_on part before bytes to fed long ∙ ap (λ xs. so_far ++ xs) (sym made_is)) ∙ append_assoc so_far made more.0 in
           let all : relayed first.target s ((before ++ bytes) ++ rest) ≡ (head ++ so_far) ++ (made ++ (more.0 ++ tail)) =
           ap (λ xs. head ++ (xs ++ tail)) now ∙ ap (λ xs. head ++ xs) (append_assoc so_far (made ++ more.0) tail ∙ ap (λ xs. so_far ++ xs) (append_assoc made more.0 tail)) ∙ sym (append_assoc head so_far (made ++ (more.0 ++ tail))) in
@@ -177,7 +177,7 @@ module _ {W : Type 0} (held : W → Option (List ℕ)) (first old new : Relaying
     }
 
 -- ---- a file that is not taken to its end
-module _ {W : Type 0} (held : W → Option (List ℕ)) (first new : RelayingSink W) (o : Surroundings) (told : AreTold o) (own : first.sound ≡ o.sound) where
+module _ {W : Type 0} (held : W → Option (List ℕ)) (first new : RelayingSink W) (o : Surroundings) (told : AreStated o) (own : first.sound ≡ o.sound) where
   abbrev at_first : Option (List ℕ)
   at_first = held (outlet_writer first.outlet.now)
 
@@ -188,10 +188,10 @@ module _ {W : Type 0} (held : W → Option (List ℕ)) (first new : RelayingSink
   Stops left g h f = StopsTaking (λ x y s done bytes. IsRelaying held x y s done bytes) (λ x y s came e. RefusesRelaying held x y s came e) left g h first new f
 
   -- the sound that the file tells of is that of the outline, and what came begins it
-  began : (file sound : List ℕ) → StandsIn o file sound → (s : Sound) (came : List ℕ) → BeginsSound s came file → s ≡ o.sound
+  began : (file sound : List ℕ) → IsPlacedIn o file sound → (s : Sound) (came : List ℕ) → BeginsSound s came file → s ≡ o.sound
   began file sound stands s came begins = told_same o.head begins.front (sound ++ (stands.gap ++ (o.back ++ stands.rest))) begins.rest (sym stands.file_is ∙ begins.file_is) o.sound s told.tells begins.tells
 
-  came_is : (file sound : List ℕ) → StandsIn o file sound → (s : Sound) (came : List ℕ) → BeginsSound s came file → length came ≤ s.size → (rest : List ℕ) × (sound ≡ came ++ rest)
+  came_is : (file sound : List ℕ) → IsPlacedIn o file sound → (s : Sound) (came : List ℕ) → BeginsSound s came file → length came ≤ s.size → (rest : List ℕ) × (sound ≡ came ++ rest)
   came_is file sound stands s came begins few =
       let is = began file sound stands s came begins in
       let behind = stands.gap ++ (o.back ++ stands.rest) in
@@ -223,7 +223,7 @@ module _ {W : Type 0} (held : W → Option (List ℕ)) (first new : RelayingSink
       by TurnLimit h = absurd h
       by Memory h = tt
 
-  pub stops_front : (left : Option (List ℕ)) (g h : ℕ) (f : StreamFault) → Stops left g h f → RelaysFront left first.target o at_first at_last f
+  pub stops_front : (left : Option (List ℕ)) (g h : ℕ) (f : StreamFault) → Stops left g h f → RelaysPrefix left first.target o at_first at_last f
   stops_front None g h f stops = tt
   stops_front (Some file) g h f (inl none) = λ sound stands.
       subst (λ (k : RelayingSink W). AppendsUntil at_first (held (outlet_writer k.outlet.now)) (relayed first.target o.sound sound) f) (sym none.same) (until_nil at_first (relayed first.target o.sound sound) f (outline_calm (Some file) f none.fault))
@@ -238,7 +238,7 @@ module _ {W : Type 0} (held : W → Option (List ℕ)) (first new : RelayingSink
             let to = first.target.interleaving in
             let head = first.target.head.now in
             let tail = first.target.tail.now in
-            let made = relaced s.interleaving to s.channels ends.done some.came in
+            let made = reinterleaved s.interleaving to s.channels ends.done some.came in
             let more = relaced_begins s to ends.done some.came rest.0 ends.fed long in
             let parts : relayed first.target s (some.came ++ rest.0) ≡ (head ++ made) ++ (more.0 ++ tail) =
             ap (λ xs. head ++ (xs ++ tail)) more.1 ∙ ap (λ xs. head ++ xs) (append_assoc made more.0 tail) ∙ sym (append_assoc head made (more.0 ++ tail)) in
@@ -264,7 +264,7 @@ module _ {W : Type 0} (held : W → Option (List ℕ)) (first new : RelayingSink
   stops_relaying left g h f stops = record { fault = stops_fault left g h f stops; front = stops_front left g h f stops; failures = stops_counted left g h f stops }
 
 -- ---- a file that was taken, and whose outline is p
-module _ {W : Type 0} (held : W → Option (List ℕ)) (first mid : RelayingSink W) (o p : Surroundings) (told : AreTold o) (own : first.sound ≡ o.sound) (also : AreTold p) where
+module _ {W : Type 0} (held : W → Option (List ℕ)) (first mid : RelayingSink W) (o p : Surroundings) (told : AreStated o) (own : first.sound ≡ o.sound) (also : AreStated p) where
   abbrev begun : Option (List ℕ)
   begun = held (outlet_writer first.outlet.now)
 
@@ -290,14 +290,14 @@ module _ {W : Type 0} (held : W → Option (List ℕ)) (first mid : RelayingSink
     pub other_stands : IsRelayFault left o FileRefused
     other_stands = by left taken.1
       where
-        by : (l : Option (List ℕ)) → IfSome l (λ file. (sound : List ℕ) × StandsIn p file sound × has p.sound p.sound.count sound) → IsRelayFault l o FileRefused
+        by : (l : Option (List ℕ)) → IfSome l (λ file. (sound : List ℕ) × IsPlacedIn p file sound × has p.sound p.sound.count sound) → IsRelayFault l o FileRefused
         by None h = tt
         by (Some file) h = λ around. differs (same_around p o also told file h.0 around.0 h.1 around.1)
 
-    other_front : RelaysFront left first.target o begun behind_sound FileRefused
+    other_front : RelaysPrefix left first.target o begun behind_sound FileRefused
     other_front = by left other_stands
       where
-        by : (l : Option (List ℕ)) → IsRelayFault l o FileRefused → RelaysFront l first.target o begun behind_sound FileRefused
+        by : (l : Option (List ℕ)) → IsRelayFault l o FileRefused → RelaysPrefix l first.target o begun behind_sound FileRefused
         by None h = tt
         by (Some file) h = λ sound stands. absurd (h (sound, stands))
 
@@ -311,13 +311,13 @@ module _ {W : Type 0} (held : W → Option (List ℕ)) (first mid : RelayingSink
 
     -- what was written of a sound
     abbrev body : List ℕ → List ℕ
-    body sound = first.target.head.now ++ relaced_sound p.sound first.target.interleaving sound
+    body sound = first.target.head.now ++ reinterleaved_sound p.sound first.target.interleaving sound
 
     whole : (sound : List ℕ) → body sound ++ first.target.tail.now ≡ relayed first.target o.sound sound
-    whole sound = append_assoc first.target.head.now (relaced_sound p.sound first.target.interleaving sound) first.target.tail.now ∙ ap (λ (t : Sound). relayed first.target t sound) own_is
+    whole sound = append_assoc first.target.head.now (reinterleaved_sound p.sound first.target.interleaving sound) first.target.tail.now ∙ ap (λ (t : Sound). relayed first.target t sound) own_is
 
     written : (sound : List ℕ) → has p.sound p.sound.count sound → Appends behind_sound ended mid.target.tail.now → Appends begun ended (relayed first.target o.sound sound)
-    written sound is out = subst (Appends begun ended) (ap (λ (t : Target). body sound ++ t.tail.now) is.target ∙ whole sound) (Appends-trans begun behind_sound ended (body sound) mid.target.tail.now is.written out)
+    written sound is out = subst (Appends begun ended) (ap (λ (t : NewFile). body sound ++ t.tail.now) is.target ∙ whole sound) (Appends-trans begun behind_sound ended (body sound) mid.target.tail.now is.written out)
 
     pub file_relayed : (left : Option (List ℕ)) → TakesFile has left p → Appends behind_sound ended mid.target.tail.now → Relays left first.target o begun ended
     file_relayed None (taken, h) out = tt
@@ -335,20 +335,20 @@ module _ {W : Type 0} (held : W → Option (List ℕ)) (first mid : RelayingSink
       failures = failures;
     }
       where
-        by : (l : Option (List ℕ)) → IfSome l (λ file. (sound : List ℕ) × StandsIn p file sound × has p.sound p.sound.count sound) → RelaysFront l first.target o begun ended f
+        by : (l : Option (List ℕ)) → IfSome l (λ file. (sound : List ℕ) × IsPlacedIn p file sound × has p.sound p.sound.count sound) → RelaysPrefix l first.target o begun ended f
         by None h = tt
         by (Some file) h = λ sound stands.
             let is = h.2 in
             let here = same_stands o p own_is same file h.0 h.1 in
-            let behind = λ (xs : List ℕ) (t : StandsIn o file xs). t.gap ++ (o.back ++ t.rest) in
+            let behind = λ (xs : List ℕ) (t : IsPlacedIn o file xs). t.gap ++ (o.back ++ t.rest) in
             let one : h.0 ≡ sound =
             same_front h.0 sound (behind h.0 here) (behind sound stands)
             (same_rest o.head o.head (h.0 ++ behind h.0 here) (sound ++ behind sound stands) (sym here.file_is ∙ stands.file_is) refl) (here.sound_long ∙ sym stands.sound_long) in
-            let tail : mid.target.tail.now ≡ first.target.tail.now = ap (λ (t : Target). t.tail.now) is.target in
+            let tail : mid.target.tail.now ≡ first.target.tail.now = ap (λ (t : NewFile). t.tail.now) is.target in
             subst (λ xs. AppendsUntil begun ended (relayed first.target o.sound xs) f) one (subst (λ xs. AppendsUntil begun ended xs f) (whole h.0) (until_on begun behind_sound ended (body h.0) first.target.tail.now f is.written (until_part behind_sound ended first.target.tail.now f (subst (AppendsPart behind_sound ended) tail out))))
 
 -- ---- nothing was read
-pub nothing_relayed : (left : Option (List ℕ)) (target : Target) (o : Surroundings) (a : Option (List ℕ)) (f : StreamFault) → f ≢ WriteFailed → RelaysFront left target o a a f
+pub nothing_relayed : (left : Option (List ℕ)) (target : NewFile) (o : Surroundings) (a : Option (List ℕ)) (f : StreamFault) → f ≢ WriteFailed → RelaysPrefix left target o a a f
 nothing_relayed None target o a f calm = tt
 nothing_relayed (Some file) target o a f calm = λ sound stands. until_nil a (relayed target o.sound sound) f calm
 

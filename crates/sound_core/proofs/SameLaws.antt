@@ -8,9 +8,9 @@ use Rattle.dsd_bits.specs.declared.interleaving.Interleaving.{Interleaving}
 use Rattle.dsd_bits.specs.declared.interleaving.Interleaving.TheVariants.{Bytes, Blocks}
 use Rattle.dsd_bits.specs.declared.sound.Sound.{Sound}
 use Rattle.dsd_bits.specs.Contents.{Content}
-use Rattle.dsdiff_core.specs.Fronts.{left_behind}
-use Rattle.sound_core.specs.Files.{HoldsRecording, IsRefused, TellsSound}
-use Rattle.sound_core.specs.Outlines.{AreAround, AreTold, HoldsIn, KeepsBehind, StandsIn, Surroundings, with_sound}
+use Rattle.dsdiff_core.specs.Fronts.{left_after}
+use Rattle.sound_core.specs.Files.{HoldsRecording, IsRefused, StatesSound}
+use Rattle.sound_core.specs.Outlines.{AreAround, AreStated, HoldsIn, KeepsBehind, IsPlacedIn, Surroundings, with_sound}
 use Rattle.sound_core.specs.Relays.{IsSameAround}
 use Rattle.sound_core.proofs.ToldLaws.{told_once}
 
@@ -28,10 +28,10 @@ longer xs ys us vs e few =
     sym (take-append-drop (length xs) ys) ∙ ap (λ zs. zs ++ drop (length xs) ys) first
 
 -- two fronts of a file tell of one sound
-pub told_same : (front other rest more : List ℕ) → front ++ rest ≡ other ++ more → (s t : Sound) → TellsSound front s → TellsSound other t → t ≡ s
+pub told_same : (front other rest more : List ℕ) → front ++ rest ≡ other ++ more → (s t : Sound) → StatesSound front s → StatesSound other t → t ≡ s
 told_same front other rest more e s t tells also = elim (cases_lt (length front) (length other)) [
-  | inl less ↦ told_once front (drop (length front) other) s t tells (subst (λ xs. TellsSound xs t) (longer front other rest more e (omega (arith, less))) also)
-  | inr most ↦ sym (told_once other (drop (length other) front) t s also (subst (λ xs. TellsSound xs s) (longer other front more rest (sym e) most) tells))
+  | inl less ↦ told_once front (drop (length front) other) s t tells (subst (λ xs. StatesSound xs t) (longer front other rest more e (omega (arith, less))) also)
+  | inr most ↦ sym (told_once other (drop (length other) front) t s also (subst (λ xs. StatesSound xs s) (longer other front more rest (sym e) most) tells))
 ]
 
 -- ---- a file that is some sound in an outline holds a recording
@@ -39,13 +39,13 @@ pub holds_in : (o : Interleaving) (file : List ℕ) (r : Content) → HoldsIn o 
 holds_in Bytes file r h = inl h
 holds_in (Blocks order) file r h = inr (order, h)
 
-pub not_refused : (o : Surroundings) → AreTold o → (file : List ℕ) → AreAround o file → IsRefused file → ⊥
+pub not_refused : (o : Surroundings) → AreStated o → (file : List ℕ) → AreAround o file → IsRefused file → ⊥
 not_refused o told file (sound, stands) refused =
     let r = with_sound o.recording o.sound sound in
     refused r (holds_in o.sound.interleaving file r (told.holds file sound stands))
 
 -- ---- two outlines
-module _ (o p : Surroundings) (told : AreTold o) (also : AreTold p) (file sound other : List ℕ) (stands : StandsIn o file sound) (again : StandsIn p file other) where
+module _ (o p : Surroundings) (told : AreStated o) (also : AreStated p) (file sound other : List ℕ) (stands : IsPlacedIn o file sound) (again : IsPlacedIn p file other) where
   abbrev behind : Surroundings → List ℕ → List ℕ → List ℕ
   behind q gap rest = gap ++ (q.back ++ rest)
 
@@ -69,8 +69,8 @@ module _ (o p : Surroundings) (told : AreTold o) (also : AreTold p) (file sound 
       same_rest sound other (behind o stands.gap stands.rest) (behind p again.gap again.rest)
       (same_rest o.head p.head (sound ++ behind o stands.gap stands.rest) (other ++ behind p again.gap again.rest) wholes heads_long) sounds_long
 
-  left_same : left_behind o.head o.sound.size ≡ left_behind p.head p.sound.size
-  left_same = ap₂ (λ xs (t : Sound). left_behind xs t.size) head_same (sym sound_same)
+  left_same : left_after o.head o.sound.size ≡ left_after p.head p.sound.size
+  left_same = ap₂ (λ xs (t : Sound). left_after xs t.size) head_same (sym sound_same)
 
   place_same : drop (o.sound.start + o.sound.size) file ≡ drop (p.sound.start + p.sound.size) file
   place_same = ap (λ (t : Sound). drop (t.start + t.size) file) (sym sound_same)
@@ -98,7 +98,7 @@ module _ (o p : Surroundings) (told : AreTold o) (also : AreTold p) (file sound 
       }
 
 -- what is some sound in one of two that are the same is it in the other
-pub same_stands : (o p : Surroundings) → p.sound ≡ o.sound → IsSameAround p o → (file sound : List ℕ) → StandsIn p file sound → StandsIn o file sound
+pub same_stands : (o p : Surroundings) → p.sound ≡ o.sound → IsSameAround p o → (file sound : List ℕ) → IsPlacedIn p file sound → IsPlacedIn o file sound
 same_stands o p sound_is same file sound stands = record {
   gap = stands.gap;
   rest = stands.rest;

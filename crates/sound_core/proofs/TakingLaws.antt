@@ -7,8 +7,8 @@ use Rattle.chunk_core.specs.declared.inlet.Inlet.{Inlet}
 use Rattle.dsd_bits.specs.declared.interleaving.Interleaving.TheVariants.{Bytes}
 use Rattle.dsd_bits.specs.declared.sound.Sound.{Sound}
 use Rattle.dsd_bits.specs.Sounds.{IsSound, sound_size}
-use Rattle.relace_core.proofs.GroupLaws.{size_on}
-use Rattle.sound_core.specs.Outlines.{AreTold, IsOutlineFault, StandsIn, Surroundings, SurroundsFile, SurroundsGiven}
+use Rattle.interleave_core.proofs.GroupLaws.{size_on}
+use Rattle.sound_core.specs.Outlines.{AreStated, IsOutlineFault, IsPlacedIn, Surroundings, SurroundsFile, SurroundsGiven}
 use Rattle.sound_core.specs.Readers.{IsPassFault, Passes}
 use Rattle.sound_core.specs.Sinks.{EndsInPart, EndsShort, IsFed, IsTakenOf, StopsPart, StopsSound, StopsTaking, TakesFile, TakesGiven, TakesPart, TakesSome}
 use Rattle.sound_core.specs.declared.fault.StreamFault.{StreamFault}
@@ -161,7 +161,7 @@ module _ {R S : Type 0} (left : R → Option (List ℕ)) (has : S → S → Soun
             subst (λ zs. length (b ++ zs) < sound_size part.sound.interleaving part.sound.channels part.bits) (sym all) ends.short.few
 
 -- ---- the whole file
-pub file_taken : (has : Sound → ℕ → List ℕ → Type 0) (left : Option (List ℕ)) (o : Surroundings) (bytes : List ℕ) → AreTold o → ((xs : List ℕ) → left ≡ Some xs → StandsIn o xs bytes) → has o.sound o.sound.count bytes → TakesFile has left o
+pub file_taken : (has : Sound → ℕ → List ℕ → Type 0) (left : Option (List ℕ)) (o : Surroundings) (bytes : List ℕ) → AreStated o → ((xs : List ℕ) → left ≡ Some xs → IsPlacedIn o xs bytes) → has o.sound o.sound.count bytes → TakesFile has left o
 file_taken has left o bytes told stands held = (told, by left refl)
   where
     by : (l : Option (List ℕ)) → left ≡ l → IfSome l (IsTakenOf has o)

@@ -29,8 +29,8 @@ use Rattle.dsf_core.specs.Files.{IsDsf}
 use Rattle.dsf_core.specs.Fronts as dsf
 use Rattle.dsf_core.proofs.FrontLaws as blocks
 use Rattle.dsf_core.proofs.ToldLaws as blocks_told
-use Rattle.sound_core.specs.Files.{EndsAt, GivesNone, HoldsRecording, IsAccepted, IsBeforeSound, TellsSound}
-use Rattle.sound_core.specs.Laws.{OneSoundIsTold}
+use Rattle.sound_core.specs.Files.{EndsAt, GivesNone, HoldsRecording, IsAccepted, IsBeforeSound, StatesSound}
+use Rattle.sound_core.specs.Laws.{OneSoundIsStated}
 use Rattle.sound_core.specs.Reads.{GivesBytes, Reads}
 use Rattle.sound_core.proofs.HeadLaws.{IsFound, dsdiff_found, dsf_found, never_found, other_head, told_found}
 use Rattle.sound_core.proofs.ReadLaws.{gives_read}
@@ -143,7 +143,7 @@ other_blocks front rest s t e f =
     let refused : Found t ≡ Refused = sym f ∙ other_head (front ++ rest) long.long id in
     absurd cc
 
-pub told_once : (front rest : List ℕ) (s t : Sound) → TellsSound front s → TellsSound (front ++ rest) t → t ≡ s
+pub told_once : (front rest : List ℕ) (s t : Sound) → StatesSound front s → StatesSound (front ++ rest) t → t ≡ s
 told_once front rest s t tells later = by s.interleaving t.interleaving (told_found s.interleaving front s tells.leads) (told_found t.interleaving (front ++ rest) t later.leads)
   where
     by : (o p : Interleaving) → IsFound o front s → IsFound p (front ++ rest) t → t ≡ s
@@ -153,14 +153,14 @@ told_once front rest s t tells later = by s.interleaving t.interleaving (told_fo
     by (Blocks o) (Blocks p) e f = dsf_once front rest s t e f
 
 -- ---- a file that holds a recording
-form_tells : (file : List ℕ) (r : Content) → IsDsdiff file r → (s : Sound) × TellsSound file s
+form_tells : (file : List ℕ) (r : Content) → IsDsdiff file r → (s : Sound) × StatesSound file s
 form_tells file r h =
     let told = form_told.sound_is_told file r h in
     let s : Sound = told.0 in
     let is : Found s ≡ dsdiff.sound_at file = sym ((form_told.found_is_told file s).1 told.1) in
     (s, dsdiff_found file (Found s) is (form_fronts.if_found file (Found s) is) (form_fronts.in_limits file (Found s) is) (form_fronts.inside file (Found s) is))
 
-blocks_tell : (file : List ℕ) (r : Content) (order : BitOrder) → IsDsf file r order → (s : Sound) × TellsSound file s
+blocks_tell : (file : List ℕ) (r : Content) (order : BitOrder) → IsDsf file r order → (s : Sound) × StatesSound file s
 blocks_tell file r order h =
     let told = blocks_told.sound_is_told file r order h in
     let s : Sound = told.0 in
@@ -168,20 +168,20 @@ blocks_tell file r order h =
     let no_form = form_fronts.if_refused file Refused (sym (other_head file (omega (arith, h.second_long, h.in_file)) h.first)) in
     (s, dsf_found file no_form (Found s) is (blocks.if_found file (Found s) is) (blocks.in_limits file (Found s) is) (blocks.inside file (Found s) is) (blocks.in_blocks file (Found s) is))
 
-only : (file : List ℕ) → (s : Sound) × TellsSound file s → (s : Sound) × TellsSound file s × ((t : Sound) → TellsSound file t → t ≡ s)
-only file tells = (tells.0, tells.1, λ t told. told_once file [] tells.0 t tells.1 (subst (λ xs. TellsSound xs t) (sym (append-nil file)) told))
+only : (file : List ℕ) → (s : Sound) × StatesSound file s → (s : Sound) × StatesSound file s × ((t : Sound) → StatesSound file t → t ≡ s)
+only file tells = (tells.0, tells.1, λ t told. told_once file [] tells.0 t tells.1 (subst (λ xs. StatesSound xs t) (sym (append-nil file)) told))
 
-pub one_sound : OneSoundIsTold
+pub one_sound : OneSoundIsStated
 one_sound file accepted = elim accepted.1 [
   | inl form ↦ only file (form_tells file accepted.0 form)
   | inr (order, is) ↦ only file (blocks_tell file accepted.0 order is)
 ]
 
 -- the head tells of the sound that it leads to
-pub tells_at : (head : List ℕ) (s : Sound) → EndsAt head s → TellsSound head s
+pub tells_at : (head : List ℕ) (s : Sound) → EndsAt head s → StatesSound head s
 tells_at head s at = by s.interleaving (told_found s.interleaving head s at.leads)
   where
-    by : (o : Interleaving) → IsFound o head s → TellsSound head s
+    by : (o : Interleaving) → IsFound o head s → StatesSound head s
     by Bytes e = dsdiff_found head (Found s) (sym e) (form_fronts.if_found head (Found s) (sym e)) (form_fronts.in_limits head (Found s) (sym e)) (form_fronts.inside head (Found s) (sym e))
     by (Blocks order) e =
         let l = blocks.found_leads head s e in
@@ -232,4 +232,4 @@ gives_none left i j n front reads before same = by (left (inlet_reader i)) (give
     by None gives = tt
     by (Some xs) gives = λ s accepted tells.
         let start = gives.begins in
-        omega (arith, before start.0 s (subst IsAccepted start.1 accepted) (subst (λ ys. TellsSound ys s) start.1 tells), gives.given)
+        omega (arith, before start.0 s (subst IsAccepted start.1 accepted) (subst (λ ys. StatesSound ys s) start.1 tells), gives.given)

@@ -26,19 +26,19 @@ abbrev pub IsRefused : List ℕ → Type 0
 IsRefused file = (r : Content) → HoldsRecording file r → ⊥
 
 -- the front of a DSDIFF file, or of a DSF file if the sound is in blocks, describes this sound in its format's words
-abbrev pub LeadsTo : Interleaving → List ℕ → Sound → Type 0
-LeadsTo Bytes front s = dsdiff.TellsSound front s
-LeadsTo (Blocks order) front s = dsf.TellsSound front s
+abbrev pub StatesSoundAs : Interleaving → List ℕ → Sound → Type 0
+StatesSoundAs Bytes front s = dsdiff.StatesSound front s
+StatesSoundAs (Blocks order) front s = dsf.StatesSound front s
 
 -- the head of a file leads to this sound, and ends where that starts
 pub record EndsAt (head : List ℕ) (s : Sound) : Type 0 where
-  pub leads : LeadsTo s.interleaving head s
+  pub leads : StatesSoundAs s.interleaving head s
   pub start : s.start ≡ length head
 
 -- the front of a file describes this sound, which starts in it or at its end, and every recording of a file that begins
 -- like this has it
-pub record TellsSound (front : List ℕ) (s : Sound) : Type 0 where
-  pub leads : LeadsTo s.interleaving front s
+pub record StatesSound (front : List ℕ) (s : Sound) : Type 0 where
+  pub leads : StatesSoundAs s.interleaving front s
   pub is_sound : IsSound s
   pub whole : s.interleaving ≡ Bytes → s.count % 8 ≡ 0
   pub within : s.start ≤ length front
@@ -46,16 +46,16 @@ pub record TellsSound (front : List ℕ) (s : Sound) : Type 0 where
 
 -- bytes that come before the sound of every accepted file that begins with them
 abbrev pub IsBeforeSound : List ℕ → Type 0
-IsBeforeSound front = (rest : List ℕ) (s : Sound) → IsAccepted (front ++ rest) → TellsSound (front ++ rest) s → length front ≤ s.start
+IsBeforeSound front = (rest : List ℕ) (s : Sound) → IsAccepted (front ++ rest) → StatesSound (front ++ rest) s → length front ≤ s.start
 
 -- no byte of the sound was read
 abbrev pub GivesNone : Option (List ℕ) → ℕ → ℕ → Type 0
-GivesNone left_old given_old given_new = IfSome left_old (λ file. (s : Sound) → IsAccepted file → TellsSound file s → given_new ≤ given_old + s.start)
+GivesNone left_old given_old given_new = IfSome left_old (λ file. (s : Sound) → IsAccepted file → StatesSound file s → given_new ≤ given_old + s.start)
 
 -- a fault of reading the front of a file: the reader's file holds no recording, or a fault of reading
-abbrev pub IsFrontFault : Option (List ℕ) → StreamFault → Type 0
-IsFrontFault left_old FileRefused = IfSome left_old IsRefused
-IsFrontFault left_old ReadFailed = ⊤
-IsFrontFault left_old TurnLimit = ⊤
-IsFrontFault left_old Memory = ⊤
-IsFrontFault left_old _ = ⊥
+abbrev pub IsHeaderFault : Option (List ℕ) → StreamFault → Type 0
+IsHeaderFault left_old FileRefused = IfSome left_old IsRefused
+IsHeaderFault left_old ReadFailed = ⊤
+IsHeaderFault left_old TurnLimit = ⊤
+IsHeaderFault left_old Memory = ⊤
+IsHeaderFault left_old _ = ⊥

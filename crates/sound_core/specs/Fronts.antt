@@ -3,8 +3,8 @@ use Rattle.std.specs.Prelude.{ℕ, ⊤}
 use Rattle.dsd_bits.specs.declared.sound.SoundAt.{SoundAt}
 use Rattle.dsd_bits.specs.declared.sound.SoundAt.TheVariants as sounds
 use Rattle.form_core.specs.declared.fault.ReadFault.{ReadFault}
-use Rattle.sound_core.specs.declared.front.Told.{Told}
-use Rattle.sound_core.specs.declared.front.Told.TheVariants as answers
+use Rattle.sound_core.specs.declared.header.Told.{Told}
+use Rattle.sound_core.specs.declared.header.Told.TheVariants as answers
 
 -- what is told, without faults and places
 abbrev pub sound_in : Told → SoundAt

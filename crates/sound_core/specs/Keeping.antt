@@ -1,7 +1,7 @@
 -- Stretches of a file's sound: the bits of each channel in ranges of places.
 use Rattle.std.specs.Prelude.{◌≡◌, ℕ, Bool, List, Option, IfSome}
 use Rattle.chunk_core.specs.declared.inlet.Inlet.{Inlet}
-use Rattle.sound_core.specs.Outlines.{AreTold, StandsIn, Surroundings, with_sound}
+use Rattle.sound_core.specs.Outlines.{AreStated, IsPlacedIn, Surroundings, with_sound}
 use Rattle.sound_core.specs.Reads.{Reads}
 use Rattle.dsd_bits.specs.Stretches.{stretches_of}
 use Rattle.sound_core.specs.Stretches.{items_of}
@@ -14,12 +14,12 @@ stretches_in k = items_of k.stretches.items
 
 -- the file is some sound in the surroundings, and these are the stretches of its channels
 abbrev pub IsKeptOf : Surroundings → List BitRange → List (List (List Bool)) → List ℕ → Type 0
-IsKeptOf o ranges kept file = (sound : List ℕ) × StandsIn o file sound × (kept ≡ stretches_of (with_sound o.recording o.sound sound).channels ranges)
+IsKeptOf o ranges kept file = (sound : List ℕ) × IsPlacedIn o file sound × (kept ≡ stretches_of (with_sound o.recording o.sound sound).channels ranges)
 
 -- the surroundings describe what a file holds; the reader's file, if it is known, is some sound in them, and these are
 -- the stretches of its channels
 abbrev pub KeepsFile : Option (List ℕ) → Surroundings → List BitRange → List (List (List Bool)) → Type 0
-KeepsFile left_old o ranges kept = AreTold o × IfSome left_old (IsKeptOf o ranges kept)
+KeepsFile left_old o ranges kept = AreStated o × IfSome left_old (IsKeptOf o ranges kept)
 
 -- the reader returned some bytes, which are some sound in the surroundings, and these are the stretches of its
 -- channels; this also holds if its bytes aren't known

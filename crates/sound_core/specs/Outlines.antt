@@ -9,10 +9,10 @@ use Rattle.dsd_bits.specs.declared.sound.Sound.{Sound}
 use Rattle.dsd_bits.specs.Contents.{Content}
 use Rattle.dsd_bits.specs.Sounds.{IsSound, sound_channels}
 use Rattle.dsdiff_core.specs.Files.{IsDsdiff}
-use Rattle.dsdiff_core.specs.Fronts.{left_behind}
-use Rattle.dsf_core.specs.Fields.{tag_told}
+use Rattle.dsdiff_core.specs.Fronts.{left_after}
+use Rattle.dsf_core.specs.Fields.{stated_tag}
 use Rattle.dsf_core.specs.Files.{IsDsf}
-use Rattle.sound_core.specs.Files.{IsRefused, TellsSound}
+use Rattle.sound_core.specs.Files.{IsRefused, StatesSound}
 use Rattle.sound_core.specs.Reads.{Reads}
 use Rattle.sound_core.specs.declared.fault.StreamFault.{StreamFault}
 use Rattle.sound_core.specs.declared.fault.StreamFault.TheVariants.{FileRefused, ReadFailed, TurnLimit, Memory}
@@ -51,7 +51,7 @@ with_sound r s bytes = record r { channels = sound_channels s.interleaving s.cha
 
 -- the file is these sound bytes in their surroundings: the head, the sound, a gap whose bytes do not matter, what was
 -- kept after it, and any further bytes if the file need not end there
-pub record StandsIn (o : Surroundings) (file sound : List ℕ) : Type 0 where
+pub record IsPlacedIn (o : Surroundings) (file sound : List ℕ) : Type 0 where
   pub gap : List ℕ
   pub rest : List ℕ
   pub file_is : file ≡ o.head ++ (sound ++ (gap ++ (o.back ++ rest)))
@@ -61,22 +61,22 @@ pub record StandsIn (o : Surroundings) (file sound : List ℕ) : Type 0 where
 
 -- what is kept of the bytes behind the sound of a file: what a DSDIFF form has left there, or all of them where they are fewer, and then the file ends; the tag of a DSF file, which ends with it
 abbrev pub KeepsBehind : Interleaving → Surroundings → List ℕ → Type 0
-KeepsBehind Bytes o file = (o.gap ≡ 0) × (o.back ≡ take (left_behind o.head o.sound.size) (drop (o.sound.start + o.sound.size) file)) × (o.ends ≡ nat_lt (length (drop (o.sound.start + o.sound.size) file)) (left_behind o.head o.sound.size))
-KeepsBehind (Blocks order) o file = (o.back ≡ tag_told file) × (o.ends ≡ true)
+KeepsBehind Bytes o file = (o.gap ≡ 0) × (o.back ≡ take (left_after o.head o.sound.size) (drop (o.sound.start + o.sound.size) file)) × (o.ends ≡ nat_lt (length (drop (o.sound.start + o.sound.size) file)) (left_after o.head o.sound.size))
+KeepsBehind (Blocks order) o file = (o.back ≡ stated_tag file) × (o.ends ≡ true)
 
 -- what surroundings tell: every file that is some sound in them has that kept behind it, and holds their recording, with the channels of that sound
-pub record AreTold (o : Surroundings) : Type 0 where
-  pub tells : TellsSound o.head o.sound
+pub record AreStated (o : Surroundings) : Type 0 where
+  pub tells : StatesSound o.head o.sound
   pub start : o.sound.start ≡ length o.head
   pub is_sound : IsSound o.sound
   pub whole : o.sound.interleaving ≡ Bytes → o.sound.count % 8 ≡ 0
   pub silent : o.recording.channels ≡ replicate o.sound.channels []
-  pub keeps : (file sound : List ℕ) → StandsIn o file sound → KeepsBehind o.sound.interleaving o file
-  pub holds : (file sound : List ℕ) → StandsIn o file sound → HoldsIn o.sound.interleaving file (with_sound o.recording o.sound sound)
+  pub keeps : (file sound : List ℕ) → IsPlacedIn o file sound → KeepsBehind o.sound.interleaving o file
+  pub holds : (file sound : List ℕ) → IsPlacedIn o file sound → HoldsIn o.sound.interleaving file (with_sound o.recording o.sound sound)
 
 -- the file is some sound in the surroundings
 abbrev pub AreAround : Surroundings → List ℕ → Type 0
-AreAround o file = (sound : List ℕ) × StandsIn o file sound
+AreAround o file = (sound : List ℕ) × IsPlacedIn o file sound
 
 -- ---- stages
 
@@ -108,9 +108,9 @@ with_ends s head back b = record { sound = s; head = head; gap = b.gap; back = b
 pub record Surrounds {R : Type 0} (left : R → Option (List ℕ)) (old new : Inlet R) (back : List ℕ) (o : Surroundings) : Type 0 where
   pub read : List ℕ
   pub reads : Reads left old new read
-  pub told : AreTold o
-  pub given : (sound : List ℕ) → length sound ≡ o.sound.size → StandsIn o (o.head ++ (sound ++ (back ++ read))) sound
-  pub stands : (sound rest : List ℕ) → length sound ≡ o.sound.size → left (inlet_reader new) ≡ Some rest → StandsIn o (o.head ++ (sound ++ (back ++ (read ++ rest)))) sound
+  pub told : AreStated o
+  pub given : (sound : List ℕ) → length sound ≡ o.sound.size → IsPlacedIn o (o.head ++ (sound ++ (back ++ read))) sound
+  pub stands : (sound rest : List ℕ) → length sound ≡ o.sound.size → left (inlet_reader new) ≡ Some rest → IsPlacedIn o (o.head ++ (sound ++ (back ++ (read ++ rest)))) sound
 
 -- a fault of this: no file that continues like this is accepted, whichever bytes the sound has, or a fault of reading
 abbrev pub IsRestFault : Option (List ℕ) → Sound → List ℕ → List ℕ → StreamFault → Type 0
@@ -124,7 +124,7 @@ IsRestFault left_old s head back _ = ⊥
 
 -- the surroundings describe what a file holds, and the reader's file, if it is known, is some sound in them
 abbrev pub SurroundsFile : Option (List ℕ) → Surroundings → Type 0
-SurroundsFile left_old o = AreTold o × IfSome left_old (AreAround o)
+SurroundsFile left_old o = AreStated o × IfSome left_old (AreAround o)
 
 -- the reader returned some bytes, as many as were counted, which are some sound in the surroundings; this also holds if
 -- its bytes aren't known

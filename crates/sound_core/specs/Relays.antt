@@ -7,39 +7,39 @@ use Rattle.chunk_core.specs.Outlets.{outlet_failures, outlet_writer}
 use Rattle.dsd_bits.specs.declared.interleaving.Interleaving.{Interleaving}
 use Rattle.dsd_bits.specs.declared.interleaving.Interleaving.TheVariants.{Bytes}
 use Rattle.dsd_bits.specs.declared.sound.Sound.{Sound}
-use Rattle.relace_core.specs.Relacing.{relaced}
+use Rattle.interleave_core.specs.Reinterleaving.{reinterleaved}
 use Rattle.sound_core.specs.Faults.{failed_writes}
-use Rattle.sound_core.specs.Outlines.{AreAround, StandsIn, Surroundings}
+use Rattle.sound_core.specs.Outlines.{AreAround, IsPlacedIn, Surroundings}
 use Rattle.sound_core.specs.Reads.{Reads}
 use Rattle.sound_core.specs.declared.fault.StreamFault.{StreamFault}
 use Rattle.sound_core.specs.declared.fault.StreamFault.TheVariants.{FileRefused, ReadFailed, WriteFailed, TurnLimit, Memory}
-use Rattle.sound_core.specs.declared.relaying.Target.{Target}
+use Rattle.sound_core.specs.declared.relaying.NewFile.{NewFile}
 use Rattle.sound_core.specs.declared.relaying_sink.RelayingSink.{RelayingSink}
 
 -- the bytes of a sound, re-interleaved
-abbrev pub relaced_sound : Sound → Interleaving → List ℕ → List ℕ
-relaced_sound s to sound = relaced s.interleaving to s.channels s.count sound
+abbrev pub reinterleaved_sound : Sound → Interleaving → List ℕ → List ℕ
+reinterleaved_sound s to sound = reinterleaved s.interleaving to s.channels s.count sound
 
 -- what is written of a file with this sound: a head, the sound re-interleaved, a tail
-abbrev pub relayed : Target → Sound → List ℕ → List ℕ
-relayed target s sound = target.head.now ++ (relaced_sound s target.interleaving sound ++ target.tail.now)
+abbrev pub relayed : NewFile → Sound → List ℕ → List ℕ
+relayed target s sound = target.head.now ++ (reinterleaved_sound s target.interleaving sound ++ target.tail.now)
 
 -- the reader's file, if it is known, is some sound in the outline, and what is made of that sound was written
-abbrev pub Relays : Option (List ℕ) → Target → Surroundings → Option (List ℕ) → Option (List ℕ) → Type 0
-Relays left target o held_old held_new = IfSome left (λ file. (sound : List ℕ) × StandsIn o file sound × Appends held_old held_new (relayed target o.sound sound))
+abbrev pub Relays : Option (List ℕ) → NewFile → Surroundings → Option (List ℕ) → Option (List ℕ) → Type 0
+Relays left target o held_old held_new = IfSome left (λ file. (sound : List ℕ) × IsPlacedIn o file sound × Appends held_old held_new (relayed target o.sound sound))
 
 -- the reader returned some bytes, as many as were counted, which are some sound in the outline, and what is made of
 -- that sound was written; this also holds if its bytes aren't known
-abbrev pub RelaysGiven : {R : Type 0} → (R → Option (List ℕ)) → Inlet R → Inlet R → Target → Surroundings → Option (List ℕ) → Option (List ℕ) → Type 0
-RelaysGiven left old new target o held_old held_new = (read : List ℕ) × (sound : List ℕ) × Reads left old new read × StandsIn o read sound × Appends held_old held_new (relayed target o.sound sound)
+abbrev pub RelaysGiven : {R : Type 0} → (R → Option (List ℕ)) → Inlet R → Inlet R → NewFile → Surroundings → Option (List ℕ) → Option (List ℕ) → Type 0
+RelaysGiven left old new target o held_old held_new = (read : List ℕ) × (sound : List ℕ) × Reads left old new read × IsPlacedIn o read sound × Appends held_old held_new (relayed target o.sound sound)
 
 -- bytes, if they are known, grew by a prefix of these, and after a failed write not by all of them
 abbrev pub AppendsUntil : Option (List ℕ) → Option (List ℕ) → List ℕ → StreamFault → Type 0
 AppendsUntil held_old held_new all fault = (front : List ℕ) × (back : List ℕ) × (all ≡ front ++ back) × (fault ≡ WriteFailed → 0 < length back) × Appends held_old held_new front
 
 -- whatever sound in the outline the file is, a prefix of what is made of it was written, and after a failed write not all of it
-abbrev pub RelaysFront : Option (List ℕ) → Target → Surroundings → Option (List ℕ) → Option (List ℕ) → StreamFault → Type 0
-RelaysFront left target o held_old held_new fault = IfSome left (λ file. (sound : List ℕ) → StandsIn o file sound → AppendsUntil held_old held_new (relayed target o.sound sound) fault)
+abbrev pub RelaysPrefix : Option (List ℕ) → NewFile → Surroundings → Option (List ℕ) → Option (List ℕ) → StreamFault → Type 0
+RelaysPrefix left target o held_old held_new fault = IfSome left (λ file. (sound : List ℕ) → IsPlacedIn o file sound → AppendsUntil held_old held_new (relayed target o.sound sound) fault)
 
 -- this fault stands: the file is no sound in the outline, or it is one of a device, the number of reads or memory
 abbrev pub IsRelayFault : Option (List ℕ) → Surroundings → StreamFault → Type 0
@@ -63,7 +63,7 @@ pub record IsRelaying {W : Type 0} (held : W → Option (List ℕ)) (first now :
   pub target : now.target ≡ first.target
   pub own : s ≡ first.sound
   pub ready : IsReady first
-  pub written : Appends (held (outlet_writer first.outlet.now)) (held (outlet_writer now.outlet.now)) (first.target.head.now ++ relaced s.interleaving first.target.interleaving s.channels done bytes)
+  pub written : Appends (held (outlet_writer first.outlet.now)) (held (outlet_writer now.outlet.now)) (first.target.head.now ++ reinterleaved s.interleaving first.target.interleaving s.channels done bytes)
   pub failures : outlet_failures now.outlet.now ≡ outlet_failures first.outlet.now
 
 -- a fault of its own: another sound, or one of a device or memory
@@ -90,7 +90,7 @@ pub record IsSameAround (o p : Surroundings) : Type 0 where
   pub back : o.back ≡ p.back
 
 -- why a file is not relayed to its end: a fault stands, and of what is made of the file a prefix was written
-pub record RelayFails {W : Type 0} (held : W → Option (List ℕ)) (left : Option (List ℕ)) (target : Target) (o : Surroundings) (old new : Outlet W) (f : StreamFault) : Type 0 where
+pub record RelayFails {W : Type 0} (held : W → Option (List ℕ)) (left : Option (List ℕ)) (target : NewFile) (o : Surroundings) (old new : Outlet W) (f : StreamFault) : Type 0 where
   pub fault : IsRelayFault left o f
-  pub front : RelaysFront left target o (held (outlet_writer old)) (held (outlet_writer new)) f
+  pub front : RelaysPrefix left target o (held (outlet_writer old)) (held (outlet_writer new)) f
   pub failures : outlet_failures new ≡ outlet_failures old + failed_writes {X = Unit {0}} (Err f)

@@ -6,8 +6,8 @@ use Rattle.dsd_bits.specs.declared.interleaving.Interleaving.TheVariants.{Bytes}
 use Rattle.dsd_bits.specs.declared.sound.Sound.{Sound}
 use Rattle.dsd_bits.specs.Sounds.{IsSound, sound_size}
 use Rattle.sound_core.specs.Faults.{IsSinkFault, StopsReading}
-use Rattle.sound_core.specs.Files.{GivesNone, TellsSound}
-use Rattle.sound_core.specs.Outlines.{AreTold, IsOutlineFault, StandsIn, Surroundings}
+use Rattle.sound_core.specs.Files.{GivesNone, StatesSound}
+use Rattle.sound_core.specs.Outlines.{AreStated, IsOutlineFault, IsPlacedIn, Surroundings}
 use Rattle.sound_core.specs.Readers.{FallsShort, IsPassFault, Passes}
 use Rattle.sound_core.specs.Reads.{Reads}
 use Rattle.sound_core.specs.declared.fault.StreamFault.{StreamFault}
@@ -29,12 +29,12 @@ sound_given s given = min (given - s.start) s.size
 -- ---- what is so where a file was read to its end
 -- the file is some sound in the surroundings, and the sink has its bytes
 abbrev pub IsTakenOf : (Sound → ℕ → List ℕ → Type 0) → Surroundings → List ℕ → Type 0
-IsTakenOf has o file = (sound : List ℕ) × StandsIn o file sound × has o.sound o.sound.count sound
+IsTakenOf has o file = (sound : List ℕ) × IsPlacedIn o file sound × has o.sound o.sound.count sound
 
 -- the surroundings describe what a file holds; the reader's file, if it is known, is some sound in them, and the sink
 -- has the bytes of that sound
 abbrev pub TakesFile : (Sound → ℕ → List ℕ → Type 0) → Option (List ℕ) → Surroundings → Type 0
-TakesFile has left o = AreTold o × IfSome left (IsTakenOf has o)
+TakesFile has left o = AreStated o × IfSome left (IsTakenOf has o)
 
 -- the reader returned some bytes, which are some sound in the surroundings, and the sink has its bytes; this also holds
 -- if the reader's bytes aren't known
@@ -47,7 +47,7 @@ pub record BeginsSound (s : Sound) (came file : List ℕ) : Type 0 where
   pub front : List ℕ
   pub rest : List ℕ
   pub file_is : file ≡ front ++ rest
-  pub tells : TellsSound front s
+  pub tells : StatesSound front s
   pub more : List ℕ
   pub sound_is : drop s.start front ++ rest ≡ came ++ more
 

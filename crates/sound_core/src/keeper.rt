@@ -8,7 +8,7 @@ use crate::fault::StreamFault;
 use crate::part::SoundPart;
 use crate::sink::SoundSink;
 use dsd_bits::{BitRange, Bits, Sound};
-use relace_core::unlace;
+use interleave_core::unlace;
 use std::alloc::{AllocError, Global};
 
 /// What is kept of a sound: the bits of each channel in some ranges.

@@ -15,18 +15,18 @@
 //! one now is refused; which bytes its sound has isn't compared with anything.
 //!
 //! A reader has the inlet, a block to read into, the limit of its reads and the buffered bytes (`reader.rt`). It is
-//! read up to the sound (`front.rt`), and then after it (`outline.rt`). A sink that writes uses [`put`].
+//! read up to the sound (`header.rt`), and then after it (`outline.rt`). A sink that writes uses [`put`].
 //!
 //! The words of the contracts:
 //!
-//! - `HoldsRecording file r` says that the file is a DSDIFF or a DSF file that holds this recording. `TellsSound front
+//! - `HoldsRecording file r` says that the file is a DSDIFF or a DSF file that holds this recording. `StatesSound front
 //!   s` says that the first bytes of a file describe this sound (`specs/Files.antt`), in the words of its format: the
 //!   chunks that lead up to it, or the fields. A file that holds a recording describes exactly one
-//!   ([`accepted_files_tell_one_sound`]).
+//!   ([`accepted_files_state_one_sound`]).
 //! - `Reads left old new bytes` says that an inlet returned these bytes and counted them (`specs/Reads.antt`),
 //!   `IsReading reader` that a reader may read on (`specs/Readers.antt`).
-//! - `StandsIn around file sound` says that a file is these sound bytes in their surroundings, `AreTold around` that
-//!   every such file holds what the surroundings describe, with the channels of its sound, and `SurroundsFile left
+//! - `IsPlacedIn around file sound` says that a file is these sound bytes in their surroundings, `AreStated around`
+//!   that every such file holds what the surroundings describe, with the channels of its sound, and `SurroundsFile left
 //!   around` that both hold for a reader's file (`specs/Outlines.antt`).
 //! - `IsFed s done bytes` says that these bytes of a sound came, which are `done` bits of each channel. `TakesFile has
 //!   left around` says that a reader's file is some sound in these surroundings, and that `has` holds of its bytes.
@@ -35,9 +35,9 @@
 //!   of its channels were kept (`specs/Keeping.antt`).
 //!
 //! - `relayed target outline sound` are the bytes that are written of a sound: head, sound, tail. `Relays left target
-//!   outline old new` says that the reader's file is some sound in the outline, and that what was written is made of that
-//!   sound; `RelaysFront left target outline old new fault` that a prefix of it was written, if the file is one, and after
-//!   a failed write not all of it (`specs/Relays.antt`).
+//!   outline old new` says that the reader's file is some sound in the outline, and that what was written is made of
+//!   that sound; `RelaysPrefix left target outline old new fault` that a prefix of it was written, if the file is one,
+//!   and after a failed write not all of it (`specs/Relays.antt`).
 //!
 //! What it promises: Ok means that the reader's file is the outline with some sound, however its reads are cut, and
 //! that every such file holds what the outline describes. A file that is refused holds no recording.
@@ -46,13 +46,13 @@
 //! let mut inlet = Inlet::new(file);
 //! let outline = read_outline(alloc, &mut inlet)?;    // what the file holds beside the bits of its sound
 //!
-//! let target = Target { interleaving: Interleaving::Bytes, head: &head, tail: &tail };
+//! let target = NewFile { interleaving: Interleaving::Bytes, head: &head, tail: &tail };
 //! relay(alloc, &outline, &target, &mut again, &mut outlet)?;    // the same sound, interleaved by bytes
 //! ```
 #![tactic(auto)]
 
 mod fault;
-mod front;
+mod header;
 mod keeper;
 mod keeping;
 mod laws;
@@ -69,10 +69,10 @@ mod writing;
 pub use fault::{StreamFault, Unread};
 pub use keeper::Keeper;
 pub use keeping::{Kept, read_stretches};
-pub use laws::accepted_files_tell_one_sound;
+pub use laws::accepted_files_state_one_sound;
 pub use outline::{Outline, read_outline};
 pub use part::SoundPart;
-pub use relaying::{Target, relay};
+pub use relaying::{NewFile, relay};
 pub use sink::SoundSink;
 pub use taking::read_into;
 pub use writing::put;

@@ -4,7 +4,7 @@ ghost use Rattle.std.specs.Prelude.{◌≡◌, ◌+◌, ◌%◌, ◌<◌, ◌≤
 ghost use Rattle.dsd_bits.specs.Sounds.{IsSound, sound_size};
 
 use dsd_bits::Sound;
-use relace_core::Stretch;
+use interleave_core::Segment;
 
 /// The next part of a sound: whole groups of blocks, or all the rest, in at most 65,536 bytes.
 #[derive(Clone, Copy)]
@@ -26,10 +26,10 @@ impl SoundPart {
     ghost use Rattle.std.specs.Prelude.{◌≡◌};
 
     /// How much of each channel comes.
-    pub fn stretch(&self) -> Stretch
+    pub fn stretch(&self) -> Segment
         ensures { (result.channels ≡ self.now.sound.channels) × (result.count ≡ self.now.bits) }
     {
-        Stretch {
+        Segment {
             channels: self.sound.channels,
             count: self.bits,
         }

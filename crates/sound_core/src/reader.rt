@@ -3,7 +3,7 @@
 ghost use Rattle.std.specs.Prelude.{◌≡◌, ◌+◌, ◌-◌, ◌<◌, ◌≤◌, ◌^◌, ◌++◌, [], List, ℕ, IfErr, IfOk, MatchResult, OnErr, OnOk, drop, false, length, take, true};
 ghost use Rattle.std.specs.Io.KnownBytes.{IsAtEnd};
 ghost use Rattle.std.specs.Io.Iter.{u64_saturate};
-ghost use Rattle.chunk_core.specs.Inlets.{PullsBehind, inlet_failures, inlet_given, inlet_reader, inlet_reads};
+ghost use Rattle.chunk_core.specs.Inlets.{PullsAfter, inlet_failures, inlet_given, inlet_reader, inlet_reads};
 ghost use Rattle.sound_core.specs.Faults.{IsReadingFault, StopsReading};
 ghost use Rattle.sound_core.specs.Readers.{Counts, FallsShort, Fills, IsAtStart, IsPassFault, IsReading, IsSame, Passes, PullsTo};
 ghost use Rattle.sound_core.specs.Reads.{Reads, ReadsAll, ReadsToEnd, ReadsUntil};
@@ -28,7 +28,7 @@ pub(crate) fn new_block(alloc: Global) -> Result<Vec<u8>, AllocError>
 }
 
 // Puts these bytes at the start of a block.
-fn put_front(block: &mut Vec<u8>, bytes: &[u8])
+fn put_first(block: &mut Vec<u8>, bytes: &[u8])
     requires { length bytes.now ≤ length block.old.items }
     ensures long { length block.new.items ≡ length block.old.items }
     ensures front { take (length bytes.now) block.new.items ≡ bytes.now }
@@ -49,7 +49,7 @@ fn pull_part<R: Read>(
     requires fits { size ≤ length block.old.items }
     ensures long { length block.new.items ≡ length block.old.items }
     ensures few { IfOk result (λ n. filled + n ≤ size) }
-    ensures bytes { PullsBehind (R.remaining (inlet_reader inlet.old)) (R.remaining (inlet_reader inlet.new))
+    ensures bytes { PullsAfter (R.remaining (inlet_reader inlet.old)) (R.remaining (inlet_reader inlet.new))
         result filled block.old.items block.new.items }
     ensures failures { MatchResult result
         (λ _. inlet_failures inlet.new ≡ inlet_failures inlet.old)
@@ -60,7 +60,7 @@ fn pull_part<R: Read>(
         (λ _. inlet_given inlet.new ≡ inlet_given inlet.old) }
 {
     let (front, _) = block.as_mut_slice().split_at_mut(size);
-    inlet.pull_behind(front, filled)
+    inlet.pull_after(front, filled)
 }
 
 /// A file that is read from an inlet. The inlet is borrowed, and so is the memory that is read into.
@@ -83,7 +83,8 @@ pub(crate) struct SoundReader<'a, R> {
 impl<'a, R: Read> SoundReader<'a, R> {
     /// A reader before the first byte of a file, of at most `2^40` reads.
     ///
-    /// The inlet has counted fewer than `2^63` reads and bytes, `block` is one of [`new_block`], and `ahead` is empty.
+    /// The inlet has counted fewer than `2^63` reads and bytes, `block` is one of [`new_block`], and `bits_preceding`
+    /// is empty.
     pub(crate) fn new(
         inlet: &'a mut Inlet<R>,
         block: &'a mut Vec<u8>,
@@ -115,7 +116,7 @@ impl<'a, R: Read> SoundReader<'a, R> {
     /// end.
     ///
     /// Refusals: `TurnLimit` if the inlet has counted `limit` reads; `ReadFailed`.
-    fn pull_behind(&mut self, filled: usize, size: usize) -> Result<usize, StreamFault>
+    fn pull_after(&mut self, filled: usize, size: usize) -> Result<usize, StreamFault>
         requires reading { IsReading self.old }
         requires room { filled < size }
         requires fits { size ≤ 65536 }
@@ -141,7 +142,7 @@ impl<'a, R: Read> SoundReader<'a, R> {
     /// Makes the next so many bytes the first of the block: those ahead, and then what is read. It answers whether there
     /// are so many: if not, the file is at its end.
     ///
-    /// Refusals: those of [`SoundReader::pull_behind`].
+    /// Refusals: those of [`SoundReader::pull_after`].
     pub(crate) fn fill(&mut self, size: usize) -> Result<bool, StreamFault>
         requires reading { IsReading self.old }
         requires fits { size ≤ 65536 }
@@ -158,7 +159,7 @@ impl<'a, R: Read> SoundReader<'a, R> {
     {
         let mut filled = self.move_ahead(size);
         while filled < size {
-            let count = self.pull_behind(filled, size)?;
+            let count = self.pull_after(filled, size)?;
             if count == 0 {
                 return Ok(false);
             }
@@ -180,14 +181,14 @@ impl<'a, R: Read> SoundReader<'a, R> {
     {
         let count = size.min(self.ahead.len());
         let (moved, _) = self.ahead.split_at(count);
-        put_front(self.block, moved);
+        put_first(self.block, moved);
         self.drop_ahead(count);
         count
     }
 
     /// One read, whose bytes are appended to the buffered ones. Returns how many came; none only at the end.
     ///
-    /// Refusals: as for [`SoundReader::pull_behind`]; `Memory`.
+    /// Refusals: as for [`SoundReader::pull_after`]; `Memory`.
     pub(crate) fn read_more(&mut self) -> Result<usize, StreamFault>
         requires reading { IsReading self.old }
         ensures same { IsSame self.old self.new }
@@ -201,7 +202,7 @@ impl<'a, R: Read> SoundReader<'a, R> {
         ensures counts { Counts self.old self.new result }
         ensures fault { IfErr result IsReadingFault }
     {
-        let count = self.pull_behind(0, BLOCK)?;
+        let count = self.pull_after(0, BLOCK)?;
         let (read, _) = self.block.split_at(count);
         self.ahead.extend_from_slice(read)?;
         Ok(count)
@@ -230,7 +231,7 @@ impl<'a, R: Read> SoundReader<'a, R> {
 
     /// Reads to the file's end, and keeps nothing.
     ///
-    /// Refusals: as for [`SoundReader::pull_behind`].
+    /// Refusals: as for [`SoundReader::pull_after`].
     pub(crate) fn read_to_end(&mut self) -> Result<(), StreamFault>
         requires reading { IsReading self.old }
         ensures same { IsSame self.old self.new }
@@ -240,7 +241,7 @@ impl<'a, R: Read> SoundReader<'a, R> {
         ensures fault { IfErr result IsReadingFault }
     {
         loop {
-            let count = self.pull_behind(0, BLOCK)?;
+            let count = self.pull_after(0, BLOCK)?;
             if count == 0 {
                 return Ok(());
             }

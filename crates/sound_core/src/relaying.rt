@@ -4,8 +4,8 @@ ghost use Rattle.std.specs.Prelude.{◌≡◌, ◌↔◌, ◌⊎◌, ◌+◌, �
 ghost use Rattle.chunk_core.specs.Inlets.{inlet_failures, inlet_given, inlet_reader, inlet_reads};
 ghost use Rattle.chunk_core.specs.Outlets.{outlet_failures, outlet_writer};
 ghost use Rattle.sound_core.specs.Faults.{failed_reads, failed_writes};
-ghost use Rattle.sound_core.specs.Outlines.{AreTold, around_of};
-ghost use Rattle.sound_core.specs.Relays.{IsReady, IsRelayFault, IsSameAround, RelayFails, Relays, RelaysFront, RelaysGiven};
+ghost use Rattle.sound_core.specs.Outlines.{AreStated, around_of};
+ghost use Rattle.sound_core.specs.Relays.{IsReady, IsRelayFault, IsSameAround, RelayFails, Relays, RelaysPrefix, RelaysGiven};
 
 use crate::fault::StreamFault;
 use crate::outline::Outline;
@@ -22,7 +22,7 @@ const MOST_COUNTED: u64 = 0x8000_0000_0000_0000;
 
 /// What is written around a sound, and how the sound between is interleaved.
 #[derive(Clone, Copy)]
-pub struct Target<'a> {
+pub struct NewFile<'a> {
     /// How the sound between is interleaved.
     pub interleaving: Interleaving,
     /// The bytes before the sound.
@@ -40,11 +40,11 @@ pub struct Target<'a> {
 pub fn relay<R: Read, W: Write>(
     alloc: Global,
     outline: &Outline,
-    target: &Target<'_>,
+    target: &NewFile<'_>,
     inlet: &mut Inlet<R>,
     outlet: &mut Outlet<W>,
 ) -> Result<(), StreamFault>
-    requires told { AreTold (around_of outline.now) }
+    requires told { AreStated (around_of outline.now) }
     requires whole { target.now.interleaving ≡ Interleaving.Bytes → outline.now.sound.count % 8 ≡ 0 }
     requires inlet_ready { inlet_failures inlet.old < 2 ^ 64 - 1 }
     requires outlet_ready { outlet_failures outlet.old < 2 ^ 64 - 1 }
@@ -55,7 +55,7 @@ pub fn relay<R: Read, W: Write>(
     ensures any_reader { OnOk result (RelaysGiven R.remaining inlet.old inlet.new target.now (around_of outline.now)
         (W.contents (outlet_writer outlet.old)) (W.contents (outlet_writer outlet.new))) }
     // After a refusal a prefix was written, and after `WriteFailed` not all of it.
-    ensures front { IfErr result (RelaysFront (R.remaining (inlet_reader inlet.old)) target.now (around_of outline.now)
+    ensures front { IfErr result (RelaysPrefix (R.remaining (inlet_reader inlet.old)) target.now (around_of outline.now)
         (W.contents (outlet_writer outlet.old)) (W.contents (outlet_writer outlet.new))) }
     ensures fault { IfErr result (IsRelayFault (R.remaining (inlet_reader inlet.old)) (around_of outline.now)) }
     ensures read_failed { inlet_failures inlet.new ≡ inlet_failures inlet.old + failed_reads result }
@@ -85,7 +85,7 @@ fn relay_by<R: Read, W: Write>(
     inlet: &mut Inlet<R>,
     sink: &mut RelayingSink<'_, '_, W>,
 ) -> Result<(), StreamFault>
-    requires told { AreTold (around_of outline.now) }
+    requires told { AreStated (around_of outline.now) }
     requires sound { sink.old.sound ≡ outline.now.sound }
     requires sink_ready { IsReady sink.old }
     requires inlet_ready { inlet_failures inlet.old < 2 ^ 64 - 1 }

@@ -2,12 +2,12 @@
 
 use crate::fault::StreamFault;
 use crate::part::SoundPart;
-use crate::relaying::Target;
+use crate::relaying::NewFile;
 use crate::sink::SoundSink;
 use crate::writing::put;
 use chunk_core::Outlet;
 use dsd_bits::Sound;
-use relace_core::push_relaced;
+use interleave_core::push_reinterleaved;
 use std::alloc::Global;
 use std::io::Write;
 
@@ -16,7 +16,7 @@ use std::io::Write;
 #[derive(Drop)]
 pub(crate) struct RelayingSink<'a, 't, W> {
     /// What is written around the sound, and how it is interleaved between.
-    pub(crate) target: Target<'t>,
+    pub(crate) target: NewFile<'t>,
     /// The sound.
     pub(crate) sound: Sound,
     /// Where the bytes go.
@@ -43,7 +43,7 @@ impl<'a, 't, W: Write> SoundSink for RelayingSink<'a, 't, W> {
 
     fn take(&mut self, alloc: Global, part: SoundPart, bytes: &[u8]) -> Result<(), StreamFault> {
         self.out.clear();
-        push_relaced(
+        push_reinterleaved(
             alloc,
             self.out,
             bytes,

@@ -13,7 +13,7 @@ ghost use Rattle.sound_core.specs.Readers.{Counts, IsAtStart, IsReading, IsSame}
 ghost use Rattle.sound_core.specs.Sinks.{EndsInPart, EndsShort, IsFed, StopsPart, StopsSound, StopsTaking, TakesFile, TakesGiven, TakesPart, TakesSome};
 
 use crate::fault::{StreamFault, Unread};
-use crate::front::read_front;
+use crate::header::read_header;
 use crate::outline::{Outline, read_rest};
 use crate::part::SoundPart;
 use crate::reader::{SoundReader, new_block};
@@ -22,7 +22,7 @@ use chunk_core::Inlet;
 use dsd_bits::Sound;
 use dsf_core::DsfFault;
 use form_core::ReadFault;
-use relace_core::{stretch_bits, stretch_size};
+use interleave_core::{segment_bits, segment_size};
 use std::alloc::Global;
 use std::io::Read;
 
@@ -126,7 +126,7 @@ fn take_file<R: Read, S: SoundSink>(
     ensures fault { IfErr result (StopsTaking S.has S.refused (R.remaining (inlet_reader reader.old.inlet.now))
         (inlet_given reader.old.inlet.now) (inlet_given reader.new.inlet.now) sink.old sink.new) }
 {
-    let sound = read_front(alloc, reader)?;
+    let sound = read_header(alloc, reader)?;
     let head = reader.take_head(alloc, sound.start)?;
     match take_sound(alloc, sound, sink, reader) {
         Ok(true) => {}
@@ -177,7 +177,7 @@ fn take_sound<R: Read, S: SoundSink>(
         sink.old sink.new reader.old.ahead.now.items) }
 {
     sink.begin(alloc, sound)?;
-    let most = stretch_bits(sound.channels);
+    let most = segment_bits(sound.channels);
     let mut done = 0;
     while done < sound.count {
         let bits = (sound.count - done).min(most);
@@ -210,7 +210,7 @@ fn take_part<R: Read, S: SoundSink>(
     ensures fault { IfErr result (StopsPart R.remaining S.has S.refused reader.old.inlet.now reader.new.inlet.now
         sink.old sink.new part reader.old.ahead.now.items reader.new.ahead.now.items) }
 {
-    let size = stretch_size(part.sound.interleaving, part.sound.channels, part.bits);
+    let size = segment_size(part.sound.interleaving, part.sound.channels, part.bits);
     if !reader.fill(size)? {
         return Ok(false);
     }

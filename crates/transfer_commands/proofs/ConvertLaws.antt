@@ -3,7 +3,7 @@ use Rattle.std.proofs.Common.{arith, ◌≡◌, ℕ, ◌%◌, ◌⊎◌, ◌==�
 use Rattle.std.proofs.lemmas.Bool.Decides.{nat_tests}
 use Rattle.dsd_bits.specs.Channels.{count_of}
 use Rattle.dsd_bits.specs.Contents.{Content, described}
-use Rattle.chunk_core.specs.Outlets.{AppendsFront}
+use Rattle.chunk_core.specs.Outlets.{AppendsPrefix}
 use Rattle.form_core.specs.Forms.{HoldsAs, dropped_in, form_in, text_in}
 use Rattle.form_core.specs.Laws.{HeldIsOpened}
 use Rattle.form_core.specs.Opening.{Opens, opened_of}
@@ -25,11 +25,11 @@ use Rattle.transfer_core.specs.Conversions as streams
 use Rattle.transfer_core.specs.declared.fault.Fault.TheVariants.{Memory, NotWholeBytes}
 use Rattle.transfer_commands.specs.declared.fault.CommandFault.{CommandFault}
 use Rattle.transfer_commands.specs.declared.fault.CommandFault.TheVariants as faults
-use Rattle.transfer_commands.specs.Converting.{ConvertComesTo, ConvertsFile, ConvertsFront, IsUnconverted, KeepsOld}
+use Rattle.transfer_commands.specs.Converting.{ConvertComesTo, ConvertsFile, ConvertsPrefix, IsUnconverted, KeepsOld}
 use Rattle.transfer_commands.specs.Faults.{of_file}
 use Rattle.transfer_commands.specs.Outlining.{IsOutlined, IsUnoutlined, IsUnread, OutlinesRead}
 use Rattle.sound_core.proofs.HeldLaws.{channels_count}
-use Rattle.transfer_commands.proofs.ReadLaws.{last_of, untold}
+use Rattle.transfer_commands.proofs.ReadLaws.{last_of, unknown_view}
 use Rattle.transfer_core.proofs.FormLaws.{holds_as}
 use Rattle.transfer_commands.proofs.TellLaws.{told_number}
 
@@ -106,18 +106,18 @@ module _ (outline : Outline) (file : List ℕ) (form : Form) (is : IsOutlined fi
 
 module _ (form : Form) (input output : List ℕ) (old new : View) (others : KeepsOthers output old new) where
   -- all was written, and handed back
-  pub converts_all : (left empty written : Option (List ℕ)) (dropped : ℕ) → IsGiven old input left → (IsTrue old.is_told → empty ≡ Some []) → (IsTrue old.is_told → new.file output ≡ written) → streams.ConvertsFile left form empty written dropped
+  pub converts_all : (left empty written : Option (List ℕ)) (dropped : ℕ) → IsGiven old input left → (IsTrue old.is_told → empty ≡ Some []) → (IsTrue old.is_told → new.file output ≡ written) → streams.ConvertsReader left form empty written dropped
       → (read : List ℕ) × (bytes : List ℕ) × Converts read form bytes dropped → ConvertsFile form input output old new dropped
   converts_all left empty written dropped given is_empty stands converts some = by old.is_told refl
     where
-      all : (file : List ℕ) (w : Option (List ℕ)) → streams.ConvertsFile (Some file) form (Some []) w dropped → (bytes : List ℕ) × Converts file form bytes dropped × (w ≡ Some bytes)
+      all : (file : List ℕ) (w : Option (List ℕ)) → streams.ConvertsReader (Some file) form (Some []) w dropped → (bytes : List ℕ) × Converts file form bytes dropped × (w ≡ Some bytes)
       all file None h = absurd h.2
       all file (Some w) h = (h.0, h.1, ap Some h.2)
 
       by : (told : Bool) → old.is_told ≡ told → ConvertsFile form input output old new dropped
       by true is =
           let g = given is in
-          let made = all g.0 written (subst (λ o. streams.ConvertsFile o form (Some []) written dropped) g.2 (subst (λ o. streams.ConvertsFile left form o written dropped) (is_empty is) converts)) in
+          let made = all g.0 written (subst (λ o. streams.ConvertsReader o form (Some []) written dropped) g.2 (subst (λ o. streams.ConvertsReader left form o written dropped) (is_empty is) converts)) in
           record {
             file = g.0;
             bytes = made.0;
@@ -129,15 +129,15 @@ module _ (form : Form) (input output : List ℕ) (old new : View) (others : Keep
       by false is = record {
         file = some.0;
         bytes = some.1;
-        file_read = untold old.is_told is;
-        output_put = untold new.is_told (others.same_told ∙ is);
+        file_read = unknown_view old.is_told is;
+        output_put = unknown_view new.is_told (others.same_told ∙ is);
         others = others;
         converts = some.2;
       }
 
   module _ (outline : Outline) (found : OutlinesRead input old outline) (in_parts : WrittenInParts) (fits : FitsIn form outline.sound.count) where
     -- the output is as it was
-    pub converts_none : new.file output ≡ old.file output → ConvertsFront form input output old new
+    pub converts_none : new.file output ≡ old.file output → ConvertsPrefix form input output old new
     converts_none same =
         let made = outlined_converts outline found.file form found.is_outline in_parts fits in
         record {
@@ -154,7 +154,7 @@ module _ (form : Form) (input output : List ℕ) (old new : View) (others : Keep
         }
 
     -- a prefix was written, and handed back, or not even that
-    pub converts_front : (left empty written : Option (List ℕ)) → IsGiven old input left → (IsTrue old.is_told → empty ≡ Some []) → (IsTrue old.is_told → IsGivenUp output old new written) → streams.ConvertsFront left (around_of outline) form empty written → ConvertsFront form input output old new
+    pub converts_front : (left empty written : Option (List ℕ)) → IsGiven old input left → (IsTrue old.is_told → empty ≡ Some []) → (IsTrue old.is_told → IsGivenUp output old new written) → streams.ConvertsPrefix left (around_of outline) form empty written → ConvertsPrefix form input output old new
     converts_front left empty written given is_empty stays front =
         let made = outlined_converts outline found.file form found.is_outline in_parts fits in
         let read = last_of old input left given found.file found.file_read in
@@ -171,10 +171,10 @@ module _ (form : Form) (input output : List ℕ) (old new : View) (others : Keep
           others = others;
         }
       where
-        own : left ≡ Some found.file → empty ≡ Some [] → streams.ConvertsFront (Some found.file) (around_of outline) form (Some []) written
-        own left_is none = subst (λ o. streams.ConvertsFront o (around_of outline) form (Some []) written) left_is (subst (λ o. streams.ConvertsFront left (around_of outline) form o written) none front)
+        own : left ≡ Some found.file → empty ≡ Some [] → streams.ConvertsPrefix (Some found.file) (around_of outline) form (Some []) written
+        own left_is none = subst (λ o. streams.ConvertsPrefix o (around_of outline) form (Some []) written) left_is (subst (λ o. streams.ConvertsPrefix left (around_of outline) form o written) none front)
 
-        prefix : (bytes : List ℕ) (w : Option (List ℕ)) → new.file output ≡ w → AppendsFront (Some []) w bytes → HadNone output old → HoldsPrefix output old new bytes
+        prefix : (bytes : List ℕ) (w : Option (List ℕ)) → new.file output ≡ w → AppendsPrefix (Some []) w bytes → HadNone output old → HoldsPrefix output old new bytes
         prefix bytes None is h had_none = absurd h.3
         prefix bytes (Some w) is h had_none = record { prefix = h.0; rest = h.1; parts = h.2; stands = is ∙ ap Some h.3; had_none = had_none }
 

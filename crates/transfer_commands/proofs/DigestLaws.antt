@@ -13,7 +13,7 @@ use Rattle.dsd_bits.specs.Sounds.{sound_channels, sound_size}
 use Rattle.dsd_bits.specs.declared.interleaving.Interleaving.TheVariants.{Bytes}
 use Rattle.dsd_bits.specs.declared.sound.Sound.{Sound}
 use Rattle.dsd_bits.proofs.BlockLemmas.{packed_at}
-use Rattle.relace_core.proofs.JoinLaws.{Appended, taken}
+use Rattle.interleave_core.proofs.JoinLaws.{Appended, taken}
 use Rattle.sound_core.proofs.HeldLaws.{channels_number}
 use Rattle.sound_core.proofs.KeeperLaws.{no_size}
 use Rattle.sound_core.specs.Sinks.{IsFed}

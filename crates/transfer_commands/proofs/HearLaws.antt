@@ -5,8 +5,8 @@ use Rattle.std.proofs.lemmas.List.{length-append, length-take-le, take_more}
 use Rattle.splice_core.specs.Splices.{SpliceContent}
 use Rattle.form_core.specs.Steps.{Fails}
 use Rattle.cut_core.specs.declared.fault.CutFault.{CutFault}
-use Rattle.cut_core.specs.declared.heard.Heard.{Heard}
-use Rattle.cut_core.specs.Opening.{HearsTake, HearsTakes, take_in, takes_before, takes_of}
+use Rattle.cut_core.specs.declared.excerpts.Excerpts.{Excerpts}
+use Rattle.cut_core.specs.Opening.{ReturnsExcerpts, ReturnsAllExcerpts, take_in, takes_before, takes_of}
 use Rattle.transfer_core.specs.declared.fault.Fault.{Fault}
 use Rattle.transfer_core.specs.declared.fault.Fault.TheVariants.{Memory}
 use Rattle.transfer_core.specs.Projects.{SaysSplice, splice_of, take_names_of}
@@ -17,7 +17,7 @@ use Rattle.cut_core.proofs.ZipLaws.{zip_long, zip_more}
 use Rattle.transfer_commands.specs.declared.fault.CommandFault.{CommandFault}
 use Rattle.transfer_commands.specs.declared.fault.CommandFault.TheVariants as faults
 use Rattle.transfer_commands.specs.Faults.{of_file}
-use Rattle.transfer_commands.specs.Hearing.{HearsFile, HearsFiles, HearsSources}
+use Rattle.transfer_commands.specs.Excerpts.{ReadsExcerpts, ReadsAllExcerpts, ReadsSourceExcerpts}
 use Rattle.transfer_commands.specs.Outlining.{IsUnread}
 use Rattle.transfer_commands.specs.Sources.{IsUnnamed, SourcesUnread}
 
@@ -26,17 +26,17 @@ pub as_many : (old : View) (names files : List (List ℕ)) → AreReadOf old nam
 as_many old names files read = zip_long (IsReadOf old) names files read
 
 module _ (old : View) (splice : SpliceContent) (names : List (List ℕ)) (n : ℕ) (there : n < length names) where
-  pub files_more : (heard made : Result (Vec Heard Global) CutFault) (next : Result Heard CutFault) → HearsFiles old splice (take n names) heard → HearsFile old splice n (get_or names n []) next
-      → ((files : List (List ℕ)) (file : List ℕ) → HearsTakes splice heard (takes_before files (length files)) → HearsTake splice (length files) next (take_in (length files) file) → HearsTakes splice made (takes_before (files ++ file ∷ []) (length files + 1)))
-      → HearsFiles old splice (take (n + 1) names) made
-  files_more heard made next before one pushed =
+  pub files_more : (excerpts made : Result (Vec Excerpts Global) CutFault) (next : Result Excerpts CutFault) → ReadsAllExcerpts old splice (take n names) excerpts → ReadsExcerpts old splice n (get_or names n []) next
+      → ((files : List (List ℕ)) (file : List ℕ) → ReturnsAllExcerpts splice excerpts (takes_before files (length files)) → ReturnsExcerpts splice (length files) next (take_in (length files) file) → ReturnsAllExcerpts splice made (takes_before (files ++ file ∷ []) (length files + 1)))
+      → ReadsAllExcerpts old splice (take (n + 1) names) made
+  files_more excerpts made next before one pushed =
       let many : length before.files ≡ n = as_many old (take n names) before.files before.read ∙ length-take-le n names (omega arith) in
       let more : length (before.files ++ one.file ∷ []) ≡ length before.files + 1 = length-append before.files (one.file ∷ []) in
-      let hears = pushed before.files one.file before.hears (subst (λ k. HearsTake splice k next (take_in k one.file)) (sym many) one.hears) in
+      let reads_excerpts = pushed before.files one.file before.reads_excerpts (subst (λ k. ReturnsExcerpts splice k next (take_in k one.file)) (sym many) one.reads_excerpts) in
       record {
         files = before.files ++ one.file ∷ [];
         read = subst (λ (ns : List (List ℕ)). AreReadOf old ns (before.files ++ one.file ∷ [])) (sym (take_more names n [] there)) (zip_more (IsReadOf old) (take n names) before.files (get_or names n []) one.file before.read one.file_read);
-        hears = subst (λ k. HearsTakes splice made (takes_before (before.files ++ one.file ∷ []) k)) (sym more) hears;
+        reads_excerpts = subst (λ k. ReturnsAllExcerpts splice made (takes_before (before.files ++ one.file ∷ []) k)) (sym more) reads_excerpts;
       }
 
 -- ---- those of a project
@@ -44,8 +44,8 @@ pub all_takes : (splice : SpliceContent) (files : List (List ℕ)) → length fi
 unfolding takes_of
 all_takes splice files many = rw (eq-eqb _ _ many) refl
 
-pub sources_heard : (name : List ℕ) (old read : View) (project : List ℕ) (splice : SpliceContent) (heard : Result (Vec Heard Global) CutFault) → read ≡ old → IsReadOf old name project → SaysSplice project splice → HearsFiles read splice splice.takes heard → HearsSources name old splice heard
-sources_heard name old read project splice heard same project_read says h = record {
+pub sources_heard : (name : List ℕ) (old read : View) (project : List ℕ) (splice : SpliceContent) (excerpts : Result (Vec Excerpts Global) CutFault) → read ≡ old → IsReadOf old name project → SaysSplice project splice → ReadsAllExcerpts read splice splice.takes excerpts → ReadsSourceExcerpts name old splice excerpts
+sources_heard name old read project splice excerpts same project_read says h = record {
   project = project;
   takes = h.files;
   sources = record {
@@ -55,7 +55,7 @@ sources_heard name old read project splice heard same project_read says h = reco
     takes_read = subst (λ (v : View). AreReadOf v splice.takes h.files) same h.read;
   };
   project_says = says;
-  hears = rw (all_takes splice h.files (as_many read splice.takes h.files h.read)) h.hears;
+  reads_excerpts = rw (all_takes splice h.files (as_many read splice.takes h.files h.read)) h.reads_excerpts;
 }
 
 -- a project without a splice names no takes

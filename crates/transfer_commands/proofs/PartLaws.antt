@@ -3,9 +3,9 @@ use Rattle.std.proofs.Common.{◌≡◌, ℕ, inl, inr, Bool, List, [], ◌++◌
 use Rattle.transfer_core.specs.PartStreaming.{PartOnlyFromOutside, PartStands, PlaysPart}
 use Rattle.transfer_core.specs.declared.fault.Fault as calls
 use Rattle.transfer_core.specs.declared.spans.Span.{Span}
-use Rattle.player_core.specs.Playing.{PlaysFile, WritesFront}
+use Rattle.player_core.specs.Playing.{PlaysFile, WritesPrefix}
 use Rattle.transfer_core.specs.Streaming.{IsBeforeWriting}
-use Rattle.chunk_core.specs.Outlets.{AppendsFront}
+use Rattle.chunk_core.specs.Outlets.{AppendsPrefix}
 use Rattle.folder_core.specs.Files.{IsGiven, IsGivenUp, IsReadOf, KeepsOthers, View}
 use Rattle.transfer_commands.specs.PartPlaying.{EndsPart, HasSpan, HoldsPart, IsPartRefused, LeavesPartFront, PlayPartComesTo, PlayedPartComesTo}
 use Rattle.transfer_commands.specs.declared.fault.CommandFault.{CommandFault}
@@ -16,9 +16,9 @@ use Rattle.folder_core.specs.Files.{IsReadFault}
 use Rattle.folder_core.specs.declared.fault.FileFault.{FileFault}
 use Rattle.folder_core.specs.declared.fault.FileFault.TheVariants as files
 use Rattle.transfer_commands.specs.Faults.{of_file}
-use Rattle.transfer_commands.specs.Telling.{TellComesTo}
-use Rattle.transfer_commands.specs.declared.telling.Told.{Told}
-use Rattle.transfer_commands.proofs.ReadLaws.{untold}
+use Rattle.transfer_commands.specs.Reporting.{ReportComesTo}
+use Rattle.transfer_commands.specs.declared.reporting.Reported.{Reported}
+use Rattle.transfer_commands.proofs.ReadLaws.{unknown_view}
 
 -- ---- a file that is played
 -- all of it was written, and handed back
@@ -35,11 +35,11 @@ part_played project start stop input output old new remaining held written given
         let g = given is in
         let made = all g.0 written (subst (λ o. PlaysFile o (PlaysPart project start stop) (Some []) written n) g.2 (subst (λ o. PlaysFile remaining (PlaysPart project start stop) o written n) (empty is) plays)) (stands is) in
         (g.0, made.0, (λ told. g.1), (λ told. made.1), made.2, made.3, others)
-    by false is = (some.0, some.1, untold old.is_told is, untold new.is_told (others.same_told ∙ is), some.2, some.3, others)
+    by false is = (some.0, some.1, unknown_view old.is_told is, unknown_view new.is_told (others.same_told ∙ is), some.2, some.3, others)
 
 -- a fault ended it, and what was written is given up
 pub part_ended : (project : List ℕ) (start stop : ℕ) (output : List ℕ) (old new : View) (remaining held written : Option (List ℕ)) → IsGivenUp output old new written
-    → (fault : calls.Fault) → PartStands remaining project start stop fault → PartOnlyFromOutside remaining project start stop fault → WritesFront remaining (PlaysPart project start stop) held written → (IsBeforeWriting fault → written ≡ held)
+    → (fault : calls.Fault) → PartStands remaining project start stop fault → PartOnlyFromOutside remaining project start stop fault → WritesPrefix remaining (PlaysPart project start stop) held written → (IsBeforeWriting fault → written ≡ held)
     → (file : List ℕ) → remaining ≡ Some file → held ≡ Some [] → EndsPart project start stop file output old new fault
 part_ended project start stop output old new remaining held written stays fault stands outside front unwritten file left empty = record {
   stands = subst (λ o. PartStands o project start stop fault) left stands;
@@ -47,14 +47,14 @@ part_ended project start stop output old new remaining held written stays fault 
   front = by stays;
 }
   where
-    own : WritesFront (Some file) (PlaysPart project start stop) (Some []) written
-    own = subst (λ o. WritesFront o (PlaysPart project start stop) (Some []) written) left (subst (λ o. WritesFront remaining (PlaysPart project start stop) o written) empty front)
+    own : WritesPrefix (Some file) (PlaysPart project start stop) (Some []) written
+    own = subst (λ o. WritesPrefix o (PlaysPart project start stop) (Some []) written) left (subst (λ o. WritesPrefix remaining (PlaysPart project start stop) o written) empty front)
 
-    front_of : (w : Option (List ℕ)) (bytes : List ℕ) → new.file output ≡ w → AppendsFront (Some []) w bytes → (prefix : List ℕ) × (rest : List ℕ) × (new.file output ≡ Some prefix) × (bytes ≡ prefix ++ rest)
+    front_of : (w : Option (List ℕ)) (bytes : List ℕ) → new.file output ≡ w → AppendsPrefix (Some []) w bytes → (prefix : List ℕ) × (rest : List ℕ) × (new.file output ≡ Some prefix) × (bytes ≡ prefix ++ rest)
     front_of None bytes is h = absurd h.3
     front_of (Some w) bytes is h = (h.0, h.1, is ∙ ap (λ xs. Some xs) h.3, h.2)
 
-    holds : (w : Option (List ℕ)) → WritesFront (Some file) (PlaysPart project start stop) (Some []) w → (IsBeforeWriting fault → w ≡ Some []) → new.file output ≡ w → HoldsPart project start stop file fault (new.file output)
+    holds : (w : Option (List ℕ)) → WritesPrefix (Some file) (PlaysPart project start stop) (Some []) w → (IsBeforeWriting fault → w ≡ Some []) → new.file output ≡ w → HoldsPart project start stop file fault (new.file output)
     holds w h none is = record { prefix = λ bytes plays. front_of w bytes is (h bytes plays); none = λ before. is ∙ none before }
 
     by : IsGivenUp output old new written → LeavesPartFront project start stop file fault output old new
@@ -102,13 +102,13 @@ project_unread project file_name output_name span old new same files.Memory h = 
 project_unread project file_name output_name span old new same files.WriteFailed h = absurd h
 
 -- a file that is told of, or not
-pub told_same : (file : List ℕ) (old new : View) (r : Result Told CommandFault) → TellComesTo file old new r → new ≡ old
+pub told_same : (file : List ℕ) (old new : View) (r : Result Reported CommandFault) → ReportComesTo file old new r → new ≡ old
 told_same file old new (Ok told) h = h.same
 told_same file old new (Err (Call fault)) h = h.0
 told_same file old new (Err ReadFailed) h = h
 told_same file old new (Err WriteFailed) h = absurd h
 
-pub untold_refused : (file : List ℕ) (old new : View) (fault : CommandFault) → TellComesTo file old new (Err fault) → IsPartRefused (Command fault)
+pub untold_refused : (file : List ℕ) (old new : View) (fault : CommandFault) → ReportComesTo file old new (Err fault) → IsPartRefused (Command fault)
 untold_refused file old new (Call fault) h = tt
 untold_refused file old new ReadFailed h = tt
 untold_refused file old new WriteFailed h = absurd h

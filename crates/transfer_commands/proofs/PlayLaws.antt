@@ -2,14 +2,14 @@
 use Rattle.std.proofs.Common.{◌≡◌, ℕ, inl, inr, Bool, List, [], ◌++◌, IsTrue, Option, None, Some, Result, Ok, Err, false, length, true, refl, subst, ap, ◌∙◌}
 use Rattle.transfer_core.specs.Playing.{Plays}
 use Rattle.transfer_core.specs.declared.fault.Fault as calls
-use Rattle.player_core.specs.Playing.{PlaysFile, WritesFront}
-use Rattle.transfer_core.specs.Streaming.{IsBeforeWriting, OnlyFromOutside, StreamStands}
-use Rattle.chunk_core.specs.Outlets.{AppendsFront}
+use Rattle.player_core.specs.Playing.{PlaysFile, WritesPrefix}
+use Rattle.transfer_core.specs.Streaming.{IsBeforeWriting, OnlyFromOutside, StreamApplies}
+use Rattle.chunk_core.specs.Outlets.{AppendsPrefix}
 use Rattle.folder_core.specs.Files.{IsGiven, IsGivenUp, IsReadOf, KeepsOthers, View}
-use Rattle.transfer_commands.specs.Playing.{EndsPlaying, HoldsPlayed, LeavesFront, PlayComesTo, PlayedComesTo}
+use Rattle.transfer_commands.specs.Playing.{EndsPlaying, HoldsPlayed, LeavesPrefix, PlayComesTo, PlayedComesTo}
 use Rattle.transfer_commands.specs.declared.fault.CommandFault.{CommandFault}
 use Rattle.transfer_commands.specs.declared.fault.CommandFault.TheVariants.{Call, ReadFailed, WriteFailed}
-use Rattle.transfer_commands.proofs.ReadLaws.{untold}
+use Rattle.transfer_commands.proofs.ReadLaws.{unknown_view}
 
 -- ---- a file that is played
 -- all of it was written, and handed back
@@ -26,29 +26,29 @@ played project input output old new remaining held written given empty others st
         let g = given is in
         let made = all g.0 written (subst (λ o. PlaysFile o (Plays project) (Some []) written n) g.2 (subst (λ o. PlaysFile remaining (Plays project) o written n) (empty is) plays)) (stands is) in
         (g.0, made.0, (λ told. g.1), (λ told. made.1), made.2, made.3, others)
-    by false is = (some.0, some.1, untold old.is_told is, untold new.is_told (others.same_told ∙ is), some.2, some.3, others)
+    by false is = (some.0, some.1, unknown_view old.is_told is, unknown_view new.is_told (others.same_told ∙ is), some.2, some.3, others)
 
 -- a fault ended it, and what was written is given up
 pub ended : (project output : List ℕ) (old new : View) (remaining held written : Option (List ℕ)) → IsGivenUp output old new written
-    → (fault : calls.Fault) → StreamStands remaining project fault → OnlyFromOutside remaining project fault → WritesFront remaining (Plays project) held written → (IsBeforeWriting fault → written ≡ held)
+    → (fault : calls.Fault) → StreamApplies remaining project fault → OnlyFromOutside remaining project fault → WritesPrefix remaining (Plays project) held written → (IsBeforeWriting fault → written ≡ held)
     → (file : List ℕ) → remaining ≡ Some file → held ≡ Some [] → EndsPlaying project file output old new fault
 ended project output old new remaining held written stays fault stands outside front unwritten file left empty = record {
-  stands = subst (λ o. StreamStands o project fault) left stands;
+  stands = subst (λ o. StreamApplies o project fault) left stands;
   outside = subst (λ o. OnlyFromOutside o project fault) left outside;
   front = by stays;
 }
   where
-    own : WritesFront (Some file) (Plays project) (Some []) written
-    own = subst (λ o. WritesFront o (Plays project) (Some []) written) left (subst (λ o. WritesFront remaining (Plays project) o written) empty front)
+    own : WritesPrefix (Some file) (Plays project) (Some []) written
+    own = subst (λ o. WritesPrefix o (Plays project) (Some []) written) left (subst (λ o. WritesPrefix remaining (Plays project) o written) empty front)
 
-    front_of : (w : Option (List ℕ)) (bytes : List ℕ) → new.file output ≡ w → AppendsFront (Some []) w bytes → (prefix : List ℕ) × (rest : List ℕ) × (new.file output ≡ Some prefix) × (bytes ≡ prefix ++ rest)
+    front_of : (w : Option (List ℕ)) (bytes : List ℕ) → new.file output ≡ w → AppendsPrefix (Some []) w bytes → (prefix : List ℕ) × (rest : List ℕ) × (new.file output ≡ Some prefix) × (bytes ≡ prefix ++ rest)
     front_of None bytes is h = absurd h.3
     front_of (Some w) bytes is h = (h.0, h.1, is ∙ ap (λ xs. Some xs) h.3, h.2)
 
-    holds : (w : Option (List ℕ)) → WritesFront (Some file) (Plays project) (Some []) w → (IsBeforeWriting fault → w ≡ Some []) → new.file output ≡ w → HoldsPlayed project file fault (new.file output)
+    holds : (w : Option (List ℕ)) → WritesPrefix (Some file) (Plays project) (Some []) w → (IsBeforeWriting fault → w ≡ Some []) → new.file output ≡ w → HoldsPlayed project file fault (new.file output)
     holds w h none is = record { prefix = λ bytes plays. front_of w bytes is (h bytes plays); none = λ before. is ∙ none before }
 
-    by : IsGivenUp output old new written → LeavesFront project file fault output old new
+    by : IsGivenUp output old new written → LeavesPrefix project file fault output old new
     by (inl same) = inl same
     by (inr (is, had_none)) = inr (holds written own (λ before. unwritten before ∙ empty) is, had_none)
 

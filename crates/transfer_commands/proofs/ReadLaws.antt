@@ -1,14 +1,14 @@
 -- What is known of bytes that were read of a name, whether a folder tells them or not.
 use Rattle.std.proofs.Common.{◌≡◌, ℕ, Bool, List, IsTrue, Option, Some, false, true, refl, subst, sym, ◌∙◌}
 use Rattle.std.specs.Prelude.{IfSome}
-use Rattle.folder_core.specs.Files.{Gives, IsGiven, IsReadOf, View}
+use Rattle.folder_core.specs.Files.{OpensAs, IsGiven, IsReadOf, View}
 use Rattle.folder_core.specs.ShortFiles.{IsShort, IsShortOf}
 use Rattle.std.specs.Prelude.{Vec}
 use Rattle.std.specs.declared.alloc.Global.{Global}
 
 -- of a folder that tells nothing nothing is asked
-pub untold : {A : Type 0} (told : Bool) → told ≡ false → IsTrue told → A
-untold told is h = let no : false ≡ true = sym is ∙ h in absurd cc
+pub unknown_view : {A : Type 0} (told : Bool) → told ≡ false → IsTrue told → A
+unknown_view told is h = let no : false ≡ true = sym is ∙ h in absurd cc
 
 -- what is so of the bytes that a reader has left, and of some, is so of bytes that were read of its name
 pub known_or_some : (view : View) (name : List ℕ) (left : Option (List ℕ)) (P : List ℕ → Type 0) → IsGiven view name left → IfSome left P → (file : List ℕ) × P file → (file : List ℕ) × IsReadOf view name file × P file
@@ -16,7 +16,7 @@ known_or_some view name left P given known some = by view.is_told refl
   where
     by : (told : Bool) → view.is_told ≡ told → (file : List ℕ) × IsReadOf view name file × P file
     by true is = let h = given is in (h.0, (λ told. h.1), subst (λ o. IfSome o P) h.2 known)
-    by false is = (some.0, untold view.is_told is, some.1)
+    by false is = (some.0, unknown_view view.is_told is, some.1)
 
 -- the bytes of a reader that was opened under a name, and those read before where it doesn't tell them
 pub last_of : (view : View) (name : List ℕ) (left : Option (List ℕ)) → IsGiven view name left → (file : List ℕ) → IsReadOf view name file → (last : List ℕ) × IsReadOf view name last × (IsTrue view.is_told → left ≡ Some last)
@@ -24,8 +24,8 @@ last_of view name left given file read = by view.is_told refl
   where
     by : (told : Bool) → view.is_told ≡ told → (last : List ℕ) × IsReadOf view name last × (IsTrue view.is_told → left ≡ Some last)
     by true is = let h = given is in (h.0, (λ told. h.1), (λ told. h.2))
-    by false is = (file, read, untold view.is_told is)
+    by false is = (file, read, unknown_view view.is_told is)
 
 -- the bytes of a short file were read of its name
 pub short_read : (most : ℕ) (view : View) (name : List ℕ) (bytes : Vec ℕ Global) → IsShortOf most view name (Some bytes) → IsReadOf view name bytes.items
-short_read most view name bytes short = λ told. let h = short told in subst (Gives view name) h.2.0 h.1
+short_read most view name bytes short = λ told. let h = short told in subst (OpensAs view name) h.2.0 h.1

@@ -3,7 +3,7 @@ use Rattle.std.proofs.Common.{◌≡◌, ℕ, List, Option, Some, None, Result, 
 use Rattle.std.specs.Prelude.{IfSome}
 use Rattle.std.specs.declared.alloc.AllocError.{AllocError}
 use Rattle.dsd_bits.specs.Sounds.{sound_channels}
-use Rattle.sound_core.specs.Outlines.{AreTold, around_of, with_sound}
+use Rattle.sound_core.specs.Outlines.{AreStated, around_of, with_sound}
 use Rattle.sound_core.specs.Sinks.{IsTakenOf, TakesFile}
 use Rattle.sound_core.specs.declared.outline.Outline.{Outline}
 use Rattle.sound_core.proofs.HeldLaws.{channels_count}
@@ -14,7 +14,7 @@ use Rattle.transfer_core.specs.declared.fault.Fault.TheVariants.{Memory}
 use Rattle.transfer_commands.specs.Digesting.{IsDigesting}
 use Rattle.transfer_commands.specs.Outlining.{IsUnread}
 use Rattle.transfer_commands.specs.Summing.{AreSumsIn, IsMadeOf, IsSummedIn, IsSummedInSome, SumComesTo, SumsStream}
-use Rattle.transfer_commands.specs.Telling.{IsUntoldOf}
+use Rattle.transfer_commands.specs.Reporting.{IsUntoldOf}
 use Rattle.transfer_commands.specs.declared.digesting.Digester.{Digester}
 use Rattle.transfer_commands.specs.declared.fault.CommandFault.{CommandFault}
 use Rattle.transfer_commands.specs.declared.fault.CommandFault.TheVariants.{Call, ReadFailed, WriteFailed}
@@ -22,7 +22,7 @@ use Rattle.transfer_commands.specs.declared.summing.Sums.{Sums}
 use Rattle.transfer_commands.proofs.ReadLaws.{known_or_some}
 
 -- these are the sums of the file that was read
-pub taken_summed : (k : Digester) (outline : Outline) (sums : Sums) → IsMadeOf outline k sums → AreTold (around_of outline) → (file : List ℕ) → IsTakenOf (IsDigesting k) (around_of outline) file → AreSumsIn file sums
+pub taken_summed : (k : Digester) (outline : Outline) (sums : Sums) → IsMadeOf outline k sums → AreStated (around_of outline) → (file : List ℕ) → IsTakenOf (IsDigesting k) (around_of outline) file → AreSumsIn file sums
 taken_summed k outline sums made told file (sound, stands, has) =
     let s = outline.sound in
     record {
@@ -70,6 +70,6 @@ unsummed name old new fault same is = absurd is
 -- a file that holds no recording
 pub refused_sums : (name : List ℕ) (old new : View) (file : List ℕ) (fault : CommandFault) → new ≡ old → IsReadOf old name file → (fault ≡ ReadFailed) ⊎ IsUntoldOf file fault → SumComesTo name old new (Err fault)
 refused_sums name old new file fault same read (inl is) = subst (λ (f : CommandFault). SumComesTo name old new (Err f)) (sym is) same
-refused_sums name old new file (Call fault) same read (inr untold) = (same, inr (record { file = file; file_read = read; unopened = untold }))
-refused_sums name old new file ReadFailed same read (inr untold) = absurd untold
-refused_sums name old new file WriteFailed same read (inr untold) = absurd untold
+refused_sums name old new file (Call fault) same read (inr unknown_view) = (same, inr (record { file = file; file_read = read; unopened = unknown_view }))
+refused_sums name old new file ReadFailed same read (inr unknown_view) = absurd unknown_view
+refused_sums name old new file WriteFailed same read (inr unknown_view) = absurd unknown_view

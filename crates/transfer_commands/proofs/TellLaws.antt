@@ -16,10 +16,10 @@ use Rattle.sound_core.specs.Outlines.{around_of, with_sound}
 use Rattle.sound_core.specs.declared.outline.Outline.{Outline}
 use Rattle.sound_core.proofs.HeldLaws.{channels_count, channels_number}
 use Rattle.folder_core.specs.Files.{IsGiven, IsReadOf, View}
-use Rattle.transfer_commands.specs.declared.telling.Told.{Told}
+use Rattle.transfer_commands.specs.declared.reporting.Reported.{Reported}
 use Rattle.transfer_core.proofs.FormLaws.{holds_as}
 use Rattle.transfer_commands.specs.Outlining.{IsOutlined, IsUnoutlined, OutlinesRead}
-use Rattle.transfer_commands.specs.Telling.{IsToldOf, IsUntold, IsUntoldOf, TellComesTo, TellsFile}
+use Rattle.transfer_commands.specs.Reporting.{IsReportOf, IsUntold, IsUntoldOf, ReportComesTo, ReportsFile}
 use Rattle.transfer_commands.specs.declared.fault.CommandFault.{CommandFault}
 use Rattle.transfer_commands.specs.declared.fault.CommandFault.TheVariants.{Call, ReadFailed, WriteFailed}
 
@@ -30,7 +30,7 @@ told_number outline file is =
     ap length is.told.silent ∙ length-replicate s.channels [] ∙ sym (channels_number s.interleaving s.channels s.count is.around.0)
 
 -- what is told by an outline is what the file holds
-pub told_by_outline : (outline : Outline) (file : List ℕ) → IsOutlined file outline → IsToldOf file (record { form = form_in outline.sound.interleaving; description = record (described outline.recording) { count = outline.sound.count } })
+pub told_by_outline : (outline : Outline) (file : List ℕ) → IsOutlined file outline → IsReportOf file (record { form = form_in outline.sound.interleaving; description = record (described outline.recording) { count = outline.sound.count } })
 told_by_outline outline file is =
     let o = around_of outline in
     let sound = is.around.0 in
@@ -41,7 +41,7 @@ told_by_outline outline file is =
     }
 
 -- a file that was outlined is told
-pub outline_tells : (file_name : List ℕ) (old mid new : View) (outline : Outline) (told : Told) → mid ≡ old → new ≡ mid → OutlinesRead file_name mid outline → ((file : List ℕ) → IsOutlined file outline → IsToldOf file told) → TellsFile file_name old new told
+pub outline_tells : (file_name : List ℕ) (old mid new : View) (outline : Outline) (told : Reported) → mid ≡ old → new ≡ mid → OutlinesRead file_name mid outline → ((file : List ℕ) → IsOutlined file outline → IsReportOf file told) → ReportsFile file_name old new told
 outline_tells file_name old mid new outline told same again found tells = record {
   file = found.file;
   file_read = subst (λ (v : View). IsReadOf v file_name found.file) same found.file_read;
@@ -50,7 +50,7 @@ outline_tells file_name old mid new outline told same again found tells = record
 }
 
 -- a file that was read whole comes to what is told of its bytes
-pub whole_told : (file_name : List ℕ) (old new : View) (file : List ℕ) (r : Result Told CommandFault) → IfOk r (IsToldOf file) → IfErr r (IsUntoldOf file) → new ≡ old → IsReadOf old file_name file → TellComesTo file_name old new r
+pub whole_told : (file_name : List ℕ) (old new : View) (file : List ℕ) (r : Result Reported CommandFault) → IfOk r (IsReportOf file) → IfErr r (IsUntoldOf file) → new ≡ old → IsReadOf old file_name file → ReportComesTo file_name old new r
 whole_told file_name old new file (Ok told) is not same read = record { file = file; file_read = read; is_told = is; same = same }
 whole_told file_name old new file (Err (Call fault)) is not same read = (same, inr (record { file = file; file_read = read; unopened = not }))
 whole_told file_name old new file (Err ReadFailed) is not same read = absurd not
@@ -69,7 +69,7 @@ untold_named view name left cause fault given known read first named =
     let is = known_or_some view name left (λ file. opened_of file ≡ Err cause) given known (read, first) in
     record { file = is.0; file_read = is.1; unopened = record { cause = cause; reading = opens_err cause (opened_of is.0) is.2; named = named } }
 
-pub unoutlined_told : (file_name : List ℕ) (old new : View) (f : CommandFault) → new ≡ old → IsUnoutlined file_name old f → TellComesTo file_name old new (Err f)
+pub unoutlined_told : (file_name : List ℕ) (old new : View) (f : CommandFault) → new ≡ old → IsUnoutlined file_name old f → ReportComesTo file_name old new (Err f)
 unoutlined_told file_name old new (Call fault) same is = (same, is)
 unoutlined_told file_name old new ReadFailed same is = same
 unoutlined_told file_name old new WriteFailed same is = absurd is

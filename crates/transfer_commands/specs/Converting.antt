@@ -25,7 +25,7 @@ KeepsOld name old new = IsTrue old.is_told → (new.file name ≡ old.file name)
 
 -- the output is unchanged, or holds a prefix of what bytes that were read of a recording's file are converted to, if
 -- the bytes of the last reading are the same; an old output is kept, and no other file changed
-pub record ConvertsFront (form : Form) (file_name output_name : List ℕ) (old new : View) : Type 0 where
+pub record ConvertsPrefix (form : Form) (file_name output_name : List ℕ) (old new : View) : Type 0 where
   pub file : List ℕ
   pub last : List ℕ
   pub bytes : List ℕ
@@ -45,7 +45,7 @@ pub record IsUnconverted (form : Form) (file_name : List ℕ) (old : View) (faul
 
 -- nothing changed, or the output holds at most a prefix
 abbrev pub ConvertsInPart : Form → List ℕ → List ℕ → View → View → Type 0
-ConvertsInPart form input output old new = (new ≡ old) ⊎ ConvertsFront form input output old new
+ConvertsInPart form input output old new = (new ≡ old) ⊎ ConvertsPrefix form input output old new
 
 -- how converting the input to the output changes the folder
 abbrev pub ConvertComesTo : Form → List ℕ → List ℕ → View → View → Result ℕ CommandFault → Type 0
@@ -53,4 +53,4 @@ ConvertComesTo form input output old new (Ok dropped) = ConvertsFile form input 
 ConvertComesTo form input output old new (Err (Call Memory)) = ConvertsInPart form input output old new
 ConvertComesTo form input output old new (Err (Call fault)) = (new ≡ old) × IsUnconverted form input old fault
 ConvertComesTo form input output old new (Err ReadFailed) = ConvertsInPart form input output old new
-ConvertComesTo form input output old new (Err WriteFailed) = ConvertsFront form input output old new
+ConvertComesTo form input output old new (Err WriteFailed) = ConvertsPrefix form input output old new

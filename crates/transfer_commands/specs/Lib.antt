@@ -1,10 +1,10 @@
 pub mod Converting
 pub mod Digesting
+pub mod Excerpts
 pub mod Faults
-pub mod Hearing
 pub mod Outlining
+pub mod PartPlaying
 pub mod Playing
+pub mod Reporting
 pub mod Sources
 pub mod Summing
-pub mod Telling
-pub mod PartPlaying

@@ -1,17 +1,17 @@
 -- What is known of a file of a folder without its sound.
 use Rattle.std.specs.Prelude.{◌≡◌, ◌⊎◌, ℕ, List, IsTrue, Option, Some, None, ⊤}
 use Rattle.sound_core.specs.Files.{IsRefused}
-use Rattle.sound_core.specs.Outlines.{AreAround, AreTold, around_of}
+use Rattle.sound_core.specs.Outlines.{AreAround, AreStated, around_of}
 use Rattle.sound_core.specs.declared.outline.Outline.{Outline}
 use Rattle.transfer_core.specs.declared.fault.Fault.TheVariants.{Memory}
-use Rattle.folder_core.specs.Files.{Gives, IsReadOf, View}
+use Rattle.folder_core.specs.Files.{OpensAs, IsReadOf, View}
 use Rattle.transfer_commands.specs.declared.fault.CommandFault.{CommandFault}
 use Rattle.transfer_commands.specs.declared.fault.CommandFault.TheVariants.{Call, ReadFailed, WriteFailed}
-use Rattle.transfer_commands.specs.Telling.{IsUntold}
+use Rattle.transfer_commands.specs.Reporting.{IsUntold}
 
 -- the file is this outline with some sound, and the outline describes what it holds
 pub record IsOutlined (file : List ℕ) (outline : Outline) : Type 0 where
-  pub told : AreTold (around_of outline)
+  pub told : AreStated (around_of outline)
   pub around : AreAround (around_of outline) file
 
 -- the outline is that of bytes that were read of a name
@@ -23,7 +23,7 @@ pub record OutlinesRead (file_name : List ℕ) (old : View) (outline : Outline) 
 -- the same, or there is none: then, if the folder's bytes are known, an opening of the name gives no recording
 abbrev pub OutlinesFile : List ℕ → View → Option Outline → Type 0
 OutlinesFile file_name old (Some outline) = OutlinesRead file_name old outline
-OutlinesFile file_name old None = IsTrue old.is_told → (file : List ℕ) × Gives old file_name file × IsRefused file
+OutlinesFile file_name old None = IsTrue old.is_told → (file : List ℕ) × OpensAs old file_name file × IsRefused file
 
 -- a file was not read: it could not be, or memory ran out
 abbrev pub IsUnread : CommandFault → Type 0

@@ -6,21 +6,21 @@ use Rattle.transfer_core.specs.declared.spans.Span.{Span}
 use Rattle.transfer_core.specs.PartStreaming.{PartOnlyFromOutside, PartStands, PlaysPart}
 use Rattle.transfer_core.specs.Spans.{AreFramesOf, IsSpanOf}
 use Rattle.transfer_core.specs.Streaming.{IsBeforeWriting}
-use Rattle.folder_core.specs.Files.{Gives, HadNone, IsPut, IsReadOf, KeepsOthers, View}
-use Rattle.transfer_commands.specs.Telling.{IsToldOf}
+use Rattle.folder_core.specs.Files.{OpensAs, HadNone, IsPut, IsReadOf, KeepsOthers, View}
+use Rattle.transfer_commands.specs.Reporting.{IsReportOf}
 use Rattle.transfer_commands.specs.declared.fault.CommandFault.{CommandFault}
 use Rattle.transfer_commands.specs.declared.fault.CommandFault.TheVariants.{Call, ReadFailed, WriteFailed}
 use Rattle.transfer_commands.specs.declared.parts.PartFault.{PartFault}
 use Rattle.transfer_commands.specs.declared.parts.PartFault.TheVariants.{Command, Span as Spans}
-use Rattle.transfer_commands.specs.declared.telling.Told.{Told}
+use Rattle.transfer_commands.specs.declared.reporting.Reported.{Reported}
 
 -- a span has these frames in bytes that were read of the file, by a project
 pub record HasSpan (project file_name : List ℕ) (old : View) (span : Span) (start stop : ℕ) : Type 0 where
   pub file : List ℕ
-  pub told : Told
+  pub told : Reported
   pub frames : PlayedFrames
   pub file_read : IsReadOf old file_name file
-  pub is_told : IsToldOf file told
+  pub is_told : IsReportOf file told
   pub frames_are : AreFramesOf project told.description.rate told.description.count frames
   pub span_is : IsSpanOf frames told.description.rate told.description.marks span start stop
 
@@ -61,13 +61,13 @@ pub record LeavesPart (project_name file_name output_name : List ℕ) (span : Sp
   pub stop : ℕ
   pub project_read : IsReadOf old project_name project
   pub has_span : HasSpan project file_name old span start stop
-  pub ended : IsTrue old.is_told → (file : List ℕ) × Gives old file_name file × EndsPart project start stop file output_name old new fault
+  pub ended : IsTrue old.is_told → (file : List ℕ) × OpensAs old file_name file × EndsPart project start stop file output_name old new fault
   pub others : KeepsOthers output_name old new
 
 -- a part of a file that was opened under a name is played to an empty one and came to this: it is handed back, or given up after a fault
 abbrev pub PlayedPartComesTo : List ℕ → ℕ → ℕ → List ℕ → List ℕ → View → View → Result ℕ CommandFault → Type 0
 PlayedPartComesTo project start stop input output old new (Ok count) = (file : List ℕ) × (bytes : List ℕ) × IsReadOf old input file × IsPut new output bytes × PlaysPart project start stop file bytes × (count ≡ length bytes) × KeepsOthers output old new
-PlayedPartComesTo project start stop input output old new (Err (Call fault)) = (IsTrue old.is_told → (file : List ℕ) × Gives old input file × EndsPart project start stop file output old new fault) × KeepsOthers output old new
+PlayedPartComesTo project start stop input output old new (Err (Call fault)) = (IsTrue old.is_told → (file : List ℕ) × OpensAs old input file × EndsPart project start stop file output old new fault) × KeepsOthers output old new
 PlayedPartComesTo project start stop input output old new (Err WriteFailed) = KeepsOthers output old new × (new.file output ≡ old.file output)
 PlayedPartComesTo project start stop input output old new (Err ReadFailed) = ⊥
 

@@ -7,10 +7,10 @@ use Rattle.dsd_bits.specs.Packing.{packed}
 use Rattle.form_core.specs.Forms.{HoldsSome}
 use Rattle.sound_core.specs.Files.{IsRefused}
 use Rattle.transfer_core.specs.declared.fault.Fault.TheVariants.{Memory}
-use Rattle.folder_core.specs.Files.{Gives, IsReadOf, View}
+use Rattle.folder_core.specs.Files.{OpensAs, IsReadOf, View}
 use Rattle.sound_core.specs.declared.outline.Outline.{Outline}
 use Rattle.transfer_commands.specs.Digesting.{HoldEach}
-use Rattle.transfer_commands.specs.Telling.{IsUntold}
+use Rattle.transfer_commands.specs.Reporting.{IsUntold}
 use Rattle.transfer_commands.specs.declared.digesting.Digester.{Digester}
 use Rattle.transfer_commands.specs.declared.summing.Sums.{Sums}
 use Rattle.transfer_commands.specs.declared.fault.CommandFault.{CommandFault}
@@ -51,7 +51,7 @@ pub record SumsRead (file_name : List ℕ) (old : View) (sums : Sums) : Type 0 w
 -- the same, or there are none: where the folder has known bytes, an opening of the name gives no recording
 abbrev pub SumsStream : List ℕ → View → Option Sums → Type 0
 SumsStream file_name old (Some sums) = SumsRead file_name old sums
-SumsStream file_name old None = IsTrue old.is_told → (file : List ℕ) × Gives old file_name file × IsRefused file
+SumsStream file_name old None = IsTrue old.is_told → (file : List ℕ) × OpensAs old file_name file × IsRefused file
 
 -- the folder before and after a file was summed came to this
 abbrev pub SumComesTo : List ℕ → View → View → Result Sums CommandFault → Type 0

@@ -3,9 +3,9 @@
 ghost use Rattle.std.specs.Prelude.{◌↔◌, List, ℕ, IfErr, IfOk, IsTrue, OnErr};
 ghost use Rattle.folder_core.specs.Files.{IsReadOf};
 ghost use Rattle.form_core.specs.Parts.{FitsIn};
-ghost use Rattle.sound_core.specs.Outlines.{AreTold, around_of};
+ghost use Rattle.sound_core.specs.Outlines.{AreStated, around_of};
 ghost use Rattle.transfer_core.specs.Converting.{Converts};
-ghost use Rattle.transfer_core.specs.Conversions.{ConversionStands, ConvertsFile, ConvertsFront};
+ghost use Rattle.transfer_core.specs.Conversions.{ConversionApplies, ConvertsReader, ConvertsPrefix};
 ghost use Rattle.transfer_commands.specs.Converting.{ConvertComesTo};
 ghost use Rattle.transfer_commands.specs.Outlining.{OutlinesRead};
 
@@ -76,7 +76,7 @@ fn convert_outlined<F: Folder>(
     input: &str,
     output: &str,
 ) -> Result<u64, CommandFault>
-    requires told { AreTold (around_of outline.now) }
+    requires told { AreStated (around_of outline.now) }
     ensures { OutlinesRead input.now (F.view folder.old) outline.now
         → ConvertComesTo form input.now output.now (F.view folder.old) (F.view folder.new) result }
 {
@@ -112,13 +112,13 @@ fn convert_between<R: Read + Drop, W: Write>(
     file: R,
     made: W,
 ) -> (Result<u64, Fault>, W)
-    requires told { AreTold (around_of outline.now) }
-    ensures ok { IfOk result.0 (ConvertsFile (R.remaining file) form (W.contents made) (W.contents result.1)) }
+    requires told { AreStated (around_of outline.now) }
+    ensures ok { IfOk result.0 (ConvertsReader (R.remaining file) form (W.contents made) (W.contents result.1)) }
     // If the reader's bytes aren't known, the same holds of some bytes that were read.
     ensures any_reader { IfOk result.0 (λ dropped. (read : List ℕ) × (bytes : List ℕ) × Converts read form bytes dropped) }
-    ensures front { OnErr result.0 (ConvertsFront (R.remaining file) (around_of outline.now) form (W.contents made)
+    ensures front { OnErr result.0 (ConvertsPrefix (R.remaining file) (around_of outline.now) form (W.contents made)
         (W.contents result.1)) }
-    ensures refused { IfErr result.0 (ConversionStands (R.remaining file) (around_of outline.now) form) }
+    ensures refused { IfErr result.0 (ConversionApplies (R.remaining file) (around_of outline.now) form) }
 {
     let mut inlet = Inlet::new(file);
     let mut outlet = Outlet::new(made);

@@ -7,7 +7,7 @@ ghost use Rattle.transfer_commands.specs.Digesting.{AreUpdated, HoldEach, HoldNo
 ghost use Rattle.transfer_commands.specs.Summing.{digests_of};
 
 use dsd_bits::{Bits, Sound};
-use relace_core::unlace;
+use interleave_core::unlace;
 use sha2::{Digest, Sha256};
 use sound_core::{SoundPart, SoundSink, StreamFault};
 use std::alloc::{AllocError, Global};

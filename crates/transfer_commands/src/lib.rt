@@ -6,18 +6,18 @@
 //! - [`convert_file`] reads a recording through, and only then creates the file in the other form.
 //! - [`open_file`] reads a recording to report what it holds.
 //! - [`sum_file`] reads a recording in one pass, and digests the bits of each channel.
-//! - [`hear_sources`] reads a project and then its takes by their numbers, and keeps of them what the splice reads.
+//! - [`source_excerpts`] reads a project and then its takes by their numbers, and keeps of them what the splice reads.
 //!
 //! All but `play_file` read a recording in one pass, but that [`convert_file`] reads a short one whole. The calls are those of `transfer_core`, the files
 //! those of `folder_core`. A command returns its first fault.
 //!
 //! The words of the contracts, over any folder, of which `old` is known before and `new` after:
 //!
-//! - `PlayComesTo`, `ConvertComesTo`, `TellComesTo` and `SumComesTo` say what became of the files by a command and what
-//!   it returned, whether it was done or refused, by bytes that were read of them (`specs/Playing.antt`,
-//!   `specs/Converting.antt`, `specs/Telling.antt`, `specs/Summing.antt`).
+//! - `PlayComesTo`, `ConvertComesTo`, `ReportComesTo` and `SumComesTo` say what became of the files by a command and
+//!   what it returned, whether it was done or refused, by bytes that were read of them (`specs/Playing.antt`,
+//!   `specs/Converting.antt`, `specs/Reporting.antt`, `specs/Summing.antt`).
 //! - `AreSources` says which bytes were read of a project and its takes, `SourcesUnread` why they weren't
-//!   (`specs/Sources.antt`), and `HearsSources` what the splice reads of them (`specs/Hearing.antt`).
+//!   (`specs/Sources.antt`), and `ReadsSourceExcerpts` what the splice reads of them (`specs/Excerpts.antt`).
 //!
 //! What it promises: an answer is true of bytes that were read. In a folder with known bytes these are the bytes that
 //! the named files gave, and no other file changed.
@@ -30,20 +30,20 @@
 
 mod converting;
 mod digesting;
+mod excerpts;
 mod fault;
-mod hearing;
 mod outlining;
 mod parts;
 mod playing;
+mod reporting;
 mod sources;
 mod summing;
-mod telling;
 
 pub use converting::convert_file;
 pub use fault::CommandFault;
 pub use outlining::MOST_KEPT;
 pub use parts::{PartFault, play_part_file};
 pub use playing::play_file;
-pub use sources::{Sources, hear_sources};
+pub use reporting::{Reported, open_file};
+pub use sources::{Sources, source_excerpts};
 pub use summing::{Sums, sum_file};
-pub use telling::{Told, open_file};

@@ -1,7 +1,7 @@
 //! Reads what a file of a folder holds besides its sound.
 
 ghost use Rattle.std.specs.Prelude.{◌≡◌, IfErr, IfOk, IfSome};
-ghost use Rattle.sound_core.specs.Outlines.{AreTold, around_of};
+ghost use Rattle.sound_core.specs.Outlines.{AreStated, around_of};
 ghost use Rattle.transfer_commands.specs.Outlining.{IsUnoutlined, OutlinesFile};
 
 use crate::fault::CommandFault;
@@ -25,7 +25,7 @@ pub(crate) fn outline_file<F: Folder>(
     name: &str,
 ) -> Result<Option<Outline>, CommandFault>
     ensures same { F.view folder.new ≡ F.view folder.old }
-    ensures around { IfOk result (λ found. IfSome found (λ outline. AreTold (around_of outline))) }
+    ensures around { IfOk result (λ found. IfSome found (λ outline. AreStated (around_of outline))) }
     ensures found { IfOk result (OutlinesFile name.now (F.view folder.old)) }
     ensures fault { IfErr result (IsUnoutlined name.now (F.view folder.old)) }
 {

@@ -8,7 +8,7 @@ ghost use Rattle.transfer_commands.specs.declared.fault.CommandFault.TheVariants
 ghost use Rattle.transfer_commands.specs.declared.parts.PartFault.TheVariants as faults;
 
 use crate::fault::CommandFault;
-use crate::telling::open_file;
+use crate::reporting::open_file;
 use chunk_core::{Inlet, Outlet};
 use folder_core::{FileFault, Folder, hand_back, read_file};
 use std::alloc::Global;

@@ -3,12 +3,12 @@
 ghost use Rattle.std.specs.Prelude.{◌≡◌, IfErr, IfOk, length};
 ghost use Rattle.splice_core.specs.Splices.{splice_content};
 ghost use Rattle.cut_core.specs.Opening.{IsOfTakes};
-ghost use Rattle.transfer_commands.specs.Hearing.{HearsSources};
+ghost use Rattle.transfer_commands.specs.Excerpts.{ReadsSourceExcerpts};
 ghost use Rattle.transfer_commands.specs.Sources.{SourcesUnread};
 
+use crate::excerpts::read_excerpts;
 use crate::fault::CommandFault;
-use crate::hearing::hear_files;
-use cut_core::{CutFault, Heard};
+use cut_core::{CutFault, Excerpts};
 use folder_core::{Folder, read_file};
 use splice_core::Splice;
 use std::alloc::Global;
@@ -20,19 +20,19 @@ pub struct Sources {
     /// The splice.
     pub splice: Splice,
     /// What it reads of its takes, by their numbers, or the first fault in what their files hold.
-    pub takes: Result<Vec<Heard>, CutFault>,
+    pub takes: Result<Vec<Excerpts>, CutFault>,
 }
 
 /// Reads the project, then the takes that it names, and keeps of them what the splice reads. A take's file is read in
 /// one pass, which doesn't hold its sound. If it holds no recording for a fault that this pass doesn't tell, it is opened
 /// again and read whole, so that the fault can be named.
-pub fn hear_sources<F: Folder>(
+pub fn source_excerpts<F: Folder>(
     alloc: Global,
     folder: &mut F,
     project: &str,
 ) -> Result<Sources, CommandFault>
     ensures same { F.view folder.new ≡ F.view folder.old }
-    ensures heard { IfOk result (λ found. HearsSources project.now (F.view folder.old)
+    ensures excerpts { IfOk result (λ found. ReadsSourceExcerpts project.now (F.view folder.old)
         (splice_content found.splice) found.takes) }
     ensures of { IfOk result (λ found. IsOfTakes (splice_content found.splice)
         (length (splice_content found.splice).takes) found.takes) }
@@ -40,6 +40,6 @@ pub fn hear_sources<F: Folder>(
 {
     let project = read_file(alloc, folder, project)?;
     let splice = splice_of(alloc, &project)?;
-    let takes = hear_files(alloc, folder, &splice)?;
+    let takes = read_excerpts(alloc, folder, &splice)?;
     Ok(Sources { splice, takes })
 }

@@ -3,7 +3,7 @@
 ghost use Rattle.std.specs.Prelude.{◌≡◌, ◌⊎◌, IfErr, IfOk, IfSome, Ok, Some};
 ghost use Rattle.transfer_commands.specs.Outlining.{IsUnread};
 ghost use Rattle.transfer_commands.specs.Summing.{IsMadeOf, IsSummedIn, IsSummedInSome, SumComesTo, SumsStream};
-ghost use Rattle.transfer_commands.specs.Telling.{IsUntoldOf};
+ghost use Rattle.transfer_commands.specs.Reporting.{IsUntoldOf};
 ghost use Rattle.transfer_commands.specs.declared.fault.CommandFault.TheVariants as faults;
 ghost use Rattle.transfer_commands.specs.declared.summing.Sums.{Sums as Made};
 

@@ -2,7 +2,7 @@
 use Rattle.std.proofs.Common.{◌≡◌, ℕ, ◌%◌, ◌≤◌, List, [], ◌++◌, length, Option, None, Some, IsErrOf, Result, Ok, Err, refl, sym, ap, ◌∙◌, subst}
 use Rattle.std.proofs.lemmas.List.{length-replicate}
 use Rattle.std.proofs.lemmas.List.FromFn.{length-map-range_with_len}
-use Rattle.chunk_core.specs.Outlets.{AppendsFront}
+use Rattle.chunk_core.specs.Outlets.{AppendsPrefix}
 use Rattle.chunk_core.specs.declared.inlet.Inlet.{Inlet}
 use Rattle.dsd_bits.specs.declared.interleaving.Interleaving.{Interleaving}
 use Rattle.dsd_bits.specs.declared.interleaving.Interleaving.TheVariants.{Bytes, Blocks}
@@ -14,14 +14,14 @@ use Rattle.dsd_bits.specs.Sounds.{sound_channels, sound_size}
 use Rattle.dsd_bits.proofs.BlockLemmas.{unblocked_count}
 use Rattle.dsdiff_core.specs.declared.write_fault.WriteFault.{WriteFault}
 use Rattle.dsdiff_core.specs.declared.write_fault.WriteFault.TheVariants as writes
-use Rattle.relace_core.specs.Relacing.{laced_in}
-use Rattle.relace_core.proofs.TakenLaws.{unlaced_count}
+use Rattle.interleave_core.specs.Reinterleaving.{laced_in}
+use Rattle.interleave_core.proofs.TakenLaws.{unlaced_count}
 use Rattle.sound_core.specs.declared.fault.StreamFault.{StreamFault}
 use Rattle.sound_core.specs.declared.fault.StreamFault.TheVariants as faults
-use Rattle.sound_core.specs.Outlines.{AreTold, HoldsIn, StandsIn, Surroundings, with_sound}
+use Rattle.sound_core.specs.Outlines.{AreStated, HoldsIn, IsPlacedIn, Surroundings, with_sound}
 use Rattle.player_core.proofs.PieceLaws.{front_nil}
-use Rattle.sound_core.specs.declared.relaying.Target.{Target}
-use Rattle.sound_core.specs.Relays.{IsRelayFault, Relays, RelaysFront, RelaysGiven, relayed}
+use Rattle.sound_core.specs.declared.relaying.NewFile.{NewFile}
+use Rattle.sound_core.specs.Relays.{IsRelayFault, Relays, RelaysPrefix, RelaysGiven, relayed}
 use Rattle.form_core.specs.declared.fault.ReadFault.{ReadFault}
 use Rattle.form_core.specs.declared.form.Form.{Form}
 use Rattle.form_core.specs.declared.form.Form.TheVariants as forms
@@ -30,7 +30,7 @@ use Rattle.form_core.specs.Forms.{HoldsAs, dropped_in, form_in, text_in}
 use Rattle.form_core.specs.Opening.{opened_of}
 use Rattle.form_core.specs.Parts.{FitsIn, WrittenInParts, head_in, interleaving_in, tail_in}
 use Rattle.form_core.proofs.OpeningLaws.{held_is_opened, holds_dsf}
-use Rattle.transfer_core.specs.Conversions.{ConversionStands, ConvertsFile, ConvertsFront, ConvertsGiven}
+use Rattle.transfer_core.specs.Conversions.{ConversionApplies, ConvertsReader, ConvertsPrefix, ConvertsGiven}
 use Rattle.transfer_core.specs.Converting.{Converts}
 use Rattle.transfer_core.specs.declared.fault.Fault.TheVariants.{NotWholeBytes, Stream}
 use Rattle.transfer_core.specs.Faults.{as_stream, fault_of_stream, fault_of_writing}
@@ -69,7 +69,7 @@ one_text file bytes-1 bytes-2 form dropped-1 dropped-2 a b =
     same_bytes (text_in form a.recording) bytes-1 bytes-2 a.text (ap (text_in form) same ∙ b.text)
 
 -- ---- a target that stands for the ends of a form
-module _ (laws : WrittenInParts) (o : Surroundings) (told : AreTold o) (form : Form) (fits : FitsIn form o.sound.count) (target : Target) (interleaving : target.interleaving ≡ interleaving_in form) (head : target.head.now ≡ head_in form o.recording o.sound.count) (tail : target.tail.now ≡ tail_in form o.recording o.sound.count) where
+module _ (laws : WrittenInParts) (o : Surroundings) (told : AreStated o) (form : Form) (fits : FitsIn form o.sound.count) (target : NewFile) (interleaving : target.interleaving ≡ interleaving_in form) (head : target.head.now ≡ head_in form o.recording o.sound.count) (tail : target.tail.now ≡ tail_in form o.recording o.sound.count) where
   -- what is relayed is what is written for the recording
   text : (sound : List ℕ) → length sound ≡ o.sound.size → text_in form (with_sound o.recording o.sound sound) ≡ Some (relayed target o.sound sound)
   text sound long =
@@ -80,7 +80,7 @@ module _ (laws : WrittenInParts) (o : Surroundings) (told : AreTold o) (form : F
       let parts = subst (λ n. text_in form (with_sound o.recording s sound) ≡ Some (head_in form o.recording n ++ (laced_in (interleaving_in form) channels ++ tail_in form o.recording n))) count (laws form o.recording channels number (subst (FitsIn form) (sym count) fits)) in
       rw (interleaving, head, tail) parts
 
-  converts : (file sound : List ℕ) → StandsIn o file sound → Converts file form (relayed target o.sound sound) (dropped_in form (described o.recording))
+  converts : (file sound : List ℕ) → IsPlacedIn o file sound → Converts file form (relayed target o.sound sound) (dropped_in form (described o.recording))
   converts file sound stands = record {
     source = form_in o.sound.interleaving;
     recording = with_sound o.recording o.sound sound;
@@ -89,29 +89,29 @@ module _ (laws : WrittenInParts) (o : Surroundings) (told : AreTold o) (form : F
     dropped_is = dropped_beside form o sound;
   }
 
-  pub converts_file : (left a b : Option (List ℕ)) → Relays left target o a b → ConvertsFile left form a b (dropped_in form (described o.recording))
+  pub converts_file : (left a b : Option (List ℕ)) → Relays left target o a b → ConvertsReader left form a b (dropped_in form (described o.recording))
   converts_file None a b h = tt
   converts_file (Some file) a b h = (relayed target o.sound h.0, converts file h.0 h.1, h.2)
 
   pub converts_given : {R : Type 0} (left : R → Option (List ℕ)) (i j : Inlet R) (a b : Option (List ℕ)) → RelaysGiven left i j target o a b → ConvertsGiven left i j form a b (dropped_in form (described o.recording))
   converts_given left i j a b h = (h.0, relayed target o.sound h.1, h.2, converts h.0 h.1 h.3, h.4)
 
-  pub converts_front : (left a b : Option (List ℕ)) (f : StreamFault) → RelaysFront left target o a b f → ConvertsFront left o form a b
+  pub converts_front : (left a b : Option (List ℕ)) (f : StreamFault) → RelaysPrefix left target o a b f → ConvertsPrefix left o form a b
   converts_front None a b f h = tt
   converts_front (Some file) a b f h = λ around bytes dropped is.
       let out = h around.0 around.1 in
-      subst (λ xs. AppendsFront a b xs) (one_text file (relayed target o.sound around.0) bytes form (dropped_in form (described o.recording)) dropped (converts file around.0 around.1) is) (out.0, out.1, out.2, out.4)
+      subst (λ xs. AppendsPrefix a b xs) (one_text file (relayed target o.sound around.0) bytes form (dropped_in form (described o.recording)) dropped (converts file around.0 around.1) is) (out.0, out.1, out.2, out.4)
 
-pub nothing_converted : (left : Option (List ℕ)) (o : Surroundings) (form : Form) (a : Option (List ℕ)) → ConvertsFront left o form a a
+pub nothing_converted : (left : Option (List ℕ)) (o : Surroundings) (form : Form) (a : Option (List ℕ)) → ConvertsPrefix left o form a a
 nothing_converted None o form a = tt
 nothing_converted (Some file) o form a = λ around bytes dropped is. front_nil a bytes
 
 -- ---- a fault stands
-pub ends_stand : (left : Option (List ℕ)) (o : Surroundings) (form : Form) (w : WriteFault) → (w ≡ writes.NotWholeBytes → FitsIn form o.sound.count → ⊥) → ConversionStands left o form (fault_of_writing w)
+pub ends_stand : (left : Option (List ℕ)) (o : Surroundings) (form : Form) (w : WriteFault) → (w ≡ writes.NotWholeBytes → FitsIn form o.sound.count → ⊥) → ConversionApplies left o form (fault_of_writing w)
 ends_stand left o form writes.NotWholeBytes h = h refl
 ends_stand left o form writes.Memory h = (faults.Memory, refl, tt)
 
-pub relay_stands : (left : Option (List ℕ)) (o : Surroundings) (form : Form) (f : StreamFault) → IsRelayFault left o f → ConversionStands left o form (fault_of_stream f)
+pub relay_stands : (left : Option (List ℕ)) (o : Surroundings) (form : Form) (f : StreamFault) → IsRelayFault left o f → ConversionApplies left o form (fault_of_stream f)
 relay_stands left o form faults.Memory h = (faults.Memory, refl, h)
 relay_stands left o form f h = (f, refl, h)
 

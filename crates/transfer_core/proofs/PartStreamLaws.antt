@@ -3,7 +3,7 @@ use Rattle.std.proofs.Common.{◌≡◌, ◌⊎◌, ℕ, inl, inr, List, Option,
 use Rattle.chunk_core.specs.declared.inlet.Inlet.{Inlet}
 use Rattle.fir_core.specs.Decimator.{Decimator}
 use Rattle.player_core.specs.PartPlaying as parts
-use Rattle.player_core.specs.Playing.{PlaysFile, PlaysGiven, WritesFront}
+use Rattle.player_core.specs.Playing.{PlaysFile, PlaysGiven, WritesPrefix}
 use Rattle.sound_core.specs.declared.fault.StreamFault.{StreamFault}
 use Rattle.sound_core.specs.declared.fault.StreamFault.TheVariants as faults
 use Rattle.transfer_core.specs.declared.fault.Fault.{Fault}
@@ -61,7 +61,7 @@ module _ (project : List ℕ) (start stop : ℕ) (d : Decimator) (is_said : deci
   part_outside None f h = tt
   part_outside (Some file) f h = λ bytes is. (f, refl, h bytes (played file bytes is))
 
-  pub part_front : (left a b : Option (List ℕ)) → WritesFront left (parts.PlaysPart d start stop) a b → WritesFront left (PlaysPart project start stop) a b
+  pub part_front : (left a b : Option (List ℕ)) → WritesPrefix left (parts.PlaysPart d start stop) a b → WritesPrefix left (PlaysPart project start stop) a b
   part_front None a b h = tt
   part_front (Some file) a b h = λ bytes is. h bytes (played file bytes is)
 

@@ -11,7 +11,7 @@ use Rattle.player_core.specs.Pace as pace
 use Rattle.sound_core.specs.Sinks.{sound_given}
 use Rattle.player_core.specs.Pace.{WritesFrames}
 use Rattle.player_core.specs.Playing as streams
-use Rattle.player_core.specs.Playing.{PlaysBy, PlaysFile, PlaysGiven, WritesFront}
+use Rattle.player_core.specs.Playing.{PlaysBy, PlaysFile, PlaysGiven, WritesPrefix}
 use Rattle.sound_core.specs.declared.fault.StreamFault.{StreamFault}
 use Rattle.sound_core.specs.declared.fault.StreamFault.TheVariants as faults
 use Rattle.form_core.specs.declared.form.Form.{Form}
@@ -24,7 +24,7 @@ use Rattle.transfer_core.specs.Faults.{OfStream, as_stream, fault_of_stream}
 use Rattle.transfer_core.specs.Playing.{Plays}
 use Rattle.transfer_core.specs.Projects.{IsOfDecimator, SaysDecimator, decimator_of}
 use Rattle.transfer_core.proofs.ReadingLaws.{says_decimator}
-use Rattle.transfer_core.specs.Streaming.{IsBeforeWriting, KeepsUp, OnlyFromOutside, StreamStands}
+use Rattle.transfer_core.specs.Streaming.{IsBeforeWriting, KeepsUp, OnlyFromOutside, StreamApplies}
 
 -- what is returned for a fault
 pub fault_is : {X E : Type 0} (r : Result X E) (f : E) → IsErrAnd r (λ g. g ≡ f) → r ≡ Err f
@@ -63,7 +63,7 @@ module _ (project : List ℕ) (d : Decimator) (says : SaysDecimator project d) w
   pub plays_given : {R : Type 0} (left : R → Option (List ℕ)) (old new : Inlet R) (a b : Option (List ℕ)) (n : ℕ) → PlaysGiven left old new (PlaysBy d) a b n → PlaysGiven left old new (Plays project) a b n
   plays_given left old new a b n h = (h.0, h.1, h.2, plays h.0 h.1 h.3, h.4, h.5)
 
-  pub stands : (left : Option (List ℕ)) (f : StreamFault) → IfSome left (λ file. streams.Stands d file f) → StreamStands left project (fault_of_stream f)
+  pub stands : (left : Option (List ℕ)) (f : StreamFault) → IfSome left (λ file. streams.Applies d file f) → StreamApplies left project (fault_of_stream f)
   stands None f h = inr (f, refl, tt)
   stands (Some file) f h = inr (f, refl, (d, says, h))
 
@@ -84,7 +84,7 @@ module _ (project : List ℕ) (d : Decimator) (is_said : decimator_of project �
   only_outside None f h = tt
   only_outside (Some file) f h = λ bytes is. (f, refl, h bytes (played file bytes is))
 
-  pub writes_front : (left a b : Option (List ℕ)) → WritesFront left (PlaysBy d) a b → WritesFront left (Plays project) a b
+  pub writes_front : (left a b : Option (List ℕ)) → WritesPrefix left (PlaysBy d) a b → WritesPrefix left (Plays project) a b
   writes_front None a b h = tt
   writes_front (Some file) a b h = λ bytes is. h bytes (played file bytes is)
 

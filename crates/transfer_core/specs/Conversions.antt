@@ -1,7 +1,7 @@
 -- What is converted from a reader to a writer, and which faults apply.
 use Rattle.std.specs.Prelude.{ℕ, List, Option, IfSome}
 use Rattle.std.specs.Io.KnownBytes.{Appends}
-use Rattle.chunk_core.specs.Outlets.{AppendsFront}
+use Rattle.chunk_core.specs.Outlets.{AppendsPrefix}
 use Rattle.chunk_core.specs.declared.inlet.Inlet.{Inlet}
 use Rattle.sound_core.specs.Outlines.{AreAround, Surroundings}
 use Rattle.sound_core.specs.Reads.{Reads}
@@ -15,8 +15,8 @@ use Rattle.transfer_core.specs.Faults.{OfStream}
 
 -- if the reader's file is known, what it is converted to was written, and `dropped` parts of its recording are not in
 -- that
-abbrev pub ConvertsFile : Option (List ℕ) → Form → Option (List ℕ) → Option (List ℕ) → ℕ → Type 0
-ConvertsFile left form held_old held_new dropped = IfSome left (λ file. (bytes : List ℕ) × Converts file form bytes dropped × Appends held_old held_new bytes)
+abbrev pub ConvertsReader : Option (List ℕ) → Form → Option (List ℕ) → Option (List ℕ) → ℕ → Type 0
+ConvertsReader left form held_old held_new dropped = IfSome left (λ file. (bytes : List ℕ) × Converts file form bytes dropped × Appends held_old held_new bytes)
 
 -- the reader returned some bytes, as many as were counted, and what they are converted to was written; this also holds
 -- if its bytes aren't known
@@ -24,10 +24,10 @@ abbrev pub ConvertsGiven : {R : Type 0} → (R → Option (List ℕ)) → Inlet 
 ConvertsGiven left old new form held_old held_new dropped = (read : List ℕ) × (bytes : List ℕ) × Reads left old new read × Converts read form bytes dropped × Appends held_old held_new bytes
 
 -- a prefix of what any file with these bytes around its sound is converted to was written
-abbrev pub ConvertsFront : Option (List ℕ) → Surroundings → Form → Option (List ℕ) → Option (List ℕ) → Type 0
-ConvertsFront left o form held_old held_new = IfSome left (λ file. AreAround o file → (bytes : List ℕ) (dropped : ℕ) → Converts file form bytes dropped → AppendsFront held_old held_new bytes)
+abbrev pub ConvertsPrefix : Option (List ℕ) → Surroundings → Form → Option (List ℕ) → Option (List ℕ) → Type 0
+ConvertsPrefix left o form held_old held_new = IfSome left (λ file. AreAround o file → (bytes : List ℕ) (dropped : ℕ) → Converts file form bytes dropped → AppendsPrefix held_old held_new bytes)
 
 -- this fault applies: the channels end inside a byte, or it is one of re-interleaving
-abbrev pub ConversionStands : Option (List ℕ) → Surroundings → Form → Fault → Type 0
-ConversionStands left o form NotWholeBytes = FitsIn form o.sound.count → ⊥
-ConversionStands left o form fault = OfStream (IsRelayFault left o) fault
+abbrev pub ConversionApplies : Option (List ℕ) → Surroundings → Form → Fault → Type 0
+ConversionApplies left o form NotWholeBytes = FitsIn form o.sound.count → ⊥
+ConversionApplies left o form fault = OfStream (IsRelayFault left o) fault

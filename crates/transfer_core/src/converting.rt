@@ -4,17 +4,17 @@ ghost use Rattle.std.specs.Prelude.{◌≡◌, ◌⊎◌, ◌+◌, ◌-◌, ◌<
 ghost use Rattle.chunk_core.specs.Inlets.{inlet_failures, inlet_given, inlet_reader, inlet_reads};
 ghost use Rattle.chunk_core.specs.Outlets.{outlet_failures, outlet_writer};
 ghost use Rattle.sound_core.specs.Faults.{failed_reads, failed_writes};
-ghost use Rattle.sound_core.specs.Outlines.{AreTold, around_of};
+ghost use Rattle.sound_core.specs.Outlines.{AreStated, around_of};
 ghost use Rattle.form_core.specs.Parts.{FitsIn};
 ghost use Rattle.form_core.specs.Steps.{Gives};
-ghost use Rattle.transfer_core.specs.Conversions.{ConversionStands, ConvertsFile, ConvertsFront, ConvertsGiven};
+ghost use Rattle.transfer_core.specs.Conversions.{ConversionApplies, ConvertsReader, ConvertsPrefix, ConvertsGiven};
 ghost use Rattle.transfer_core.specs.Converting.{IsConverted, IsKept, contents, converted_of};
 ghost use Rattle.transfer_core.specs.Faults.{as_stream};
 
 use crate::fault::Fault;
 use chunk_core::{Inlet, Outlet};
 use form_core::{Form, dropped_in, ends_in, interleaving_in, read_any, write_in, written_in_parts};
-use sound_core::{Outline, StreamFault, Target, relay};
+use sound_core::{NewFile, Outline, StreamFault, relay};
 use std::alloc::Global;
 use std::io::{Read, Write};
 
@@ -65,20 +65,20 @@ pub fn convert_stream<R: Read, W: Write>(
     inlet: &mut Inlet<R>,
     outlet: &mut Outlet<W>,
 ) -> Result<u64, Fault>
-    requires told { AreTold (around_of outline.now) }
+    requires told { AreStated (around_of outline.now) }
     requires inlet_ready { inlet_failures inlet.old < 2 ^ 64 - 1 }
     requires outlet_ready { outlet_failures outlet.old < 2 ^ 64 - 1 }
     // What the reader's file is converted to was written, however its bytes are split into reads.
-    ensures ok { IfOk result (ConvertsFile (R.remaining (inlet_reader inlet.old)) form
+    ensures ok { IfOk result (ConvertsReader (R.remaining (inlet_reader inlet.old)) form
         (W.contents (outlet_writer outlet.old)) (W.contents (outlet_writer outlet.new))) }
     // If the reader's bytes aren't known, the same holds of what was read, as many bytes as were counted.
     ensures any_reader { IfOk result (ConvertsGiven R.remaining inlet.old inlet.new form
         (W.contents (outlet_writer outlet.old)) (W.contents (outlet_writer outlet.new))) }
     // If it is refused, a prefix was written.
-    ensures front { OnErr result (ConvertsFront (R.remaining (inlet_reader inlet.old)) (around_of outline.now) form
+    ensures front { OnErr result (ConvertsPrefix (R.remaining (inlet_reader inlet.old)) (around_of outline.now) form
         (W.contents (outlet_writer outlet.old)) (W.contents (outlet_writer outlet.new))) }
     // A fault that is returned is true.
-    ensures refused { IfErr result (ConversionStands (R.remaining (inlet_reader inlet.old))
+    ensures refused { IfErr result (ConversionApplies (R.remaining (inlet_reader inlet.old))
         (around_of outline.now) form) }
     ensures not_whole_bytes { (FitsIn form outline.now.sound.count → ⊥) → result ≡ Err Fault.NotWholeBytes }
     ensures read_failed { inlet_failures inlet.new ≡ inlet_failures inlet.old + failed_reads (as_stream result) }
@@ -94,7 +94,7 @@ pub fn convert_stream<R: Read, W: Write>(
 {
     written_in_parts();
     let ends = ends_in(alloc, &outline.recording, form, outline.sound.count)?;
-    let target = Target {
+    let target = NewFile {
         interleaving: interleaving_in(form),
         head: &ends.head,
         tail: &ends.tail,

@@ -6,7 +6,7 @@ ghost use Rattle.chunk_core.specs.Inlets.{inlet_failures, inlet_reader, inlet_re
 ghost use Rattle.chunk_core.specs.Inlets.{inlet_given};
 ghost use Rattle.chunk_core.specs.Outlets.{outlet_failures, outlet_writer};
 ghost use Rattle.sound_core.specs.Faults.{failed_reads, failed_writes};
-ghost use Rattle.player_core.specs.Playing.{PlaysFile, PlaysGiven, WritesFront};
+ghost use Rattle.player_core.specs.Playing.{PlaysFile, PlaysGiven, WritesPrefix};
 ghost use Rattle.transfer_core.specs.Faults.{as_stream};
 ghost use Rattle.transfer_core.specs.PartStreaming.{PartOnlyFromOutside, PartStands, PlaysPart};
 ghost use Rattle.transfer_core.specs.Streaming.{IsBeforeWriting, SaysNone};
@@ -58,7 +58,7 @@ pub fn play_part_stream<R: Read, W: Write>(
     // A part that can be played is refused only because of a device, the limit of reads or memory, and a prefix of it
     // was written.
     ensures cause { IfErr result (PartOnlyFromOutside (R.remaining (inlet_reader inlet.old)) project.now start stop) }
-    ensures front { OnErr result (WritesFront (R.remaining (inlet_reader inlet.old)) (PlaysPart project.now start stop)
+    ensures front { OnErr result (WritesPrefix (R.remaining (inlet_reader inlet.old)) (PlaysPart project.now start stop)
         (W.contents (outlet_writer outlet.old)) (W.contents (outlet_writer outlet.new))) }
     // A fault that is returned is true.
     ensures refused { IfErr result (PartStands (R.remaining (inlet_reader inlet.old)) project.now start stop) }

@@ -7,15 +7,15 @@ ghost use Rattle.sound_core.specs.Faults.{StopsReading, failed_reads, failed_wri
 ghost use Rattle.transfer_core.specs.Faults.{OfStream, as_stream};
 ghost use Rattle.transfer_core.specs.Playing.{Plays, played_of};
 ghost use Rattle.form_core.specs.Steps.{Gives};
-ghost use Rattle.transfer_core.specs.Streaming.{IsBeforeWriting, KeepsUp, OnlyFromOutside, SaysNone, StreamStands};
-ghost use Rattle.player_core.specs.Playing.{PlaysFile, PlaysGiven, WritesFront};
+ghost use Rattle.transfer_core.specs.Streaming.{IsBeforeWriting, KeepsUp, OnlyFromOutside, SaysNone, StreamApplies};
+ghost use Rattle.player_core.specs.Playing.{PlaysFile, PlaysGiven, WritesPrefix};
 
 use crate::fault::Fault;
 use crate::projects::decimator_of;
 use chunk_core::{Inlet, Outlet};
 use form_core::{Opened, read_any};
 use player_core::wave_of;
-use sound_core::{StreamFault, accepted_files_tell_one_sound};
+use sound_core::{StreamFault, accepted_files_state_one_sound};
 use std::alloc::Global;
 use std::io::{Read, Write};
 
@@ -79,14 +79,14 @@ pub fn play_stream<R: Read, W: Write>(
     // What can be played is refused only because of a device, the limit of reads or memory, and a prefix of it was
     // written.
     ensures cause { IfErr result (OnlyFromOutside (R.remaining (inlet_reader inlet.old)) project.now) }
-    ensures front { OnErr result (WritesFront (R.remaining (inlet_reader inlet.old)) (Plays project.now)
+    ensures front { OnErr result (WritesPrefix (R.remaining (inlet_reader inlet.old)) (Plays project.now)
         (W.contents (outlet_writer outlet.old)) (W.contents (outlet_writer outlet.new))) }
     // If the reading stops, what was written lags by at most 131,072 bytes of the one sound that the file states.
     ensures keeps_up { IfErr result (λ fault. OfStream StopsReading fault
         → KeepsUp (R.remaining (inlet_reader inlet.old)) project.now (inlet_given inlet.new - inlet_given inlet.old)
         (W.contents (outlet_writer outlet.old)) (W.contents (outlet_writer outlet.new))) }
     // A fault that is returned is true.
-    ensures refused { IfErr result (StreamStands (R.remaining (inlet_reader inlet.old)) project.now) }
+    ensures refused { IfErr result (StreamApplies (R.remaining (inlet_reader inlet.old)) project.now) }
     ensures read_failed { inlet_failures inlet.new ≡ inlet_failures inlet.old + failed_reads (as_stream result) }
     ensures write_failed { outlet_failures outlet.new ≡ outlet_failures outlet.old + failed_writes (as_stream result) }
     // Whatever is returned, there were at most 2^40 reads.
@@ -98,7 +98,7 @@ pub fn play_stream<R: Read, W: Write>(
     ensures unwritten { IfErr result (λ fault. IsBeforeWriting fault
         → outlet_writer outlet.new ≡ outlet_writer outlet.old) }
 {
-    accepted_files_tell_one_sound();
+    accepted_files_state_one_sound();
     let taps = decimator_of(alloc, project)?;
     Ok(player_core::play(alloc, &taps, inlet, outlet)?)
 }

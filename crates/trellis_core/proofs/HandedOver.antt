@@ -7,7 +7,7 @@ use Rattle.std.proofs.lemmas.Grind.{flat_map-append}
 use Rattle.std.proofs.lemmas.List.{append-nil, ext_get_or, get_or-map, length-map}
 use Rattle.std.proofs.lemmas.List.FromFn.{take-map-range_with_len, map-range_with_len_more}
 use Rattle.cost_core.specs.Trellis.{Trellis, IsBounded}
-use Rattle.cost_core.specs.Sinks.{AppendsFront, HandsOver, HandsOverPart}
+use Rattle.cost_core.specs.Sinks.{AppendsPrefix, HandsOver, HandsOverPart}
 use Rattle.trellis_core.specs.Best.{best_row, best_rows}
 use Rattle.trellis_core.specs.LeastSums.{BestRows}
 use Rattle.trellis_core.specs.Handing.{HandsOverAll, HandsOverSome, HandsOverUpTo, cut_at, cut_spelling}
@@ -27,7 +27,7 @@ module _ (t : Trellis) (spelling : ℕ → List ℕ → List ℕ) (kind now : �
       subst (Appends old new) is (Appends-trans old mid new done (spelling now row) before appended)
 
   -- a front of one row more
-  pub hands_front : AppendsFront mid new (spelling now row) → HandsOverPart (spelling kind) old new (best_rows t n) row
+  pub hands_front : AppendsPrefix mid new (spelling now row) → HandsOverPart (spelling kind) old new (best_rows t n) row
   hands_front (front, back, is, appended) =
       (front, back, ap (λ k. spelling k row) (sym ek) ∙ is, Appends-trans old mid new (flat_map (spelling kind) (best_rows t n)) front before appended)
 
@@ -43,8 +43,8 @@ module _ (t : Trellis) (cost : ℕ) (spelling : ℕ → List ℕ → List ℕ) (
   pub cut_more : Appends mid new (spelling now cut) → HandsOver (cut_spelling cost (spelling kind)) old new (best_rows t (n + 1))
   cut_more appended = hands_more t (λ k. cut_spelling cost (spelling k)) kind now old mid new n row ek er before (subst (λ r. Appends mid new (spelling now r)) ec appended)
 
-  pub cut_front : AppendsFront mid new (spelling now cut) → HandsOverPart (cut_spelling cost (spelling kind)) old new (best_rows t n) row
-  cut_front part = hands_front t (λ k. cut_spelling cost (spelling k)) kind now old mid new n row ek er before (subst (λ r. AppendsFront mid new (spelling now r)) ec part)
+  pub cut_front : AppendsPrefix mid new (spelling now cut) → HandsOverPart (cut_spelling cost (spelling kind)) old new (best_rows t n) row
+  cut_front part = hands_front t (λ k. cut_spelling cost (spelling k)) kind now old mid new n row ek er before (subst (λ r. AppendsPrefix mid new (spelling now r)) ec part)
 
 module _ (t : Trellis) (fine : IsBounded t) (spelling : List ℕ → List ℕ) (old new : Option (List ℕ)) where
   rest : ℕ → List (List ℕ)

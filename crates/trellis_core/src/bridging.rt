@@ -9,11 +9,11 @@ ghost use Rattle.trellis_core.specs.Decisions.{AreAllDecisions};
 ghost use Rattle.trellis_core.specs.Handing.{HandsOverAll, HandsOverCutUpTo, HandsOverSome, HandsOverUpTo, cut_spelling};
 
 use crate::cutting::hand_cut;
+use crate::discarding::Discarding;
 use crate::ends::end_state;
 use crate::fault::BridgeFault;
 use crate::rows::{Searched, forward};
 use crate::tracing::{reversed, trace};
-use crate::unheard::Unheard;
 use cost_core::{LevelSink, Window};
 use dsd_bits::Bits;
 use std::alloc::{AllocError, Global};
@@ -33,7 +33,7 @@ pub fn bridge(alloc: Global, window: &Window) -> Result<Chosen, AllocError>
     ensures first_least { IfOk result (λ chosen. IsFirstLeastBridge window.now chosen.bits) }
     ensures cost { IfOk result (λ chosen. chosen.cost ≡ bridge_cost window.now chosen.bits) }
 {
-    let mut sink = Unheard::new(window);
+    let mut sink = Discarding::new(window);
     match bridge_into(alloc, window, &mut sink) {
         Ok(chosen) => Ok(chosen),
         Err(_) => Err(AllocError),
@@ -105,7 +105,7 @@ pub fn bridge_cut_into<S: LevelSink>(
     ensures kind { S.kind sink.new ≡ S.kind sink.old }
     ensures kept { S.kept sink.new ≡ S.kept sink.old }
 {
-    let Ok(mut searched) = forward(alloc, window, &mut Unheard::new(window)) else {
+    let Ok(mut searched) = forward(alloc, window, &mut Discarding::new(window)) else {
         return Err(BridgeFault::Memory);
     };
     let chosen = choose(alloc, window, &searched)?;

@@ -3,7 +3,7 @@
 ghost use Rattle.std.specs.Prelude.{◌≡◌, ◌*◌, ◌%◌, ◌<◌, ◌≤◌, length};
 ghost use Rattle.std.specs.Simd.Lanes.{mask_l};
 ghost use Rattle.cost_core.specs.Rows.{seconds, least};
-ghost use Rattle.cost_core.specs.Ways.{AreChosen, AreWays, are_upper, following};
+ghost use Rattle.cost_core.specs.Ways.{HoldChoices, AreWays, are_upper, following};
 
 use cost_core::{Ways, sums_into};
 use std::simd::prelude::*;
@@ -31,7 +31,7 @@ fn choose_by_eights(ways: Ways<'_>, row: &mut [u64], choices: &mut [u8])
     requires row_len { length row.old ≡ length ways.old.now }
     requires choices_len { length ways.old.now ≤ 8 * length choices.old }
     ensures row { row.new ≡ following ways.entry.old.now ways.entry.lows.now ways.entry.highs.now }
-    ensures choices { AreChosen ways.entry.old.now ways.entry.lows.now ways.entry.highs.now choices.new }
+    ensures choices { HoldChoices ways.entry.old.now ways.entry.lows.now ways.entry.highs.now choices.new }
 {
     let (low, high) = ways.old.split_at(ways.old.len() / 2);
     for i in 0..low.len() / 8 {
@@ -76,7 +76,7 @@ pub(crate) fn choose(ways: Ways<'_>, row: &mut [u64], choices: &mut [u8])
     requires choices_len { length ways.old.now ≤ 8 * length choices.old }
     requires some { 0 < length choices.old }
     ensures row { row.new ≡ following ways.entry.old.now ways.entry.lows.now ways.entry.highs.now }
-    ensures choices { AreChosen ways.entry.old.now ways.entry.lows.now ways.entry.highs.now choices.new }
+    ensures choices { HoldChoices ways.entry.old.now ways.entry.lows.now ways.entry.highs.now choices.new }
 {
     if ways.old.len() > 8 {
         choose_by_eights(ways, row, choices);

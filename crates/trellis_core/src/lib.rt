@@ -45,12 +45,12 @@
 mod bridging;
 mod choosing;
 mod cutting;
+mod discarding;
 mod ends;
 mod fault;
 mod laws;
 mod rows;
 mod tracing;
-mod unheard;
 
 pub use bridging::{Chosen, bridge, bridge_cut_into, bridge_into};
 pub use cutting::hand_cut;

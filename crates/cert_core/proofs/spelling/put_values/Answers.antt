@@ -5,7 +5,7 @@ use Rattle.std.proofs.lemmas.List.{append-nil, take_more}
 use Rattle.std.specs.Int.{w64, to_be_bytes}
 use Rattle.cert_core.specs.Spelling.{row_text}
 use Rattle.cert_core.specs.declared.version.Version.TheVariants.{One}
-use Rattle.cert_core.proofs.Narrow.{put_front}
+use Rattle.cert_core.proofs.Narrow.{put_first}
 use Rattle.cert_core.proofs.spelling.put_values.Goals as goal
 
 -- the bytes of one number more
@@ -14,7 +14,7 @@ values_more : (i k : ℕ) (row buffer low : List ℕ) → take (8 * i) buffer �
 values_more i k row buffer low before is h room =
     let v = get_or row i 0 in
     let next : 8 * (i + 1) ≡ 8 * i + 8 = omega arith in
-    ap (λ n. take n (put_mid (8 * i) k buffer low)) next ∙ put_front (8 * i) k 8 buffer low (omega (arith, ap length is)) room ∙ ap₂ (λ xs ys. xs ++ ys) before (ap (take 8) is)
+    ap (λ n. take n (put_mid (8 * i) k buffer low)) next ∙ put_first (8 * i) k 8 buffer low (omega (arith, ap length is)) room ∙ ap₂ (λ xs ys. xs ++ ys) before (ap (take 8) is)
     ∙ sym (ap (row_text One) (take_more row i 0 h) ∙ flat_map-append (to_be_bytes w64) (take i row) (v ∷ []) ∙ ap (λ xs. row_text One (take i row) ++ xs) (append-nil (to_be_bytes w64 v)))
 
 pub loop-place-preserved : goal.loop-place-preserved

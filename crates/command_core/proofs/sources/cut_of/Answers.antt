@@ -8,11 +8,11 @@ returns-in_err-takes-clause-refused c = λ project files are.
     let p = err_from_is_err_and c.from_residual.result c.from_residual.ensures.1 in
     rw (p.1, p.2) (not_heard c.args.sources project files are c.args.form c.in_err-takes.field-0.0 c.in_err-takes.was)
 
-pub cut_heard-requires : goal.cut_heard-requires
-cut_heard-requires c = of_takes c.args.sources c.in_ok-takes.field-0 c.in_ok-takes.was c.requires
+pub cut_excerpts-requires : goal.cut_excerpts-requires
+cut_excerpts-requires c = of_takes c.args.sources c.in_ok-takes.field-0 c.in_ok-takes.was c.requires
 
 pub returns-clause-found : goal.returns-clause-found
-returns-clause-found c = λ project files are. c.cut_heard.ensures.found project files (are_takes c.args.sources project files are c.in_ok-takes.field-0 c.in_ok-takes.was)
+returns-clause-found c = λ project files are. c.cut_excerpts.ensures.found project files (are_takes c.args.sources project files are c.in_ok-takes.field-0 c.in_ok-takes.was)
 
 pub returns-clause-refused : goal.returns-clause-refused
-returns-clause-refused c = λ project files are. gives_refused c.cut_heard.result (said_cut project files c.args.form) (c.cut_heard.ensures.exact project files (are_takes c.args.sources project files are c.in_ok-takes.field-0 c.in_ok-takes.was))
+returns-clause-refused c = λ project files are. gives_refused c.cut_excerpts.result (said_cut project files c.args.form) (c.cut_excerpts.ensures.exact project files (are_takes c.args.sources project files are c.in_ok-takes.field-0 c.in_ok-takes.was))

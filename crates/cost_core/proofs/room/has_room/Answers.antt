@@ -3,7 +3,7 @@ use Rattle.std.proofs.lemmas.Bool.{le-ltb, lt-ltb}
 use Rattle.splice_core.specs.Cues.{CueContent, IsCueWithin, cue_content}
 use Rattle.splice_core.specs.Splices.{SpliceContent, splice_content}
 use Rattle.cost_core.specs.declared.fault.RoomFault.TheVariants.{NoRoomAfter, NoRoomBefore}
-use Rattle.cost_core.specs.Faults.{HasRoom, first_fault, reach_at}
+use Rattle.cost_core.specs.Faults.{HasRoom, missing_room, reach_at}
 use Rattle.cost_core.specs.Windows.{cue_at}
 use Rattle.cost_core.proofs.Windows.{cue_fits, cue_read, splicing}
 use Rattle.cost_core.proofs.room.has_room.Goals as goal
@@ -32,14 +32,14 @@ start_is c = ap (λ (q : CueContent). q.start) (cue_read c.args.splice.now (c.ar
 
 -- which fault is the first, by the two tests
 module _ (splice : SpliceContent) (i count : ℕ) where
-  none_wants : HasRoom splice i count → first_fault splice i count ≡ None
+  none_wants : HasRoom splice i count → missing_room splice i count ≡ None
   none_wants room =
       rw (le-ltb (cue_at splice (i + 1)).start (reach_at splice i).before room.before, le-ltb count ((cue_at splice i).stop + (reach_at splice i).after) room.after) refl
 
-  before_wants : (cue_at splice (i + 1)).start < (reach_at splice i).before → first_fault splice i count ≡ Some NoRoomBefore
+  before_wants : (cue_at splice (i + 1)).start < (reach_at splice i).before → missing_room splice i count ≡ Some NoRoomBefore
   before_wants less = rw (lt-ltb (cue_at splice (i + 1)).start (reach_at splice i).before less) refl
 
-  after_wants : (reach_at splice i).before ≤ (cue_at splice (i + 1)).start → count < (cue_at splice i).stop + (reach_at splice i).after → first_fault splice i count ≡ Some NoRoomAfter
+  after_wants : (reach_at splice i).before ≤ (cue_at splice (i + 1)).start → count < (cue_at splice i).stop + (reach_at splice i).after → missing_room splice i count ≡ Some NoRoomAfter
   after_wants before less =
       rw (le-ltb (cue_at splice (i + 1)).start (reach_at splice i).before before, lt-ltb count ((cue_at splice i).stop + (reach_at splice i).after) less) refl
 

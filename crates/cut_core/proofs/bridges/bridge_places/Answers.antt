@@ -2,7 +2,7 @@ use Rattle.std.proofs.Common.{◌≡◌, ◌+◌, ◌-◌, ◌++◌, ◌∷◌, 
 use Rattle.std.specs.List.{range_with_len}
 use Rattle.std.proofs.lemmas.List.{append-nil}
 use Rattle.std.proofs.lemmas.Grind.{flat_map-append}
-use Rattle.cut_core.specs.Bridges.{places_behind}
+use Rattle.cut_core.specs.Bridges.{places_after}
 use Rattle.cut_core.proofs.BridgeLaws.{range_more}
 use Rattle.cut_core.proofs.bridges.bridge_places.Goals as goal
 
@@ -10,7 +10,7 @@ pub loop-cue-preserved : goal.loop-cue-preserved
 loop-cue-preserved c =
     let i = c.loop-cue.cue in
     let none : 0 + i ≡ i = omega arith in
-    let behind = places_behind c.args.cut.now in
+    let behind = places_after c.args.cut.now in
     let pushed = c.in_ok-push_places.ensures in
     record {
       places = pushed.appended ∙ ap (λ (l : _). l ++ behind i) c.loop-cue.invariant.places ∙ sym (rw (range_more 0 i, none) (flat_map-append behind (range_with_len 0 i) (i ∷ []) ∙ ap (λ (l : _). flat_map behind (range_with_len 0 i) ++ l) (append-nil (behind i))));
@@ -21,4 +21,4 @@ loop-cue-preserved c =
 pub returns-clause-places : goal.returns-clause-places
 returns-clause-places c =
     let all : c.loop-cue.cue ≡ length c.args.cut.now.splice.cues - 1 = omega (arith, c.loop-cue-test.false, c.loop-cue.auto.cue-end, c.cue_number-cue-end.ensures.value) in
-    c.loop-cue.invariant.places ∙ ap (λ n. flat_map (places_behind c.args.cut.now) (range_with_len 0 n)) all
+    c.loop-cue.invariant.places ∙ ap (λ n. flat_map (places_after c.args.cut.now) (range_with_len 0 n)) all

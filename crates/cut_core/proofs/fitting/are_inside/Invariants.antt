@@ -1,8 +1,8 @@
 use Rattle.std.proofs.Common.{◌≡◌, Ok}
 use Rattle.splice_core.specs.Splices.{splice_content}
-use Rattle.cut_core.specs.Hearing.{heard_shapes}
+use Rattle.cut_core.specs.Excerpts.{excerpts_shapes}
 use Rattle.cut_core.specs.Opening.{each_before, inside_at}
 use Rattle.cut_core.proofs.fitting.are_inside.Given as goal
 
 abbrev pub invariant-loop-i : goal.invariant-loop-i
-invariant-loop-i l = record { before : each_before l.i (inside_at (splice_content l.splice) (heard_shapes l.takes)) ≡ Ok tt }
+invariant-loop-i l = record { before : each_before l.i (inside_at (splice_content l.splice) (excerpts_shapes l.takes)) ≡ Ok tt }

@@ -1,7 +1,7 @@
 use Rattle.std.proofs.Common.{◌-◌, ◌<◌, arith, length, sym}
 use Rattle.std.proofs.lemmas.Result.{err_from_is_err_and}
 use Rattle.splice_core.specs.Splices.{splice_content}
-use Rattle.cut_core.specs.Hearing.{heard_shapes}
+use Rattle.cut_core.specs.Excerpts.{excerpts_shapes}
 use Rattle.cut_core.specs.Rooms.{room_at}
 use Rattle.cut_core.proofs.Steps.{each_stops}
 use Rattle.cut_core.proofs.fitting.have_room.Goals as goal
@@ -11,4 +11,4 @@ returns-in_err-has_room_at c =
     let splice = splice_content c.args.splice.now in
     let there : c.loop-i.i < length splice.cues - 1 = omega (arith, c.loop-i-test.true, c.cue_number-i-end.ensures.value) in
     let p = err_from_is_err_and c.from_residual.result c.from_residual.ensures.1 in
-    rw (p.1, p.2) (sym (each_stops (room_at splice (heard_shapes c.args.takes.now)) (length splice.cues - 1) c.loop-i.i c.in_err-has_room_at.field-0.0 there c.loop-i.invariant.before (sym c.in_err-has_room_at.ensures)))
+    rw (p.1, p.2) (sym (each_stops (room_at splice (excerpts_shapes c.args.takes.now)) (length splice.cues - 1) c.loop-i.i c.in_err-has_room_at.field-0.0 there c.loop-i.invariant.before (sym c.in_err-has_room_at.ensures)))

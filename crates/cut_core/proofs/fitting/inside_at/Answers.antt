@@ -1,7 +1,7 @@
 use Rattle.std.proofs.Common.{ap, arith, refl}
 use Rattle.std.proofs.lemmas.Bool.{le-leb}
 use Rattle.splice_core.specs.Cues.{CueContent}
-use Rattle.cut_core.specs.Hearing.{TakeShape}
+use Rattle.cut_core.specs.Excerpts.{TakeShape}
 use Rattle.cut_core.proofs.fitting.inside_at.Goals as goal
 
 pub returns : goal.returns

@@ -1,6 +1,6 @@
 use Rattle.std.proofs.Common.{◌≡◌, ◌≢◌, ◌+◌, ◌*◌, [], length, get_or, slice_index, inl, inr, sym, ap, ◌∙◌, arith, mul_comm}
 use Rattle.std.proofs.lemmas.Bool.{cases_lt}
-use Rattle.dsd_bits.specs.Lacing.{frames_of}
+use Rattle.dsd_bits.specs.Lacing.{frame_number}
 use Rattle.dsd_bits.specs.Packing.{packed}
 use Rattle.dsd_bits.specs.Rooms.{rooms_bits}
 use Rattle.dsd_bits.proofs.LacingLemmas.{laced_two_are}
@@ -9,15 +9,15 @@ use Rattle.dsd_bits.proofs.room_lacing.lace_rooms.Goals as goal
 use Rattle.dsd_bits.proofs.room_lacing.lace_rooms.Goals.{After-as_bytes-in-loop-c, After-as_bytes-then-rooms-eq2}
 
 -- both channels have as many bytes
-first : (c : After-as_bytes-then-rooms-eq2) → length c.as_bytes.result.now ≡ frames_of (rooms_bits c.args.rooms.now)
+first : (c : After-as_bytes-then-rooms-eq2) → length c.as_bytes.result.now ≡ frame_number (rooms_bits c.args.rooms.now)
 first c = room_frames c.args.rooms.now c.requires.level 0 c.index-rooms-0.result (omega arith) c.index-rooms-0.is c.as_bytes.result.now c.as_bytes.ensures c.requires.whole_bytes
 
-second : (c : After-as_bytes-then-rooms-eq2) → length c.as_bytes-then-rooms-eq2.result.now ≡ frames_of (rooms_bits c.args.rooms.now)
+second : (c : After-as_bytes-then-rooms-eq2) → length c.as_bytes-then-rooms-eq2.result.now ≡ frame_number (rooms_bits c.args.rooms.now)
 second c = room_frames c.args.rooms.now c.requires.level 1 c.index-rooms-1.result (omega arith) c.index-rooms-1.is c.as_bytes-then-rooms-eq2.result.now c.as_bytes-then-rooms-eq2.ensures c.requires.whole_bytes
 
 pub lace_two-requires-clause-left : goal.lace_two-requires-clause-left
 lace_two-requires-clause-left c =
-    let frames = frames_of (rooms_bits c.args.rooms.now) in
+    let frames = frame_number (rooms_bits c.args.rooms.now) in
     let two : length c.args.rooms.now ≡ 2 = omega arith in
     c.requires.size ∙ ap (λ n. frames * n) two ∙ omega (arith, first (goal.at.lace_two-requires-clause-left c).After-as_bytes-then-rooms-eq2)
 
@@ -31,7 +31,7 @@ returns-then-rooms-eq2 c =
     let here = (goal.at.returns-then-rooms-eq2 c).After-as_bytes-then-rooms-eq2 in
     let rooms = c.args.rooms.now in
     let channels = rooms_bits rooms in
-    let frames = frames_of channels in
+    let frames = frame_number channels in
     let many = length-rooms_bits rooms in
     let two : length channels ≡ 2 = omega (arith, many) in
     let left = room_bytes rooms c.requires.level 0 c.index-rooms-0.result (omega arith) c.index-rooms-0.is c.as_bytes.result.now c.as_bytes.ensures in
@@ -42,12 +42,12 @@ returns-then-rooms-eq2 c =
     ∙ laced_part_all channels
 
 -- a channel has as many bytes as there are frames
-own : (c : After-as_bytes-in-loop-c) → length c.as_bytes-in-loop-c.result.now ≡ frames_of (rooms_bits c.args.rooms.now)
+own : (c : After-as_bytes-in-loop-c) → length c.as_bytes-in-loop-c.result.now ≡ frame_number (rooms_bits c.args.rooms.now)
 own c = room_frames c.args.rooms.now c.requires.level c.loop-c.c c.index-rooms-c.result (omega arith) c.index-rooms-c.is c.as_bytes-in-loop-c.result.now c.as_bytes-in-loop-c.ensures c.requires.whole_bytes
 
 pub spread-requires-clause-enough : goal.spread-requires-clause-enough
 spread-requires-clause-enough c =
-    let frames = frames_of (rooms_bits c.args.rooms.now) in
+    let frames = frame_number (rooms_bits c.args.rooms.now) in
     let n = length c.args.rooms.now in
     let size : length c.loop-c.to ≡ frames * n = c.loop-c.invariant.size ∙ c.requires.size in
     let same : n * length c.as_bytes-in-loop-c.result.now ≡ frames * n = ap (λ m. n * m) (own (goal.at.spread-requires-clause-enough c).After-as_bytes-in-loop-c) ∙ mul_comm n frames in
@@ -76,5 +76,5 @@ returns-after-loop-c c =
     let rooms = c.args.rooms.now in
     let channels = rooms_bits rooms in
     let many = length-rooms_bits rooms in
-    laced_is channels c.requires.level c.requires.whole_bytes (omega (arith, many)) c.loop-c.to (c.loop-c.invariant.size ∙ c.requires.size ∙ ap (λ n. frames_of channels * n) (sym many))
+    laced_is channels c.requires.level c.requires.whole_bytes (omega (arith, many)) c.loop-c.to (c.loop-c.invariant.size ∙ c.requires.size ∙ ap (λ n. frame_number channels * n) (sym many))
     (λ frame d below h. ap (λ n. slice_index c.loop-c.to (frame * n + d)) many ∙ c.loop-c.invariant.done frame d below (omega (arith, many)))

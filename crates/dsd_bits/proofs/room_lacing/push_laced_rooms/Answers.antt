@@ -1,6 +1,6 @@
 use Rattle.std.proofs.Common.{◌≡◌, ◌+◌, ◌*◌, ◌/◌, ◌++◌, ◌∙◌, length, vec_len, take, length-append, ap, arith}
 use Rattle.std.proofs.lemmas.Nat.{mul-le}
-use Rattle.dsd_bits.specs.Lacing.{frames_of}
+use Rattle.dsd_bits.specs.Lacing.{frame_number}
 use Rattle.dsd_bits.specs.Rooms.{rooms_bits}
 use Rattle.dsd_bits.proofs.RoomLemmas.{room_long}
 use Rattle.dsd_bits.proofs.ShiftingLemmas.{written_behind}
@@ -8,7 +8,7 @@ use Rattle.dsd_bits.proofs.room_lacing.push_laced_rooms.Goals as goal
 use Rattle.dsd_bits.proofs.room_lacing.push_laced_rooms.Goals.{After-len-frames}
 
 -- the bytes that there are in the end
-all_bytes : (c : After-len-frames) → c.len-kept.result + c.len-frames.result / 8 * length c.args.rooms.now ≡ vec_len c.args.out.now + frames_of (rooms_bits c.args.rooms.now) * length c.args.rooms.now
+all_bytes : (c : After-len-frames) → c.len-kept.result + c.len-frames.result / 8 * length c.args.rooms.now ≡ vec_len c.args.out.now + frame_number (rooms_bits c.args.rooms.now) * length c.args.rooms.now
 all_bytes c =
     let long = c.len-frames.ensures.value ∙ room_long c.args.rooms.now c.requires.level 0 c.index-rooms-0.result (omega arith) c.index-rooms-0.is in
     ap (λ n. n + c.len-frames.result / 8 * length c.args.rooms.now) c.len-kept.ensures ∙ ap (λ n. vec_len c.args.out.now + n / 8 * length c.args.rooms.now) long

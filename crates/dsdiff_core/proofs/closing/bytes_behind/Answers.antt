@@ -1,5 +1,5 @@
 use Rattle.std.proofs.Common.{ap, sym, ◌∙◌, arith}
-use Rattle.dsdiff_core.specs.Fronts.{left_behind}
+use Rattle.dsdiff_core.specs.Fronts.{left_after}
 use Rattle.dsdiff_core.proofs.HeadLaws.{ends_at_head}
 use Rattle.dsdiff_core.proofs.WalkLaws.{long}
 use Rattle.dsdiff_core.proofs.closing.bytes_behind.Goals as goal
@@ -8,4 +8,4 @@ pub returns-clause-value : goal.returns-clause-value
 returns-clause-value c = omega (arith, long c.args.front.now c.requires, c.size_at.ensures, c.size_at-2.ensures, c.requires.in_form)
 
 pub returns-clause-told : goal.returns-clause-told
-returns-clause-told c = λ s e. returns-clause-value c ∙ ap (left_behind c.args.front.now) (sym (ends_at_head c.args.front.now s e).1)
+returns-clause-told c = λ s e. returns-clause-value c ∙ ap (left_after c.args.front.now) (sym (ends_at_head c.args.front.now s e).1)

@@ -1,7 +1,7 @@
 use Rattle.std.proofs.Common.{◌≡◌, Some, Ok, ap, subst, sym, ◌∙◌}
 use Rattle.std.specs.Result.{result_ok}
 use Rattle.dsd_bits.specs.Contents.{Content}
-use Rattle.dsdiff_core.specs.Outlines.{TellsOutline}
+use Rattle.dsdiff_core.specs.Outlines.{StatesOutline}
 use Rattle.dsdiff_core.specs.SoundBytes.{description_of, with_zeros}
 use Rattle.dsdiff_core.proofs.ClosingLaws.{long_zeros, outlines}
 use Rattle.dsdiff_core.proofs.HeadLaws.{ends_at_head}
@@ -14,4 +14,4 @@ pub returns-clause-told : goal.returns-clause-told
 returns-clause-told c = λ s e.
     let head = (ends_at_head c.args.front.now s e).0 in
     let is = c.in_ok-description.ensures _ (long_zeros _) in
-    subst (λ (r : Content). TellsOutline c.args.front.now s c.args.back.now (Some r)) (sym c.in_ok-silent.ensures) (outlines c.args.front.now c.args.back.now s (Some c.in_ok-description.description) e (sym (ap result_ok is)))
+    subst (λ (r : Content). StatesOutline c.args.front.now s c.args.back.now (Some r)) (sym c.in_ok-silent.ensures) (outlines c.args.front.now c.args.back.now s (Some c.in_ok-description.description) e (sym (ap result_ok is)))

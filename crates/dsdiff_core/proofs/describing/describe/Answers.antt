@@ -1,6 +1,6 @@
 use Rattle.std.proofs.Common.{ℕ, replicate, subst, sym}
 use Rattle.std.proofs.lemmas.List.{length-replicate}
-use Rattle.dsdiff_core.specs.Located.{sound_size}
+use Rattle.dsdiff_core.specs.Located.{stated_size}
 use Rattle.dsdiff_core.specs.Steps.{Gives}
 use Rattle.dsdiff_core.proofs.DescribedLaws.{described_alike}
 use Rattle.dsdiff_core.proofs.describing.describe.Goals as goal
@@ -8,4 +8,4 @@ use Rattle.dsdiff_core.proofs.describing.describe.Goals as goal
 pub returns : goal.returns
 returns c = λ sound size.
     let front = c.args.front.now in
-    subst (Gives (λ d. d) c.describe_around.result) (sym (described_alike front (replicate (sound_size front) 0) c.args.back.now c.requires (length-replicate {A = ℕ} (sound_size front) 0) sound size)) c.describe_around.ensures
+    subst (Gives (λ d. d) c.describe_around.result) (sym (described_alike front (replicate (stated_size front) 0) c.args.back.now c.requires (length-replicate {A = ℕ} (stated_size front) 0) sound size)) c.describe_around.ensures

@@ -1,6 +1,6 @@
 use Rattle.std.proofs.Common.{◌≡◌, ◌+◌, ◌-◌, ◌++◌, drop, length, replicate, subst, ap, ◌∙◌, arith}
 use Rattle.byteorder.specs.Endian.{big_number}
-use Rattle.dsdiff_core.specs.Located.{sound_size}
+use Rattle.dsdiff_core.specs.Located.{stated_size}
 use Rattle.dsdiff_core.specs.SoundBytes.{description_of}
 use Rattle.dsdiff_core.specs.Steps.{Gives}
 use Rattle.dsdiff_core.proofs.WalkLaws.{long}
@@ -10,5 +10,5 @@ pub returns : goal.returns
 returns c =
     let front = c.args.front.now in
     let place : length front - 8 ≡ length front - 12 + 4 = omega (arith, long front c.requires) in
-    let hole : c.u64_at-size.result ≡ sound_size front = c.u64_at-size.ensures ∙ ap (λ n. big_number 8 (drop n front)) place in
+    let hole : c.u64_at-size.result ≡ stated_size front = c.u64_at-size.ensures ∙ ap (λ n. big_number 8 (drop n front)) place in
     subst (λ n. Gives (λ d. d) c.describe_held.result (description_of (front ++ (replicate n 0 ++ c.args.back.now)))) hole c.describe_held.ensures

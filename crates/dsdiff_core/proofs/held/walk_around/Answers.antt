@@ -6,7 +6,7 @@ use Rattle.chunk_core.specs.declared.layout.Span.{Span}
 use Rattle.chunk_core.specs.Places.{places}
 use Rattle.chunk_core.specs.Steps.{Fails as WalkFails}
 use Rattle.dsdiff_core.specs.declared.fault.DsdiffFault.{DsdiffFault}
-use Rattle.dsdiff_core.specs.Held.{MayStand}
+use Rattle.dsdiff_core.specs.Held.{MayBeInMemory}
 use Rattle.dsdiff_core.specs.Steps.{Fails, walked, chunk_fault}
 use Rattle.dsdiff_core.proofs.ExitLaws.{fault_at}
 use Rattle.dsdiff_core.proofs.HeldLaws.{after_fails, around_end, around_spans, front_may, later_at, later_may, lead_spans, none_fails, same_spans, sound_may, span_at}
@@ -50,8 +50,8 @@ returns-clause-inside c =
     let a = c.requires.around in
     let end = around_end c.args.file a c.args.end c.requires.end in
     let sound = span_at (length c.args.file.front.now) c.args.file.hole in
-    let top = All-push (MayStand c.args.file) c.in_ok-top.top.items sound (front_may c.args.file a c.args.end c.requires.end c.in_ok-top.top.items c.in_ok-top.ensures.inside) (sound_may c.args.file a c.args.end c.requires.end) in
+    let top = All-push (MayBeInMemory c.args.file) c.in_ok-top.top.items sound (front_may c.args.file a c.args.end c.requires.end c.in_ok-top.top.items c.in_ok-top.ensures.inside) (sound_may c.args.file a c.args.end c.requires.end) in
     let few = length-take (c.args.end - (length c.args.file.front.now + c.args.file.hole) - c.min-pad.result) (drop c.min-pad.result c.args.file.back.now) in
     let later = later_may c.args.file a c.args.end c.requires.end c.in_ok-later.later.items _ _ (omega arith) (omega (arith, end, few, c.min-pad.ensures)) c.in_ok-later.ensures.inside in
     let joined : c.append.new.self.items ≡ (c.in_ok-top.top.items ++ sound ∷ []) ++ c.in_ok-later.later.items = c.in_ok-append.ensures.items ∙ ap (λ ss. ss ++ c.in_ok-later.later.items) c.in_ok-push.ensures.items in
-    subst (All (MayStand c.args.file)) (sym joined) (All-append (MayStand c.args.file) (c.in_ok-top.top.items ++ sound ∷ []) c.in_ok-later.later.items top later)
+    subst (All (MayBeInMemory c.args.file)) (sym joined) (All-append (MayBeInMemory c.args.file) (c.in_ok-top.top.items ++ sound ∷ []) c.in_ok-later.later.items top later)

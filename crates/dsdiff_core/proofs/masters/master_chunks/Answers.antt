@@ -2,7 +2,7 @@ use Rattle.std.proofs.Common.{◌∙◌, sym, arith}
 use Rattle.std.proofs.lemmas.Result.{err_from_is_err_and}
 use Rattle.std.proofs.lemmas.List.Elements.{All-append}
 use Rattle.dsd_bits.proofs.ExitLaws.{no_value}
-use Rattle.dsdiff_core.specs.Held.{StandsIn}
+use Rattle.dsdiff_core.specs.Held.{IsInMemory}
 use Rattle.dsdiff_core.proofs.OnceLoop.{no_span}
 use Rattle.dsdiff_core.proofs.MasterLoop.{masters_end, goes_on, passes_on, master_fails, none_cut}
 use Rattle.dsdiff_core.specs.Held.{held}
@@ -20,7 +20,7 @@ loop-span-preserved c =
       | then-eq+in_ok-inner+in_ok-append w ↦
           rw (w.found-is, w.in_ok-append.ensures.items) (record {
             so_far = goes_on (held c.args.file) c.args.top.now c.loop-span.span-index no_span c.loop-span.found.items _ _ (omega arith) (sym w.if-eq.ensures) w.in_ok-inner.ensures.exact c.loop-span.invariant.so_far;
-            inside = All-append (StandsIn c.args.file) c.loop-span.found.items _ c.loop-span.invariant.inside w.in_ok-inner.ensures.inside;
+            inside = All-append (IsInMemory c.args.file) c.loop-span.found.items _ c.loop-span.invariant.inside w.in_ok-inner.ensures.inside;
             whole = none_cut (held c.args.file) c.loop-span.found.items _ c.loop-span.invariant.whole w.in_ok-inner.ensures.whole;
           })
       | else-eq w ↦

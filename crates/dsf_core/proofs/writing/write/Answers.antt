@@ -1,7 +1,7 @@
 use Rattle.std.proofs.Common.{◌≡◌, ◌<◌, ◌^◌, length, ap, subst, sym, arith}
 use Rattle.std.proofs.lemmas.Grind.{common_steps}
 use Rattle.dsf_core.specs.Files.{IsDsf}
-use Rattle.dsf_core.specs.ReadAgain.{as_told}
+use Rattle.dsf_core.specs.ReadAgain.{as_stored}
 use Rattle.dsf_core.specs.Writing.{dsf_text}
 use Rattle.dsf_core.proofs.writing.write.Goals as goal
 
@@ -14,4 +14,4 @@ returns-clause-read_again c =
     let out = c.extend_from_slice.new.self in
     let text : out.items ≡ dsf_text r c.args.order = returns-clause-text c in
     let short : length (dsf_text r c.args.order) < 2 ^ 63 = omega (arith, ap length text, out.ok.0) in
-    subst (λ file. IsDsf file (as_told r) c.args.order) (sym text) (c.written_is_read_again.ensures r c.args.order c.channels-channels.ensures.shape short)
+    subst (λ file. IsDsf file (as_stored r) c.args.order) (sym text) (c.written_is_read_again.ensures r c.args.order c.channels-channels.ensures.shape short)

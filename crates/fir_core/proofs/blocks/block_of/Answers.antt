@@ -1,6 +1,6 @@
 use Rattle.std.proofs.Common.{ℕ, zero, suc, ◌+◌, ◌-◌, ◌/◌, ◌<◌, ◌≤◌, [], ◌∷◌, List, arith, get_or, length, refl}
 use Rattle.fir_core.specs.Blocks.{IsBehind}
-use Rattle.fir_core.specs.Rows.{AreEntries}
+use Rattle.fir_core.specs.Rows.{AreRowEntries}
 use Rattle.fir_core.proofs.RowLaws.{begins_behind, behind_more, ends_before, is_reached, places_behind, spot_of, spots_rise, window_before, window_reaches}
 use Rattle.fir_core.proofs.blocks.block_of.Goals as goal
 use Rattle.fir_core.proofs.blocks.block_of.Goals.{After-min}
@@ -59,7 +59,7 @@ invariant_of-block c =
     record {
       block = record {
         within = c.requires.within;
-        each = by_eight (λ k at. AreEntries spot.rows.taps.now spot.bytes.now spot.rows.step spot.rows.entries.now (spot.p + k) c.saturating_sub-start.result number at) c.places_of.result c.places_of-2.result
+        each = by_eight (λ k at. AreRowEntries spot.rows.taps.now spot.bytes.now spot.rows.step spot.rows.entries.now (spot.p + k) c.saturating_sub-start.result number at) c.places_of.result c.places_of-2.result
             (places_behind 0 spot spot c.saturating_sub-start.result number c.places_of.result (record { rows = refl; bytes = refl; p = omega arith }) (rw (← c.spots_from-front.ensures.first) c.places_of.ensures) last)
             (places_behind 4 spot c.next.result c.saturating_sub-start.result number c.places_of-2.result (fifth before) (rw (← c.spots_from-back.ensures.first) c.places_of-2.ensures) last);
       };

@@ -1,7 +1,7 @@
 use Rattle.std.proofs.Common.{◌≡◌, ℕ, ℤ, ◌+◌, ◌-◌, ◌*◌, ◌/◌, ◌^◌, ◌+ℤ◌, ◌<◌, ◌≤◌, ◌∙◌, inl, inr, arith, get_or, length, pos, w32, to_z, of_z}
 use Rattle.std.proofs.Math.Nat.{mul-le-mul_right}
 use Rattle.std.proofs.lemmas.Bool.{cases_lt}
-use Rattle.fir_core.specs.Rows.{AreEntries, sum_before}
+use Rattle.fir_core.specs.Rows.{AreRowEntries, sum_before}
 use Rattle.fir_core.proofs.InPlace.{one_less, one_more, read_back}
 use Rattle.fir_core.proofs.RowLaws.{all_before, begins_behind, byte_fits, byte_is, few_entries, not_begun, sum_small, window_reaches}
 use Rattle.fir_core.proofs.row_sums.add_last.Goals as goal
@@ -26,7 +26,7 @@ loop-k-init c =
     }
 
 -- the entries of the byte's windows
-has : (c : In-loop-k) → AreEntries c.args.spot.rows.taps.now c.args.spot.bytes.now c.args.spot.rows.step c.args.spot.rows.entries.now c.args.spot.p c.saturating_sub-start.result (c.min.result - c.saturating_sub-start.result) c.row_place-at.result
+has : (c : In-loop-k) → AreRowEntries c.args.spot.rows.taps.now c.args.spot.bytes.now c.args.spot.rows.step c.args.spot.rows.entries.now c.args.spot.p c.saturating_sub-start.result (c.min.result - c.saturating_sub-start.result) c.row_place-at.result
 has c = c.row_place-at.ensures (c.min.result - c.saturating_sub-start.result) (omega (arith, c.saturating_sub-start.ensures, c.min.ensures))
 
 few : (c : In-loop-k) → length c.args.spot.rows.entries.now ≤ 2 ^ 26

@@ -9,14 +9,14 @@ no_none : (P : Type 0) (text : List ℕ) → Some text ≡ None → P
 no_none P text e = absurd cc
 
 pub returns-in-Dsdiff-clause-read_again : goal.returns-in-Dsdiff-clause-read_again
-returns-in-Dsdiff-clause-read_again c = rw c.in-Dsdiff.is (IfOk-weaker c.write.result _ _ (λ file holds. record { again = dsdiff.as_told c.args.recording.now; holds = holds; same_rate = refl; same_channels = refl; same_marks = λ e. refl }) c.write.ensures.read_again)
+returns-in-Dsdiff-clause-read_again c = rw c.in-Dsdiff.is (IfOk-weaker c.write.result _ _ (λ file holds. record { again = dsdiff.as_stored c.args.recording.now; holds = holds; same_rate = refl; same_channels = refl; same_marks = λ e. refl }) c.write.ensures.read_again)
 
 pub returns-in_ok-write-in-Dsf : goal.returns-in_ok-write-in-Dsf
 returns-in_ok-write-in-Dsf c =
     let told = c.in_ok-write-in-Dsf.ensures in
     rw c.in-Dsf.is (record {
       text = ap Some (sym told.text);
-      read_again = record { again = dsf.as_told c.args.recording.now; holds = told.read_again; same_rate = refl; same_channels = refl; same_marks = λ e. absurd cc };
+      read_again = record { again = dsf.as_stored c.args.recording.now; holds = told.read_again; same_rate = refl; same_channels = refl; same_marks = λ e. absurd cc };
       refused = tt;
       not_whole_bytes = λ e. no_none _ _ e;
     })
@@ -26,7 +26,7 @@ returns-in_ok-write-in-Dsf8 c =
     let told = c.in_ok-write-in-Dsf8.ensures in
     rw c.in-Dsf8.is (record {
       text = ap Some (sym told.text);
-      read_again = record { again = dsf.as_told c.args.recording.now; holds = told.read_again; same_rate = refl; same_channels = refl; same_marks = λ e. absurd cc };
+      read_again = record { again = dsf.as_stored c.args.recording.now; holds = told.read_again; same_rate = refl; same_channels = refl; same_marks = λ e. absurd cc };
       refused = tt;
       not_whole_bytes = λ e. no_none _ _ e;
     })

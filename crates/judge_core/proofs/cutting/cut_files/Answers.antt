@@ -28,16 +28,16 @@ returns-in_err-takes c =
 are : (c : In_ok-takes) → AreTakes c.args.project.now (file_bytes c.args.takes.now) (splice_content c.in_ok-splice.splice) c.in_ok-takes.takes.items
 are c =
     let taken = c.in_ok-takes.ensures in
-    record { project_says = c.in_ok-splice.ensures.found; whole = taken.0; read = files_are (splice_content c.in_ok-splice.splice) (file_bytes c.args.takes.now) taken.0 taken.1; heard = taken.2 }
+    record { project_says = c.in_ok-splice.ensures.found; whole = taken.0; read = files_are (splice_content c.in_ok-splice.splice) (file_bytes c.args.takes.now) taken.0 taken.1; excerpts = taken.2 }
 
-pub cut_heard-requires : goal.cut_heard-requires
-cut_heard-requires c =
-    let here = are (goal.at.cut_heard-requires c).In_ok-takes in
-    record { whole = here.whole; heard = here.heard; as_many = omega (arith, here.read.as_many, zip_long HoldsSome (file_bytes c.args.takes.now) here.whole here.read.held) }
+pub cut_excerpts-requires : goal.cut_excerpts-requires
+cut_excerpts-requires c =
+    let here = are (goal.at.cut_excerpts-requires c).In_ok-takes in
+    record { whole = here.whole; excerpts = here.excerpts; as_many = omega (arith, here.read.as_many, zip_long HoldsSome (file_bytes c.args.takes.now) here.whole here.read.held) }
 
 pub returns : goal.returns
 returns c =
     let project = c.args.project.now in
     let files = file_bytes c.args.takes.now in
     let here = are (goal.at.returns c).In_ok-takes in
-    record { found = c.cut_heard.ensures.found project files here; exact = c.cut_heard.ensures.exact project files here }
+    record { found = c.cut_excerpts.ensures.found project files here; exact = c.cut_excerpts.ensures.exact project files here }

@@ -8,7 +8,7 @@ use Rattle.cut_core.specs.Bridges.{IsPlace}
 use Rattle.cut_core.proofs.CutLaws.{first_shape}
 use Rattle.chunk_core.specs.Outlets.{outlet_writer}
 use Rattle.trellis_core.specs.Passes.{HasBuffers}
-use Rattle.master_core.specs.Certifying.{AppendsEntries, IsReady}
+use Rattle.master_core.specs.Certifying.{AppendsEntries, IsBetweenEntries}
 use Rattle.master_core.specs.Choosing.{chosen_claims}
 use Rattle.master_core.proofs.CertLaws.{cut_short, entry_more}
 use Rattle.master_core.proofs.ChoiceLaws.{as_many, as_many_windows, chosen_is, claim_is, claim_number, weights_are}
@@ -60,7 +60,7 @@ write_entry-requires-clause-room g c =
 
 pub write_entry-requires-clause-ready : goal.write_entry-requires-clause-ready
 write_entry-requires-clause-ready g c =
-    subst (λ n. IsReady n c.loop-k.writer) (sym (weights g (goal.at.write_entry-requires-clause-ready g c).After-index-in-loop-k)) c.loop-k.invariant.ready
+    subst (λ n. IsBetweenEntries n c.loop-k.writer) (sym (weights g (goal.at.write_entry-requires-clause-ready g c).After-index-in-loop-k)) c.loop-k.invariant.ready
 
 pub returns-in_err-write_entry : goal.returns-in_err-write_entry
 returns-in_err-write_entry g c = record {
@@ -85,7 +85,7 @@ loop-k-preserved g c =
     let e = g.W.Write.contents (outlet_writer (cert_outlet c.write_entry.new.writer)) in
     record {
       written = entry_more (claims g here) c.loop-k.k (claim g here) (claim_there g here) (is g here) a b e so_far.written made.ok;
-      ready = subst (λ n. IsReady n c.write_entry.new.writer) (weights g here) made.ready;
+      ready = subst (λ n. IsBetweenEntries n c.write_entry.new.writer) (weights g here) made.ready;
       left = omega (arith, so_far.left, made.left);
       before = c.write_entry.ensures.before ∙ so_far.before;
       room = subst (λ n. HasBuffers (2 ^ (n - 1)) c.write_entry.new.pass) (weights g here) made.room;

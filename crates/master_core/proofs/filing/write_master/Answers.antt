@@ -7,7 +7,7 @@ use Rattle.chunk_core.specs.Outlets.{AppendsPart, outlet_failures, outlet_writer
 use Rattle.form_core.specs.Parts.{interleaving_in}
 use Rattle.cut_core.proofs.CutLaws.{first_shape}
 use Rattle.master_core.specs.Parting.{HasChosen}
-use Rattle.master_core.specs.Writing.{WritesBest, WritesBestFront}
+use Rattle.master_core.specs.Writing.{WritesBest, WritesBestPrefix}
 use Rattle.master_core.proofs.FilingLaws.{file_whole, head_front, sound_front, tail_front}
 use Rattle.master_core.proofs.filing.write_master.Given.{Over}
 use Rattle.master_core.proofs.filing.write_master.Goals as goal
@@ -45,7 +45,7 @@ returns-in_err-write_sound g c =
           let a1 = g.W.Write.contents (outlet_writer c.put_all.new.self) in
           let a2 = g.W.Write.contents (outlet_writer c.write_sound.new.outlet) in
           any_err c.from_residual-in_err-write_sound.result (sound_front cut c.args.form c.written_in_parts.ensures c.args.ends.now c.requires.ends c.has_one_best.ensures (first_shape cut c.can_cut.ensures).some_channel a0 a1
-          (head_out g (goal.at.returns-in_err-write_sound g c).In_ok-put_all) a2 (subst (λ to. WritesBestFront cut to a1 a2) c.interleaving_in.ensures c.in_err-write_sound.ensures.front));
+          (head_out g (goal.at.returns-in_err-write_sound g c).In_ok-put_all) a2 (subst (λ to. WritesBestPrefix cut to a1 a2) c.interleaving_in.ensures c.in_err-write_sound.ensures.front));
       failures = rw e.1 (c.in_err-write_sound.ensures.failures ∙ ap (λ n. n + 1) c.in_ok-put_all.ensures.failures);
     }
 

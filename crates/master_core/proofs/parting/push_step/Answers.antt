@@ -12,13 +12,13 @@ push_bridge_part-requires c = record {
   ready = c.requires.ready;
   channel = c.requires.channel;
   cue = c.requires.cue;
-  in_room = omega (arith, c.behind.ensures.start, c.behind.ensures.stop, c.requires.in_room);
+  in_room = omega (arith, c.counted_from.ensures.start, c.counted_from.ensures.stop, c.requires.in_room);
 }
 
 pub push_cue_part-requires : goal.push_cue_part-requires
 push_cue_part-requires c =
     let bridge = c.push_bridge_part.ensures.bridged in
-    let piece = c.behind.result in
+    let piece = c.counted_from.result in
     let long : length bridge.bits ≡ (cue_at c.args.source.now.cut.now c.args.place.cue).bridge = bridge.given.is_least.long ∙ (c.can_cut.ensures.windowed c.args.place.channel c.args.place.cue c.requires.channel c.requires.cue).levels in
     record {
       channel = c.requires.channel;
@@ -31,10 +31,10 @@ push_cue_part-requires c =
         length-append c.args.room.now.bits (slice_range bridge.bits piece.start piece.stop),
         length-slice bridge.bits piece.start piece.stop,
         long,
-        c.behind.ensures.start,
-        c.behind.ensures.stop,
-        c.behind-2.ensures.start,
-        c.behind-2.ensures.stop,
+        c.counted_from.ensures.start,
+        c.counted_from.ensures.stop,
+        c.counted_from-2.ensures.start,
+        c.counted_from-2.ensures.stop,
         ap (λ (q : CueContent). q.bridge) c.cue.ensures.value,
       );
     }
@@ -49,10 +49,10 @@ returns c =
     let at = bridge_start cut p.cue in
     let next = at + (cue_at cut p.cue).bridge in
     let long = ap (λ (q : CueContent). q.bridge) c.cue.ensures.value in
-    let start : c.behind.result.start ≡ range.start - at = omega (arith, c.behind.ensures.start, c.requires.start) in
-    let stop : c.behind.result.stop ≡ range.stop - at = omega (arith, c.behind.ensures.stop, c.requires.start) in
-    let start_next : c.behind-2.result.start ≡ range.start - next = omega (arith, c.behind-2.ensures.start, c.requires.start, long) in
-    let stop_next : c.behind-2.result.stop ≡ range.stop - next = omega (arith, c.behind-2.ensures.stop, c.requires.start, long) in
+    let start : c.counted_from.result.start ≡ range.start - at = omega (arith, c.counted_from.ensures.start, c.requires.start) in
+    let stop : c.counted_from.result.stop ≡ range.stop - at = omega (arith, c.counted_from.ensures.stop, c.requires.start) in
+    let start_next : c.counted_from-2.result.start ≡ range.start - next = omega (arith, c.counted_from-2.ensures.start, c.requires.start, long) in
+    let stop_next : c.counted_from-2.result.stop ≡ range.stop - next = omega (arith, c.counted_from-2.ensures.stop, c.requires.start, long) in
     record {
       most = ap (λ (r : RoomContent). r.most) c.push_cue_part.ensures ∙ c.push_bridge_part.ensures.most;
       step = record {

@@ -6,8 +6,8 @@ use Rattle.dsd_bits.specs.Channels.{IsLevel, count_of}
 use Rattle.dsd_bits.specs.Rooms.{RoomContent, rooms_bits}
 use Rattle.dsd_bits.specs.Sounds.{sound_size}
 use Rattle.dsd_bits.proofs.RoomLemmas.{length-rooms_bits}
-use Rattle.relace_core.specs.Relacing.{laced_in}
-use Rattle.relace_core.proofs.GroupLaws.{size_fits}
+use Rattle.interleave_core.specs.Reinterleaving.{laced_in}
+use Rattle.interleave_core.proofs.GroupLaws.{size_fits}
 use Rattle.cut_core.specs.Cuts.{channel_number}
 use Rattle.cut_core.proofs.CutLaws.{first_shape}
 use Rattle.master_core.specs.Parting.{within}

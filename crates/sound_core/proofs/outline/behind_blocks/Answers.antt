@@ -1,5 +1,5 @@
 use Rattle.std.proofs.Common.{◌≡◌, ◌+◌, ◌-◌, ◌∙◌, Some, arith, length, refl, subst}
-use Rattle.dsf_core.specs.Fronts.{TellsOutline}
+use Rattle.dsf_core.specs.Fronts.{StatesOutline}
 use Rattle.sound_core.proofs.FaultLaws.{fault_is, memory_unnamed}
 use Rattle.sound_core.proofs.BehindLaws.{blocks_around, blocks_refused, tag_fault}
 use Rattle.sound_core.proofs.ClosingLaws.{ends, has_order}
@@ -52,7 +52,7 @@ pub returns-in_default : goal.returns-in_default
 returns-in_default g c =
     let told = has_order c.args.sound.now.interleaving c.requires.interleaving in
     let read = c.in-Ok.ensures.ok in
-    let refused = subst (TellsOutline c.args.head.now (c.given.result - c.read_tag.new.reader.given) c.in_ok-tag.tag.items) c.in_default.is c.in_ok-recording.ensures.told in
+    let refused = subst (StatesOutline c.args.head.now (c.given.result - c.read_tag.new.reader.given) c.in_ok-tag.tag.items) c.in_default.is c.in_ok-recording.ensures.told in
     let total : c.given.result - c.read_tag.new.reader.given ≡ length c.args.head.now + c.args.sound.now.size + length c.args.reader.now.ahead.now.items + length read.read = omega (arith, c.given.ensures, c.read_tag.ensures.same.given, read.reads.given, c.requires.given) in
     let same = c.read_tag.ensures.same in
     let counts = counts_refused {Y = Behind} c.args.reader.now c.args.reader.now c.read_tag.new.reader c.in-Ok.gap refl refl c.in-Ok.ensures.counts in
@@ -69,7 +69,7 @@ returns g c =
     let told = has_order c.args.sound.now.interleaving c.requires.interleaving in
     let read = c.in-Ok.ensures.ok in
     let tag = c.in_ok-tag.ensures.items ∙ c.as_slice.ensures.value in
-    let outline = subst (λ xs. TellsOutline c.args.head.now (c.given.result - c.read_tag.new.reader.given) xs (Some c.in-Some.recording)) tag (subst (TellsOutline c.args.head.now (c.given.result - c.read_tag.new.reader.given) c.in_ok-tag.tag.items) c.in-Some.is c.in_ok-recording.ensures.told) in
+    let outline = subst (λ xs. StatesOutline c.args.head.now (c.given.result - c.read_tag.new.reader.given) xs (Some c.in-Some.recording)) tag (subst (StatesOutline c.args.head.now (c.given.result - c.read_tag.new.reader.given) c.in_ok-tag.tag.items) c.in-Some.is c.in_ok-recording.ensures.told) in
     let total : c.given.result - c.read_tag.new.reader.given ≡ length c.args.head.now + c.args.sound.now.size + length c.args.reader.now.ahead.now.items + length read.read = omega (arith, c.given.ensures, c.read_tag.ensures.same.given, read.reads.given, c.requires.given) in
     record {
       same = c.read_tag.ensures.same;

@@ -1,14 +1,14 @@
 use Rattle.std.specs.Prelude.{nat_lt}
 use Rattle.std.proofs.Common.{◌≡◌, ◌++◌, ◌∙◌, ℕ, List, Some, sym, ap, arith, length, min, refl, subst, take}
 use Rattle.chunk_core.specs.Inlets.{inlet_reader}
-use Rattle.dsdiff_core.specs.Outlines.{TellsOutline}
+use Rattle.dsdiff_core.specs.Outlines.{StatesOutline}
 use Rattle.sound_core.specs.Naming.{is_memory}
 use Rattle.sound_core.specs.Outlines.{IsRestFault}
 use Rattle.sound_core.proofs.BehindLaws.{IsBehind, fails_is, frames_around, frames_named, frames_refused, is_behind, not_memory}
 use Rattle.sound_core.proofs.ClosingLaws.{form_ends_at}
 use Rattle.sound_core.proofs.FaultLaws.{by_reading, fault_is, reading_unnamed}
 use Rattle.sound_core.proofs.ReaderLaws.{counts_kept, counts_kept_refused, counts_memory, same_counts}
-use Rattle.dsdiff_core.specs.Located.{sound_size}
+use Rattle.dsdiff_core.specs.Located.{stated_size}
 use Rattle.dsdiff_core.specs.Reading.{recording_of}
 use Rattle.dsdiff_core.specs.Steps.{Fails}
 use Rattle.sound_core.specs.declared.outline.Behind.{Behind}
@@ -38,7 +38,7 @@ pub returns-in-Err-2-clause-named : goal.returns-in-Err-2-clause-named
 returns-in-Err-2-clause-named g c = λ is.
     let read = c.in_ok-read_until.ensures.read in
     let kept = kept_is g (goal.at.returns-in-Err-2-clause-named g c).After-truncate in
-    let fails = subst (λ xs. (sound : List ℕ) → length sound ≡ sound_size c.args.head.now → Fails c.in-Err.fault (recording_of (c.args.head.now ++ (sound ++ xs)))) c.as_slice.ensures.value c.in-Err.ensures.fault in
+    let fails = subst (λ xs. (sound : List ℕ) → length sound ≡ stated_size c.args.head.now → Fails c.in-Err.fault (recording_of (c.args.head.now ++ (sound ++ xs)))) c.as_slice.ensures.value c.in-Err.ensures.fault in
     let known = not_memory c.in-Err.fault (sym c.is_memory.ensures ∙ c.if-is_memory.false) in
     (read.bytes, read.reads, rw c.from.ensures (frames_named c.args.head.now c.args.sound.now c.requires.at_sound c.requires.interleaving c.requires.sound c.requires.whole _ c.args.reader.now.ahead.now.items _ _ read.bytes _ c.in-Err.fault read.appended kept known fails))
 
@@ -47,7 +47,7 @@ returns-in-Err-2-clause-fault g c =
     let read = c.in_ok-read_until.ensures.read in
     let at = form_ends_at c.args.head.now c.args.sound.now c.requires.at_sound c.requires.interleaving in
     let kept = kept_is g (goal.at.returns-in-Err-2-clause-fault g c).After-truncate in
-    let fails = subst (λ xs. (sound : List ℕ) → length sound ≡ sound_size c.args.head.now → Fails c.in-Err-2.fault (recording_of (c.args.head.now ++ (sound ++ xs)))) c.as_slice.ensures.value c.in-Err-2.ensures.fault in
+    let fails = subst (λ xs. (sound : List ℕ) → length sound ≡ stated_size c.args.head.now → Fails c.in-Err-2.fault (recording_of (c.args.head.now ++ (sound ++ xs)))) c.as_slice.ensures.value c.in-Err-2.ensures.fault in
     let both = sym c.in-Err.is ∙ c.in-Err-2.is in
     let same : c.in-Err.fault ≡ c.in-Err-2.fault = cc (both) in
     let known = not_memory c.in-Err-2.fault (ap is_memory (sym same) ∙ sym c.is_memory.ensures ∙ c.if-is_memory.false) in
@@ -62,7 +62,7 @@ returns g c =
     record {
       same = record { reference = same.reference; given = same.given; limit = same.limit };
       ok = frames_around c.args.head.now c.args.sound.now c.requires.at_sound c.requires.interleaving c.requires.sound c.requires.whole g.R.Read.remaining c.args.reader.now.inlet.now c.read_until.new.self.inlet.now c.args.reader.now.ahead.now.items _ _ read.bytes _ c.in-Ok.recording read.reads read.appended (kept_is g (goal.at.returns g c).After-truncate)
-          (subst (λ xs. TellsOutline c.args.head.now c.args.sound.now xs (Some c.in-Ok.recording)) c.as_slice.ensures.value (c.in-Ok.ensures.told c.args.sound.now at));
+          (subst (λ xs. StatesOutline c.args.head.now c.args.sound.now xs (Some c.in-Ok.recording)) c.as_slice.ensures.value (c.in-Ok.ensures.told c.args.sound.now at));
       named = tt;
       counts = counts_kept c.args.reader.now c.read_until.new.self _ _ _ refl c.in_ok-read_until.ensures.counts;
       fault = tt;

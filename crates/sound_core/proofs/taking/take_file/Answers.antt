@@ -16,8 +16,8 @@ use Rattle.sound_core.proofs.taking.take_file.Goals as goal
 use Rattle.sound_core.proofs.taking.take_file.Goals.{In_ok-head, In-Ok-true}
 
 -- the front was read before the head was taken of it
-reads_is : (g : Over) (c : In_ok-head g) → Reads g.R.Read.remaining c.args.reader.now.inlet.now c.take_head.new.self.inlet.now c.read_front.new.reader.ahead.now.items
-reads_is g c = subst (λ k. Reads g.R.Read.remaining c.args.reader.now.inlet.now k c.read_front.new.reader.ahead.now.items) (sym c.take_head.ensures.untouched) c.in_ok-sound.ensures.read
+reads_is : (g : Over) (c : In_ok-head g) → Reads g.R.Read.remaining c.args.reader.now.inlet.now c.take_head.new.self.inlet.now c.read_header.new.reader.ahead.now.items
+reads_is g c = subst (λ k. Reads g.R.Read.remaining c.args.reader.now.inlet.now k c.read_header.new.reader.ahead.now.items) (sym c.take_head.ensures.untouched) c.in_ok-sound.ensures.read
 
 -- what was taken was read
 abbrev passes_is : (g : Over) (c : In-Ok-true g) → Passes g.R.Read.remaining c.take_head.new.self.inlet.now c.take_sound.new.reader.inlet.now c.in_ok-sound.sound.size c.take_head.new.self.ahead.now.items c.take_sound.new.reader.ahead.now.items
@@ -47,7 +47,7 @@ read_rest-requires-clause-given g c =
       arith,
       c.take_sound.ensures.same.given,
       c.take_head.ensures.same.given,
-      c.read_front.ensures.same.given,
+      c.read_header.ensures.same.given,
       given_is g.R.Read.remaining _ _ _ _ _ c.in_ok-sound.sound (reads_is g k) c.in_ok-sound.ensures.tells c.in_ok-head.ensures.head c.in_ok-head.ensures.rest _ _ (passes_is g l) c.args.reader.now.given c.requires.start.given,
     )
 
@@ -92,14 +92,14 @@ returns-in-Ok-false-clause-named g c = λ is.
       short.reads.given,
       c.take_sound.ensures.same.given,
       c.take_head.ensures.same.given,
-      c.read_front.ensures.same.given,
+      c.read_header.ensures.same.given,
       ap inlet_given c.take_head.ensures.untouched,
       c.in_ok-sound.ensures.given,
       c.in_ok-sound.ensures.tells.within,
       ap length c.in_ok-head.ensures.head,
       ap length c.in_ok-head.ensures.rest,
-      length-take c.in_ok-sound.sound.start c.read_front.new.reader.ahead.now.items,
-      length-drop c.in_ok-sound.sound.start c.read_front.new.reader.ahead.now.items,
+      length-take c.in_ok-sound.sound.start c.read_header.new.reader.ahead.now.items,
+      length-drop c.in_ok-sound.sound.start c.read_header.new.reader.ahead.now.items,
     ) in
     short_named g.R.Read.remaining _ _ _ _ _ c.in_ok-sound.sound (reads_is g k) c.in_ok-sound.ensures.tells c.in_ok-head.ensures.head c.in_ok-head.ensures.rest
     c.take_sound.new.reader.inlet.now c.cut_in.result _ short size (subst (λ xs. (rest : List ℕ) → length (xs ++ rest) ≡ c.given.result - c.take_sound.new.reader.given → c.given.result - c.take_sound.new.reader.given < length xs + c.in_ok-sound.sound.size → opened_of (xs ++ rest) ≡ Err c.cut_in.result) c.deref.ensures.value c.cut_in.ensures)
@@ -138,7 +138,7 @@ returns-clause-any_reader g c =
     let has = g.S.SoundSink.has c.args.sink.now c.take_sound.new.sink in
     IfOk-weaker c.read_rest.result _ _ (λ o told.
     let stands = given_stands g.R.Read.remaining _ _ _ _ _ c.in_ok-sound.sound (reads_is g at.In_ok-head) c.in_ok-sound.ensures.tells c.in_ok-head.ensures.head c.in_ok-head.ensures.rest _ _ (passes_is g at.In-Ok-true) _ (around_of o) told.0 told.1 told.2 in (
-      c.read_front.new.reader.ahead.now.items ++ (taken.passes.read ++ told.2.read),
+      c.read_header.new.reader.ahead.now.items ++ (taken.passes.read ++ told.2.read),
       stands.0,
       (taken.passes.passed, stands.1, subst (λ (s : Sound). has s s.count taken.passes.passed) (sym told.0) taken.taken),
     )) c.read_rest.ensures.ok

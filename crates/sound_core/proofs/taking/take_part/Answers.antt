@@ -13,22 +13,22 @@ module _ (g : Over) (c : After-split_at g) where
   size = sound_size c.args.part.sound.interleaving c.args.part.sound.channels c.args.part.bits
 
   -- there were so many bytes
-  fills : Fills g.R.Read.remaining c.args.reader.now.inlet.now c.fill.new.self.inlet.now c.stretch_size-size.result c.args.reader.now.ahead.now.items c.fill.new.self.ahead.now.items c.fill.new.self.block.now.items
+  fills : Fills g.R.Read.remaining c.args.reader.now.inlet.now c.fill.new.self.inlet.now c.segment_size-size.result c.args.reader.now.ahead.now.items c.fill.new.self.ahead.now.items c.fill.new.self.block.now.items
   fills = c.in_ok-fill.ensures.ok c.if-not-branch.false
 
   -- the bytes were passed
   is : c.split_at.result.0.now ≡ fills.passes.passed
-  is = c.split_at.ensures.front ∙ ap (take c.stretch_size-size.result) c.deref.ensures.value ∙ fills.first
+  is = c.split_at.ensures.front ∙ ap (take c.segment_size-size.result) c.deref.ensures.value ∙ fills.first
 
   abbrev passes : Passes g.R.Read.remaining c.args.reader.now.inlet.now c.fill.new.self.inlet.now size c.args.reader.now.ahead.now.items c.fill.new.self.ahead.now.items
-  passes = let p = fills.passes in record { passed = c.split_at.result.0.now; read = p.read; reads = p.reads; parts = p.parts ∙ ap (λ xs. xs ++ c.fill.new.self.ahead.now.items) (sym is); long = ap length is ∙ p.long ∙ c.stretch_size-size.ensures }
+  passes = let p = fills.passes in record { passed = c.split_at.result.0.now; read = p.read; reads = p.reads; parts = p.parts ∙ ap (λ xs. xs ++ c.fill.new.self.ahead.now.items) (sym is); long = ap length is ∙ p.long ∙ c.segment_size-size.ensures }
 
 pub returns-in_err-fill-clause-fault : goal.returns-in_err-fill-clause-fault
 returns-in_err-fill-clause-fault g c =
     rw (fault_is c.from_residual.result _ c.from_residual.ensures.1) (inl (record {
       same = refl;
       fault = reading_in_pass _ _ _ c.in_err-fill.field-0.0 c.in_err-fill.ensures.fault;
-      pace = λ stop. omega (arith, c.in_err-fill.ensures.pace stop, c.stretch_size-size.ensures);
+      pace = λ stop. omega (arith, c.in_err-fill.ensures.pace stop, c.segment_size-size.ensures);
     }))
 
 pub returns-clause-ok : goal.returns-clause-ok

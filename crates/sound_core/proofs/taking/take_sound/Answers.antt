@@ -1,5 +1,5 @@
 use Rattle.std.proofs.Common.{◌+◌, ◌-◌, ◌≤◌, inl, inr, arith, refl}
-use Rattle.relace_core.proofs.GroupLaws.{last_groups, size_fits}
+use Rattle.interleave_core.proofs.GroupLaws.{last_groups, size_fits}
 use Rattle.sound_core.proofs.FaultLaws.{fault_is}
 use Rattle.sound_core.proofs.ReaderLaws.{same_on, same_self}
 use Rattle.sound_core.proofs.TakingLaws.{short_on, some_all, some_none, some_on, stops_on}
@@ -17,18 +17,18 @@ pub invariant_of-part : goal.invariant_of-part
 invariant_of-part g c =
     let bits = c.min-bits.result in
     let left = c.args.sound.count - c.loop-done.done in
-    let most = c.stretch_bits-most.result in
-    let some : 1 ≤ bits = omega (arith, c.min-bits.ensures, c.loop-done-test.true, c.stretch_bits-most.ensures.some) in
+    let most = c.segment_bits-most.result in
+    let some : 1 ≤ bits = omega (arith, c.min-bits.ensures, c.loop-done-test.true, c.segment_bits-most.ensures.some) in
     let within : c.loop-done.done + bits ≤ c.args.sound.count = omega (arith, c.min-bits.ensures, c.loop-done-test.true) in
     record {
       is_sound = c.requires.fed.is_sound;
       some = some;
       within = within;
-      groups = λ less. elim (last_groups left most bits c.stretch_bits-most.ensures.groups c.min-bits.ensures) [
+      groups = λ less. elim (last_groups left most bits c.segment_bits-most.ensures.groups c.min-bits.ensures) [
         | inl even ↦ even
         | inr rest ↦ absurd (omega (arith, rest, less))
       ];
-      fits = size_fits c.args.sound.interleaving c.args.sound.channels bits most (omega (arith, c.min-bits.ensures)) c.stretch_bits-most.ensures.groups c.stretch_bits-most.ensures.fits;
+      fits = size_fits c.args.sound.interleaving c.args.sound.channels bits most (omega (arith, c.min-bits.ensures)) c.segment_bits-most.ensures.groups c.segment_bits-most.ensures.fits;
     }
 
 pub loop-done-preserved : goal.loop-done-preserved

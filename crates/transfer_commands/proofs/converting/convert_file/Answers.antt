@@ -3,7 +3,7 @@ use Rattle.std.specs.Prelude.{IfSome}
 use Rattle.std.proofs.lemmas.Result.{err_from_is_err_and}
 use Rattle.folder_core.specs.Files.{IsReadOf, View}
 use Rattle.folder_core.specs.ShortFiles.{IsShortOf}
-use Rattle.sound_core.specs.Outlines.{AreTold, around_of}
+use Rattle.sound_core.specs.Outlines.{AreStated, around_of}
 use Rattle.transfer_commands.specs.Converting.{ConvertComesTo}
 use Rattle.transfer_commands.specs.Outlining.{IsUnoutlined, OutlinesFile, OutlinesRead}
 use Rattle.transfer_commands.proofs.ConvertLaws.{unconverted, unoutlined_unconverted}
@@ -59,4 +59,4 @@ returns-in_err-file-2 g c =
     subst (ConvertComesTo c.args.form c.args.input.now c.args.output.now (view c.args.folder.now) (view c.read_file.new.folder)) (sym (e.1 ∙ ap Err e.2)) (unconverted c.args.form c.args.input.now c.args.output.now (view c.args.folder.now) (view c.read_file.new.folder) _ (c.read_file.ensures.same ∙ c.outline_file.ensures.same ∙ c.read_short.ensures.same) (unread_of c.in_err-file-2.field-0.0 c.in_err-file-2.ensures.fault))
 
 pub convert_outlined-requires : goal.convert_outlined-requires
-convert_outlined-requires g c = record { told = subst (λ o. IfSome o (λ outline. AreTold (around_of outline))) c.in-Some-2.is c.in_ok-outline.ensures.around }
+convert_outlined-requires g c = record { told = subst (λ o. IfSome o (λ outline. AreStated (around_of outline))) c.in-Some-2.is c.in_ok-outline.ensures.around }

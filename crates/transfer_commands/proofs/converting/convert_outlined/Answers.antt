@@ -6,7 +6,7 @@ use Rattle.sound_core.specs.Outlines.{around_of}
 use Rattle.transfer_core.specs.Conversions as streams
 use Rattle.transfer_core.specs.declared.fault.Fault.{Fault}
 use Rattle.std.proofs.Common.{Err}
-use Rattle.transfer_commands.specs.Converting.{ConvertsFront}
+use Rattle.transfer_commands.specs.Converting.{ConvertsPrefix}
 use Rattle.transfer_commands.specs.Outlining.{OutlinesRead}
 use Rattle.transfer_commands.proofs.ConvertLaws.{converts_all, converts_front, converts_none, outlined_unconverted}
 use Rattle.transfer_commands.proofs.converting.convert_outlined.Given.{Over}
@@ -59,12 +59,12 @@ module _ (g : Over) (c : After-hand_back-handed g) where
   others = subst (λ (v : View). KeepsOthers c.args.output.now v new) (same g k) c.hand_back-handed.ensures.others
 
   -- after a fault a prefix was written, or what was there is there still
-  front : (fault : Fault) → c.convert_between-came.result.0 ≡ Err fault → OutlinesRead c.args.input.now (old g k) c.args.outline.now → ConvertsFront c.args.form c.args.input.now c.args.output.now (old g k) new
+  front : (fault : Fault) → c.convert_between-came.result.0 ≡ Err fault → OutlinesRead c.args.input.now (old g k) c.args.outline.now → ConvertsPrefix c.args.form c.args.input.now c.args.output.now (old g k) new
   front fault is found =
       let written = g.F.Out.Write.contents c.convert_between-came.result.1 in
       let part : is_ok c.convert_between-came.result.0 ≡ false = ap is_ok is in
       let stays = given_up c.args.output.now (g.F.Folder.view c.create.new.self) new (is_ok c.convert_between-came.result.0) written c.hand_back-handed.result part c.hand_back-handed.ensures.whole c.hand_back-handed.ensures.refused in
-      let before : streams.ConvertsFront (g.F.In.Read.remaining c.in-Ok.file) (around_of c.args.outline.now) c.args.form (g.F.Out.Write.contents c.in-Ok-create.made) written = rw is at c.convert_between-came.ensures.front in
+      let before : streams.ConvertsPrefix (g.F.In.Read.remaining c.in-Ok.file) (around_of c.args.outline.now) c.args.form (g.F.Out.Write.contents c.in-Ok-create.made) written = rw is at c.convert_between-came.ensures.front in
       converts_front c.args.form c.args.input.now c.args.output.now (old g k) new others
       c.args.outline.now found c.written_in_parts.ensures (c.if-not-fits_in.ensures.0 refl)
       (g.F.In.Read.remaining c.in-Ok.file) (g.F.Out.Write.contents c.in-Ok-create.made) written

@@ -3,7 +3,7 @@ use Rattle.std.specs.Prelude.{is_ok}
 use Rattle.folder_core.specs.Files.{IsGivenUp}
 use Rattle.folder_core.proofs.FileLaws.{given_up, not_kept}
 use Rattle.transfer_core.specs.PartStreaming.{PartOnlyFromOutside, PartStands, PlaysPart}
-use Rattle.player_core.specs.Playing.{PlaysFile, PlaysGiven, WritesFront}
+use Rattle.player_core.specs.Playing.{PlaysFile, PlaysGiven, WritesPrefix}
 use Rattle.transfer_core.specs.Streaming.{IsBeforeWriting}
 use Rattle.chunk_core.specs.Inlets.{inlet_reader}
 use Rattle.chunk_core.specs.Outlets.{outlet_writer}
@@ -44,11 +44,11 @@ returns g c = λ input given empty.
     let part : is_ok c.play_part_stream-played.result ≡ false = ap is_ok c.in-Err.is in
     let stream = c.play_part_stream-played.ensures in
     let unread = g.F.In.Read.remaining (inlet_reader c.new-inlet.result) in
-    let own : WritesFront unread (PlaysPart project start stop) (g.F.Out.Write.contents (outlet_writer c.new-outlet.result)) written = rw c.in-Err.is at stream.front in
+    let own : WritesPrefix unread (PlaysPart project start stop) (g.F.Out.Write.contents (outlet_writer c.new-outlet.result)) written = rw c.in-Err.is at stream.front in
     let stands : PartStands unread project start stop fault = rw c.in-Err.is at stream.refused in
     let cause : PartOnlyFromOutside unread project start stop fault = rw c.in-Err.is at stream.cause in
     let unwritten : IsBeforeWriting fault → outlet_writer c.play_part_stream-played.new.outlet ≡ outlet_writer c.new-outlet.result = rw c.in-Err.is at stream.unwritten in
-    let front = subst (λ o. WritesFront o (PlaysPart project start stop) (g.F.Out.Write.contents c.args.wave) written) left (subst (λ o. WritesFront unread (PlaysPart project start stop) o written) held own) in (
+    let front = subst (λ o. WritesPrefix o (PlaysPart project start stop) (g.F.Out.Write.contents c.args.wave) written) left (subst (λ o. WritesPrefix unread (PlaysPart project start stop) o written) held own) in (
       (λ told.
           let file = given told in
           let stays = subst (λ w. IsGivenUp c.args.output.now old new (g.F.Out.Write.contents w)) c.into_inner.ensures (given_up c.args.output.now old new (is_ok c.play_part_stream-played.result) (g.F.Out.Write.contents c.into_inner.result) c.hand_back-handed.result part c.hand_back-handed.ensures.whole c.hand_back-handed.ensures.refused told) in (

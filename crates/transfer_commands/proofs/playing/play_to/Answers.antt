@@ -3,8 +3,8 @@ use Rattle.std.specs.Prelude.{is_ok}
 use Rattle.folder_core.specs.Files.{IsGivenUp}
 use Rattle.folder_core.proofs.FileLaws.{given_up, not_kept}
 use Rattle.transfer_core.specs.Playing.{Plays}
-use Rattle.player_core.specs.Playing.{PlaysFile, PlaysGiven, WritesFront}
-use Rattle.transfer_core.specs.Streaming.{IsBeforeWriting, OnlyFromOutside, StreamStands}
+use Rattle.player_core.specs.Playing.{PlaysFile, PlaysGiven, WritesPrefix}
+use Rattle.transfer_core.specs.Streaming.{IsBeforeWriting, OnlyFromOutside, StreamApplies}
 use Rattle.chunk_core.specs.Inlets.{inlet_reader}
 use Rattle.chunk_core.specs.Outlets.{outlet_writer}
 use Rattle.transfer_commands.proofs.PlayLaws.{ended, played}
@@ -40,18 +40,18 @@ returns g c = λ input given empty.
     let part : is_ok c.play_stream-played.result ≡ false = ap is_ok c.in-Err.is in
     let stream = c.play_stream-played.ensures in
     let unread = g.F.In.Read.remaining (inlet_reader c.new-inlet.result) in
-    let own : WritesFront unread (Plays project) (g.F.Out.Write.contents (outlet_writer c.new-outlet.result)) written = rw c.in-Err.is at stream.front in
-    let stands : StreamStands unread project fault = rw c.in-Err.is at stream.refused in
+    let own : WritesPrefix unread (Plays project) (g.F.Out.Write.contents (outlet_writer c.new-outlet.result)) written = rw c.in-Err.is at stream.front in
+    let stands : StreamApplies unread project fault = rw c.in-Err.is at stream.refused in
     let cause : OnlyFromOutside unread project fault = rw c.in-Err.is at stream.cause in
     let unwritten : IsBeforeWriting fault → outlet_writer c.play_stream-played.new.outlet ≡ outlet_writer c.new-outlet.result = rw c.in-Err.is at stream.unwritten in
-    let front = subst (λ o. WritesFront o (Plays project) (g.F.Out.Write.contents c.args.wave) written) left (subst (λ o. WritesFront unread (Plays project) o written) held own) in (
+    let front = subst (λ o. WritesPrefix o (Plays project) (g.F.Out.Write.contents c.args.wave) written) left (subst (λ o. WritesPrefix unread (Plays project) o written) held own) in (
       (λ told.
           let file = given told in
           let stays = subst (λ w. IsGivenUp c.args.output.now old new (g.F.Out.Write.contents w)) c.into_inner.ensures (given_up c.args.output.now old new (is_ok c.play_stream-played.result) (g.F.Out.Write.contents c.into_inner.result) c.hand_back-handed.result part c.hand_back-handed.ensures.whole c.hand_back-handed.ensures.refused told) in (
             file.0,
             file.1,
             ended project c.args.output.now old new (g.F.In.Read.remaining c.args.file) (g.F.Out.Write.contents c.args.wave) written stays
-                fault (subst (λ o. StreamStands o project fault) left stands) (subst (λ o. OnlyFromOutside o project fault) left cause) front
+                fault (subst (λ o. StreamApplies o project fault) left stands) (subst (λ o. OnlyFromOutside o project fault) left cause) front
                 (λ before. ap g.F.Out.Write.contents (unwritten before) ∙ held)
                 file.0 file.2 (empty told),
           )),

@@ -6,7 +6,7 @@ use Rattle.std.proofs.KnownBytes.{Appends-nil}
 use Rattle.chunk_core.specs.Outlets.{outlet_writer, AppendsPart}
 use Rattle.chunk_core.specs.declared.fused_outlet.FusedFault.{FusedFault}
 use Rattle.chunk_core.specs.declared.fused_outlet.FusedFault.TheVariants.{Device, Failed}
-use Rattle.cost_core.specs.Sinks.{AppendsFront}
+use Rattle.cost_core.specs.Sinks.{AppendsPrefix}
 use Rattle.cert_core.specs.Spelling.{row_text, version_number, version_of}
 use Rattle.cert_core.specs.Writers.{cert_outlet, cert_version, has_failed, rows_left}
 use Rattle.cert_core.specs.declared.version.Version.{Version}
@@ -32,7 +32,7 @@ told (Some x) None bytes wrote is = absurd wrote
 told (Some x) (Some y) bytes wrote is = refl
 
 -- what a refusal leaves of the bytes
-front : (old new : Option (List ℕ)) (bytes : List ℕ) (f : FusedFault) → (IsErrOf {T = Unit {0}} (Err f) Device → AppendsPart old new bytes) → (IsErrOf {T = Unit {0}} (Err f) Failed → new ≡ old) → AppendsFront old new bytes
+front : (old new : Option (List ℕ)) (bytes : List ℕ) (f : FusedFault) → (IsErrOf {T = Unit {0}} (Err f) Device → AppendsPart old new bytes) → (IsErrOf {T = Unit {0}} (Err f) Failed → new ≡ old) → AppendsPrefix old new bytes
 front old new bytes Device part same = let (front, back, is, some, wrote) = part refl in (front, back, is, wrote)
 front old new bytes Failed part same = ([], bytes, refl, subst (λ a. Appends old a []) (sym (same refl)) (Appends-nil old))
 
@@ -63,6 +63,6 @@ returns-in-Err g c =
       kept = c.level.ensures.kept;
       telling = told old new _ part.3;
       ok = tt;
-      err = subst (λ v. AppendsFront old new (row_text v c.args.row.now)) (same_version (cert_version c.args.self.now)) part;
+      err = subst (λ v. AppendsPrefix old new (row_text v c.args.row.now)) (same_version (cert_version c.args.self.now)) part;
       refused = λ _. c.in-Err.ensures.refused;
     }

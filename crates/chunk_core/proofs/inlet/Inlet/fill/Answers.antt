@@ -22,12 +22,12 @@ loop-filled-preserved g c =
     let so_far = c.loop-filled.invariant in
     let read = c.in_ok-count.ensures.bytes in
     let old = g.R.Read.remaining (inlet_reader c.args.self.now) in
-    let new = g.R.Read.remaining (inlet_reader c.pull_behind.new.self) in (
+    let new = g.R.Read.remaining (inlet_reader c.pull_after.new.self) in (
       read.2,
       subst (Consumes old new) (sym read.3) (Consumes-trans old (g.R.Read.remaining (inlet_reader c.loop-filled.self)) new (take c.loop-filled.filled c.loop-filled.buffer) read.0 so_far.1 read.4),
       omega (arith, so_far.2, c.in_ok-count.ensures.failures),
       omega (arith, so_far.3, c.in_ok-count.ensures.given),
-      reads_on _ _ _ _ _ so_far.4 c.pull_behind.ensures.reads c.if-count-eq0.false,
+      reads_on _ _ _ _ _ so_far.4 c.pull_after.ensures.reads c.if-count-eq0.false,
     )
 
 pub returns-in_err-count-clause-err : goal.returns-in_err-count-clause-err
@@ -37,8 +37,8 @@ returns-in_err-count-clause-err g c =
     let long : length bytes ≡ c.loop-filled.filled = length-take-le c.loop-filled.filled c.loop-filled.buffer so_far.0 in
     any_err c.from_residual.result (record {
       bytes = bytes;
-      few = omega (arith, long, c.loop-filled-test.true, c.pull_behind.auto.buffer);
-      consumed = Consumes-kept (g.R.Read.remaining (inlet_reader c.args.self.now)) (g.R.Read.remaining (inlet_reader c.loop-filled.self)) (g.R.Read.remaining (inlet_reader c.pull_behind.new.self)) bytes so_far.1 c.in_err-count.ensures.bytes;
+      few = omega (arith, long, c.loop-filled-test.true, c.pull_after.auto.buffer);
+      consumed = Consumes-kept (g.R.Read.remaining (inlet_reader c.args.self.now)) (g.R.Read.remaining (inlet_reader c.loop-filled.self)) (g.R.Read.remaining (inlet_reader c.pull_after.new.self)) bytes so_far.1 c.in_err-count.ensures.bytes;
       given = omega (arith, long, so_far.3, c.in_err-count.ensures.given);
-      reads = subst (λ n. CountsReads (inlet_reads c.args.self.now) (inlet_reads c.pull_behind.new.self) n 1) (sym long) (reads_end _ _ _ c.loop-filled.filled so_far.4 c.pull_behind.ensures.reads);
+      reads = subst (λ n. CountsReads (inlet_reads c.args.self.now) (inlet_reads c.pull_after.new.self) n 1) (sym long) (reads_end _ _ _ c.loop-filled.filled so_far.4 c.pull_after.ensures.reads);
     })

@@ -2,7 +2,7 @@ use Rattle.std.proofs.Common.{◌<◌, ◌+◌, ◌∙◌, ap, arith, length, re
 use Rattle.std.proofs.lemmas.List.{length-map}
 use Rattle.splice_core.specs.Cues.{CueContent, cue_content}
 use Rattle.splice_core.specs.Splices.{splice_content}
-use Rattle.cost_core.specs.Faults.{first_fault}
+use Rattle.cost_core.specs.Faults.{missing_room}
 use Rattle.cost_core.specs.Windows.{bridging_at}
 use Rattle.cost_core.proofs.Windows.{cue_fits, cue_read, splicing}
 use Rattle.cost_core.proofs.window.Window.new.Goals as goal
@@ -48,7 +48,7 @@ returns-in_err-has_room c = record {
   found = IfOk-from_err c.from_residual.result _ c.from_residual.ensures.0;
   only = λ room. let h = c.in_err-has_room.ensures.only (rw c.len.ensures.value room) in cc;
   order = let p = err_from_is_err_and c.from_residual.result c.from_residual.ensures.1 in
-      rw p.1 (ap (first_fault (splice_content c.args.splice.now) c.args.cue) (sym c.len.ensures.value) ∙ c.in_err-has_room.ensures.order ∙ sym p.2);
+      rw p.1 (ap (missing_room (splice_content c.args.splice.now) c.args.cue) (sym c.len.ensures.value) ∙ c.in_err-has_room.ensures.order ∙ sym p.2);
 }
 
 pub returns-in_err-between : goal.returns-in_err-between
@@ -59,7 +59,7 @@ returns-in_err-between c = record {
       let p = err_from_is_err_and c.from_residual-in_err-between.result c.from_residual-in_err-between.ensures.1 in
       rw (p.1, p.2) refl;
   order = let p = err_from_is_err_and c.from_residual-in_err-between.result c.from_residual-in_err-between.ensures.1 in
-      rw (p.1, p.2) (ap (first_fault (splice_content c.args.splice.now) c.args.cue) (sym c.len.ensures.value) ∙ c.in_ok-has_room.ensures.order);
+      rw (p.1, p.2) (ap (missing_room (splice_content c.args.splice.now) c.args.cue) (sym c.len.ensures.value) ∙ c.in_ok-has_room.ensures.order);
 }
 
 pub returns : goal.returns
@@ -71,5 +71,5 @@ returns c = record {
       c.in_ok-between.ensures ∙ (λ z. bridging_at (splice_content splice) i c.args.own.now (stop z) c.args.next.now (start z));
   found = rw (← c.len.ensures.value) c.in_ok-has_room.ensures.found;
   only = λ _. tt;
-  order = ap (first_fault (splice_content c.args.splice.now) c.args.cue) (sym c.len.ensures.value) ∙ c.in_ok-has_room.ensures.order;
+  order = ap (missing_room (splice_content c.args.splice.now) c.args.cue) (sym c.len.ensures.value) ∙ c.in_ok-has_room.ensures.order;
 }

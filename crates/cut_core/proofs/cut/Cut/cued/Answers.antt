@@ -2,7 +2,7 @@ use Rattle.std.proofs.Common.{◌≡◌, ◌-◌, ◌<◌, ◌≤◌, ◌∙◌,
 use Rattle.splice_core.specs.Cues.{CueContent}
 use Rattle.splice_core.specs.Splices.{splice_content}
 use Rattle.cut_core.specs.Cuts.{CutContent, channel_number, cue_at, cue_bits}
-use Rattle.cut_core.specs.Hearing.{HasStretch, heard_content, start_in, stop_in, stretch_at}
+use Rattle.cut_core.specs.Excerpts.{HasStretch, excerpts_content, start_in, stop_in, stretch_at}
 use Rattle.cut_core.specs.View.{cut_content}
 use Rattle.cut_core.proofs.KeepingLaws.{as_many, bits_there, cue_there, stretch_there}
 use Rattle.cut_core.proofs.cut.Cut.cued.Goals as goal
@@ -20,23 +20,23 @@ stretch-stretch-requires-clause-takes c = ap length c.deref.ensures.value ∙ as
 pub stretch-stretch-requires-clause-there : goal.stretch-stretch-requires-clause-there
 stretch-stretch-requires-clause-there c =
     let here = (goal.at.stretch-stretch-requires-clause-there c).After-deref in
-    subst (λ hs. HasStretch (splice_content c.self.inside.splice) (map heard_content hs) c.args.channel c.args.cue) (sym c.deref.ensures.value) (stretch_there c.self.inside c.self.invariant c.args.channel (channel here) c.args.cue (cue here))
+    subst (λ hs. HasStretch (splice_content c.self.inside.splice) (map excerpts_content hs) c.args.channel c.args.cue) (sym c.deref.ensures.value) (stretch_there c.self.inside c.self.invariant c.args.channel (channel here) c.args.cue (cue here))
 
-stretch_is : (c : After-stretch-stretch) → c.stretch-stretch.result.now ≡ stretch_at (splice_content c.self.inside.splice) (map heard_content c.self.inside.takes.items) c.args.channel c.args.cue
-stretch_is c = c.stretch-stretch.ensures ∙ ap (λ hs. stretch_at (splice_content c.self.inside.splice) (map heard_content hs) c.args.channel c.args.cue) c.deref.ensures.value
+stretch_is : (c : After-stretch-stretch) → c.stretch-stretch.result.now ≡ stretch_at (splice_content c.self.inside.splice) (map excerpts_content c.self.inside.takes.items) c.args.channel c.args.cue
+stretch_is c = c.stretch-stretch.ensures ∙ ap (λ hs. stretch_at (splice_content c.self.inside.splice) (map excerpts_content hs) c.args.channel c.args.cue) c.deref.ensures.value
 
-start_is : (c : After-stretch-stretch) → c.cue_at-here.result.now.start - c.heard_from-from.result ≡ start_in (splice_content c.self.inside.splice) c.args.cue
-start_is c = omega (arith, ap (λ (q : CueContent). q.start) c.cue_at-here.ensures.value, c.heard_from-from.ensures)
+start_is : (c : After-stretch-stretch) → c.cue_at-here.result.now.start - c.excerpt_start-from.result ≡ start_in (splice_content c.self.inside.splice) c.args.cue
+start_is c = omega (arith, ap (λ (q : CueContent). q.start) c.cue_at-here.ensures.value, c.excerpt_start-from.ensures)
 
-stop_is : (c : After-stretch-stretch) → c.cue_at-here.result.now.stop - c.heard_from-from.result ≡ stop_in (splice_content c.self.inside.splice) c.args.cue
-stop_is c = omega (arith, ap (λ (q : CueContent). q.stop) c.cue_at-here.ensures.value, c.heard_from-from.ensures)
+stop_is : (c : After-stretch-stretch) → c.cue_at-here.result.now.stop - c.excerpt_start-from.result ≡ stop_in (splice_content c.self.inside.splice) c.args.cue
+stop_is c = omega (arith, ap (λ (q : CueContent). q.stop) c.cue_at-here.ensures.value, c.excerpt_start-from.ensures)
 
-inside : (c : After-stretch-stretch) → (c.cue_at-here.result.now.stop - c.heard_from-from.result) ≤ length c.stretch-stretch.result.now
+inside : (c : After-stretch-stretch) → (c.cue_at-here.result.now.stop - c.excerpt_start-from.result) ≤ length c.stretch-stretch.result.now
 inside c =
     let there = cue_there c.self.inside c.self.invariant c.args.channel (channel c.before) c.args.cue (cue c.before) in
     omega (arith, stop_is c, ap length (stretch_is c), there.1)
 
-bits_are : (c : After-stretch-stretch) → slice_range c.stretch-stretch.result.now (c.cue_at-here.result.now.start - c.heard_from-from.result) (c.cue_at-here.result.now.stop - c.heard_from-from.result) ≡ cue_bits c.args.self.now c.args.channel c.args.cue
+bits_are : (c : After-stretch-stretch) → slice_range c.stretch-stretch.result.now (c.cue_at-here.result.now.start - c.excerpt_start-from.result) (c.cue_at-here.result.now.stop - c.excerpt_start-from.result) ≡ cue_bits c.args.self.now c.args.channel c.args.cue
 bits_are c =
     (λ j. slice_range (stretch_is c j) (start_is c j) (stop_is c j)) ∙ sym (bits_there c.self.inside c.self.invariant c.args.channel (channel c.before) c.args.cue (cue c.before)) ∙ ap (λ (k : CutContent). cue_bits k c.args.channel c.args.cue) c.self.view_is
 
@@ -49,4 +49,4 @@ returns-clause-inside c = inside (goal.at.returns-clause-inside c).After-stretch
 pub returns-clause-long : goal.returns-clause-long
 returns-clause-long c =
     let here = (goal.at.returns-clause-long c).After-stretch-stretch in
-    omega (arith, c.heard_from-from.ensures, ap (λ (q : CueContent). q.start) c.cue_at-here.ensures.value, ap (λ (q : CueContent). q.stop) c.cue_at-here.ensures.value, ap (λ (k : CutContent). (cue_at k c.args.cue).start) c.self.view_is, ap (λ (k : CutContent). (cue_at k c.args.cue).stop) c.self.view_is, cue here.before)
+    omega (arith, c.excerpt_start-from.ensures, ap (λ (q : CueContent). q.start) c.cue_at-here.ensures.value, ap (λ (q : CueContent). q.stop) c.cue_at-here.ensures.value, ap (λ (k : CutContent). (cue_at k c.args.cue).start) c.self.view_is, ap (λ (k : CutContent). (cue_at k c.args.cue).stop) c.self.view_is, cue here.before)

@@ -12,7 +12,7 @@ pub of-requires : goal.of-requires
 of-requires c =
     let taken = c.in_ok-takes.ensures in
     let read = files_are (splice_content c.args.splice) (file_bytes c.args.files.now) taken.0 taken.1 in
-    record { whole = taken.0; heard = taken.2; as_many = omega (arith, read.as_many, zip_long HoldsSome (file_bytes c.args.files.now) taken.0 read.held) }
+    record { whole = taken.0; excerpts = taken.2; as_many = omega (arith, read.as_many, zip_long HoldsSome (file_bytes c.args.files.now) taken.0 read.held) }
 
 pub returns-clause-found : goal.returns-clause-found
 returns-clause-found c =

@@ -1,13 +1,13 @@
 use Rattle.std.proofs.Common.{◌++◌, ◌∙◌, ◌-◌, [], add-zero, ap, append-nil, arith, refl, subst, sym}
 use Rattle.std.proofs.Math.Seq.{drop-nil}
 use Rattle.std.specs.Io.KnownBytes.{Appends}
-use Rattle.chunk_core.specs.Outlets.{AppendsFront, outlet_writer}
+use Rattle.chunk_core.specs.Outlets.{AppendsPrefix, outlet_writer}
 use Rattle.dsd_bits.specs.declared.sound.Sound.{Sound}
 use Rattle.sound_core.proofs.FaultLaws.{fault_is}
 use Rattle.wave_core.specs.Sizes.{FitsRiff}
 use Rattle.player_core.specs.Parts.{frames_sound, part_bytes}
 use Rattle.player_core.specs.PartView.{IsPartFed, part_due, part_start}
-use Rattle.player_core.specs.Wave.{IsOpeningFault, OpensWave, header_of, pad_of}
+use Rattle.player_core.specs.Wave.{IsOpeningFault, OpensWave, sound_header, pad_of}
 use Rattle.player_core.proofs.PartFaultLaws.{part_opening}
 use Rattle.player_core.proofs.PartPlayLaws.{frames_number}
 use Rattle.player_core.proofs.PartSinkLaws.{due_at_first}
@@ -43,7 +43,7 @@ returns-in_err-put_header-clause-refused g c =
       same = refl;
       fault = part_opening d s p.start p.stop (omega (arith, c.frames_sound-frames.ensures.limits.least_factor)) (omega (arith, at.0, at.1)) f (subst (λ (t : Sound). IsOpeningFault d t f) frames c.in_err-put_header.ensures.fault);
       unwritten = c.in_err-put_header.ensures.unwritten;
-      front = λ rest long. front_more a b (header_of d fs) (part_bytes d s ([] ++ rest) p.start p.stop ++ pad_of d fs) (subst (λ (t : Sound). AppendsFront a b (header_of d t)) frames err);
+      front = λ rest long. front_more a b (sound_header d fs) (part_bytes d s ([] ++ rest) p.start p.stop ++ pad_of d fs) (subst (λ (t : Sound). AppendsPrefix a b (sound_header d t)) frames err);
       failures = c.in_err-put_header.ensures.failures;
     })
 
@@ -59,8 +59,8 @@ returns-in_err-player-clause-refused g c =
       same = refl;
       fault = tt;
       unwritten = λ early. absurd early;
-      front = λ rest long. front_more a b (header_of d fs) (part_bytes d s ([] ++ rest) p.start p.stop ++ pad_of d fs)
-          (whole_front a b (header_of d fs) (subst (λ (t : Sound). Appends a b (header_of d t)) c.frames_sound-frames.ensures.sound c.in_ok-put_header.ensures.ok.written));
+      front = λ rest long. front_more a b (sound_header d fs) (part_bytes d s ([] ++ rest) p.start p.stop ++ pad_of d fs)
+          (whole_front a b (sound_header d fs) (subst (λ (t : Sound). Appends a b (sound_header d t)) c.frames_sound-frames.ensures.sound c.in_ok-put_header.ensures.ok.written));
       failures = c.in_ok-put_header.ensures.failures;
     })
 
@@ -92,7 +92,7 @@ returns-clause-has g c =
       plays = c.in_ok-player.ensures.part;
       fed = subst (IsPartFed player) (sym (drop-nil n)) c.in_ok-player.ensures.fed;
       came = refl;
-      written = subst (Appends a b) (sym (ap (λ xs. header_of d fs ++ xs) (ap (part_due player) (drop-nil n) ∙ due_at_first player) ∙ append-nil (header_of d fs))) opens.written;
+      written = subst (Appends a b) (sym (ap (λ xs. sound_header d fs ++ xs) (ap (part_due player) (drop-nil n) ∙ due_at_first player) ∙ append-nil (sound_header d fs))) opens.written;
       ready = c.requires.ready;
       failures = omega (arith, c.in_ok-put_header.ensures.failures);
     }

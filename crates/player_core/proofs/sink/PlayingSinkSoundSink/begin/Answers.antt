@@ -4,7 +4,7 @@ use Rattle.chunk_core.specs.Outlets.{outlet_writer}
 use Rattle.player_core.specs.Due.{all_bytes}
 use Rattle.player_core.proofs.SoundLaws.{nothing_is_due}
 use Rattle.sound_core.proofs.FaultLaws.{fault_is}
-use Rattle.player_core.specs.Wave.{header_of, pad_of}
+use Rattle.player_core.specs.Wave.{sound_header, pad_of}
 use Rattle.player_core.proofs.FaultLaws.{opening_own}
 use Rattle.player_core.proofs.PieceLaws.{front_more, whole_front}
 use Rattle.player_core.proofs.sink.PlayingSinkSoundSink.begin.Goals as goal
@@ -20,7 +20,7 @@ returns-in_err-put_header-clause-refused g c =
       same = refl;
       fault = c.in_err-put_header.ensures.fault;
       unwritten = c.in_err-put_header.ensures.unwritten;
-      front = λ rest long. front_more _ _ (header_of d s) (all_bytes d s ([] ++ rest) ++ pad_of d s) c.in_err-put_header.ensures.err;
+      front = λ rest long. front_more _ _ (sound_header d s) (all_bytes d s ([] ++ rest) ++ pad_of d s) c.in_err-put_header.ensures.err;
       failures = c.in_err-put_header.ensures.failures;
     })
 
@@ -32,7 +32,7 @@ returns-in_err-player-clause-refused g c =
       same = refl;
       fault = tt;
       unwritten = λ early. absurd early;
-      front = λ rest long. front_more _ _ (header_of d s) (all_bytes d s ([] ++ rest) ++ pad_of d s) (whole_front _ _ (header_of d s) c.in_ok-put_header.ensures.ok.written);
+      front = λ rest long. front_more _ _ (sound_header d s) (all_bytes d s ([] ++ rest) ++ pad_of d s) (whole_front _ _ (sound_header d s) c.in_ok-put_header.ensures.ok.written);
       failures = c.in_ok-put_header.ensures.failures;
     })
 
@@ -53,7 +53,7 @@ returns-clause-has g c =
       filter_is = c.in_ok-player.ensures.made.0;
       sound_is = c.in_ok-player.ensures.made.1;
       fed = c.in_ok-player.ensures.fed;
-      written = subst (Appends (g.W.Write.contents (outlet_writer c.args.self.now.outlet.now)) (g.W.Write.contents (outlet_writer c.put_header.new.outlet))) (sym (ap (λ xs. header_of d s ++ xs) (nothing_is_due d s) ∙ append-nil (header_of d s))) opens.written;
+      written = subst (Appends (g.W.Write.contents (outlet_writer c.args.self.now.outlet.now)) (g.W.Write.contents (outlet_writer c.put_header.new.outlet))) (sym (ap (λ xs. sound_header d s ++ xs) (nothing_is_due d s) ∙ append-nil (sound_header d s))) opens.written;
       ready = c.requires.ready;
       failures = omega (arith, c.in_ok-put_header.ensures.failures);
     }

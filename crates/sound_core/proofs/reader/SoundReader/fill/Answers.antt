@@ -25,13 +25,13 @@ loop-filled-preserved g c =
     let so_far = c.loop-filled.invariant in
     let pulls = c.in_ok-count.ensures.read in (
       so_far.0 ++ pulls.read,
-      reads_on g.R.Read.remaining c.args.self.now.inlet.now c.loop-filled.self.inlet.now c.pull_behind.new.self.inlet.now so_far.0 pulls.read so_far.1 pulls.reads,
+      reads_on g.R.Read.remaining c.args.self.now.inlet.now c.loop-filled.self.inlet.now c.pull_after.new.self.inlet.now so_far.0 pulls.read so_far.1 pulls.reads,
       pulls.front ∙ ap (λ xs. xs ++ pulls.read) so_far.2 ∙ append_assoc (take c.args.size c.args.self.now.ahead.now.items) so_far.0 pulls.read,
       omega (arith, so_far.3, pulls.number, length-append so_far.0 pulls.read),
       pulls.few,
-      c.pull_behind.ensures.kept ∙ so_far.5,
+      c.pull_after.ensures.kept ∙ so_far.5,
       c.in_ok-count.ensures.reading,
-      same_on c.args.self.now c.loop-filled.self c.pull_behind.new.self so_far.7 c.pull_behind.ensures.same,
+      same_on c.args.self.now c.loop-filled.self c.pull_after.new.self so_far.7 c.pull_after.ensures.same,
       omega (arith, so_far.8, c.in_ok-count.ensures.counts.failures),
     )
 
@@ -48,7 +48,7 @@ returns-then-count-eq0-clause-short g c = λ no.
     let ahead = c.args.self.now.ahead.now.items in
     record {
       read = so_far.0 ++ pulls.read;
-      reads = reads_on g.R.Read.remaining c.args.self.now.inlet.now c.loop-filled.self.inlet.now c.pull_behind.new.self.inlet.now so_far.0 pulls.read so_far.1 pulls.reads;
+      reads = reads_on g.R.Read.remaining c.args.self.now.inlet.now c.loop-filled.self.inlet.now c.pull_after.new.self.inlet.now so_far.0 pulls.read so_far.1 pulls.reads;
       few = omega (arith, so_far.3, c.loop-filled-test.true, pulls.number, c.if-count-eq0.true, length-append ahead (so_far.0 ++ pulls.read), length-append so_far.0 pulls.read, length-take c.args.size ahead);
       at_end = pulls.end c.if-count-eq0.true;
     }

@@ -6,7 +6,7 @@ pub returns-clause-reading : goal.returns-clause-reading
 returns-clause-reading g c = record {
   ready = rw c.drop_ahead.ensures.untouched c.requires.reading.ready;
   budget = rw (c.drop_ahead.ensures.untouched, c.drop_ahead.ensures.same.limit) c.requires.reading.budget;
-  size = ap length c.drop_ahead.ensures.block ∙ c.put_front.ensures.long ∙ c.requires.reading.size;
+  size = ap length c.drop_ahead.ensures.block ∙ c.put_first.ensures.long ∙ c.requires.reading.size;
 }
 
 pub returns-clause-moved : goal.returns-clause-moved
@@ -17,4 +17,4 @@ returns-clause-moved g c =
     let least : count ≡ min c.args.size (length ahead) = omega (arith, c.min-count.ensures, c.len.ensures) in
     let is : moved ≡ take count ahead = c.split_at.ensures.front ∙ ap (take count) c.deref.ensures.value in
     let long : length moved ≡ count = omega (arith, ap length is, length-take count ahead, least) in
-    ap (take count) c.drop_ahead.ensures.block ∙ ap (λ n. take n c.put_front.new.block.items) (sym long) ∙ c.put_front.ensures.front ∙ is ∙ ap (λ n. take n ahead) least ∙ take_min c.args.size ahead
+    ap (take count) c.drop_ahead.ensures.block ∙ ap (λ n. take n c.put_first.new.block.items) (sym long) ∙ c.put_first.ensures.front ∙ is ∙ ap (λ n. take n ahead) least ∙ take_min c.args.size ahead

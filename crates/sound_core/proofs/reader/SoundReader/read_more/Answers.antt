@@ -3,8 +3,8 @@ use Rattle.sound_core.proofs.FaultLaws.{fault_is}
 use Rattle.sound_core.proofs.ReaderLaws.{counts_memory}
 use Rattle.sound_core.proofs.reader.SoundReader.read_more.Goals as goal
 
-pub pull_behind-requires : goal.pull_behind-requires
-pull_behind-requires g c = record { reading = c.requires.reading; room = omega arith; fits = omega arith }
+pub pull_after-requires : goal.pull_after-requires
+pull_after-requires g c = record { reading = c.requires.reading; room = omega arith; fits = omega arith }
 
 pub split_at-requires : goal.split_at-requires
 split_at-requires g c = omega (arith, c.in_ok-count.ensures.read.few, c.in_ok-count.ensures.reading.size, ap length c.deref.ensures.value)
@@ -12,7 +12,7 @@ split_at-requires g c = omega (arith, c.in_ok-count.ensures.read.few, c.in_ok-co
 pub returns-in_err-count : goal.returns-in_err-count
 returns-in_err-count g c =
     rw (fault_is c.from_residual.result _ c.from_residual.ensures.1) (record {
-      same = c.pull_behind.ensures.same;
+      same = c.pull_after.ensures.same;
       reading = tt;
       read = tt;
       end = tt;
@@ -24,7 +24,7 @@ returns-in_err-count g c =
 
 pub returns-in_err-extend_from_slice : goal.returns-in_err-extend_from_slice
 returns-in_err-extend_from_slice g c =
-    let same = c.pull_behind.ensures.same in
+    let same = c.pull_after.ensures.same in
     rw (fault_is c.from_residual-in_err-extend_from_slice.result _ c.from_residual-in_err-extend_from_slice.ensures.1) (record {
       same = record { reference = same.reference; given = same.given; limit = same.limit };
       reading = tt;
@@ -32,13 +32,13 @@ returns-in_err-extend_from_slice g c =
       end = tt;
       turn = tt;
       none = λ stops. absurd stops;
-      counts = counts_memory c.args.self.now c.pull_behind.new.self _ _ refl c.in_ok-count.ensures.counts;
+      counts = counts_memory c.args.self.now c.pull_after.new.self _ _ refl c.in_ok-count.ensures.counts;
       fault = tt;
     })
 
 pub returns : goal.returns
 returns g c =
-    let same = c.pull_behind.ensures.same in
+    let same = c.pull_after.ensures.same in
     let still = c.in_ok-count.ensures.reading in
     let all = c.in_ok-count.ensures.counts in
     let pulls = c.in_ok-count.ensures.read in
@@ -50,7 +50,7 @@ returns g c =
         pulls.read,
         pulls.reads,
         pulls.number,
-        c.in_ok-extend_from_slice.ensures.items ∙ ap₂ (λ xs ys. xs ++ ys) c.pull_behind.ensures.kept (c.split_at.ensures.front ∙ ap (take c.in_ok-count.count) c.deref.ensures.value ∙ ap (λ n. take n c.pull_behind.new.self.block.now.items) own ∙ pulls.front),
+        c.in_ok-extend_from_slice.ensures.items ∙ ap₂ (λ xs ys. xs ++ ys) c.pull_after.ensures.kept (c.split_at.ensures.front ∙ ap (take c.in_ok-count.count) c.deref.ensures.value ∙ ap (λ n. take n c.pull_after.new.self.block.now.items) own ∙ pulls.front),
       );
       end = pulls.end;
       turn = c.in_ok-count.ensures.turn;

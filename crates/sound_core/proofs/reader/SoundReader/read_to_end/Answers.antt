@@ -9,10 +9,10 @@ loop-count-preserved g c =
     let so_far = c.loop-count.invariant in
     let pulls = c.in_ok-count.ensures.read in (
       so_far.0 ++ pulls.read,
-      reads_on g.R.Read.remaining c.args.self.now.inlet.now c.loop-count.self.inlet.now c.pull_behind.new.self.inlet.now so_far.0 pulls.read so_far.1 pulls.reads,
-      c.pull_behind.ensures.kept ∙ so_far.2,
+      reads_on g.R.Read.remaining c.args.self.now.inlet.now c.loop-count.self.inlet.now c.pull_after.new.self.inlet.now so_far.0 pulls.read so_far.1 pulls.reads,
+      c.pull_after.ensures.kept ∙ so_far.2,
       c.in_ok-count.ensures.reading,
-      same_on c.args.self.now c.loop-count.self c.pull_behind.new.self so_far.4 c.pull_behind.ensures.same,
+      same_on c.args.self.now c.loop-count.self c.pull_after.new.self so_far.4 c.pull_after.ensures.same,
       omega (arith, so_far.5, c.in_ok-count.ensures.counts.failures),
     )
 
@@ -29,17 +29,17 @@ loop-count-init g c = (
 pub loop-count-smaller : goal.loop-count-smaller
 loop-count-smaller g c = omega (arith, c.in_ok-count.ensures.turn, c.in_ok-count.ensures.counts.most, c.loop-count.invariant.4.limit)
 
-pub pull_behind-requires : goal.pull_behind-requires
-pull_behind-requires g c = record { reading = c.loop-count.invariant.3; room = omega arith; fits = omega arith }
+pub pull_after-requires : goal.pull_after-requires
+pull_after-requires g c = record { reading = c.loop-count.invariant.3; room = omega arith; fits = omega arith }
 
 pub returns-in_err-count : goal.returns-in_err-count
 returns-in_err-count g c =
     let so_far = c.loop-count.invariant in
     rw (fault_is c.from_residual.result _ c.from_residual.ensures.1) (record {
-      same = same_on c.args.self.now c.loop-count.self c.pull_behind.new.self c.loop-count.invariant.4 c.pull_behind.ensures.same;
-      kept = c.pull_behind.ensures.kept ∙ c.loop-count.invariant.2;
+      same = same_on c.args.self.now c.loop-count.self c.pull_after.new.self c.loop-count.invariant.4 c.pull_after.ensures.same;
+      kept = c.pull_after.ensures.kept ∙ c.loop-count.invariant.2;
       read = tt;
-      counts = counts_later c.args.self.now c.loop-count.self c.pull_behind.new.self c.in_err-count.field-0.0 so_far.4.limit so_far.5 c.in_err-count.ensures.counts;
+      counts = counts_later c.args.self.now c.loop-count.self c.pull_after.new.self c.in_err-count.field-0.0 so_far.4.limit so_far.5 c.in_err-count.ensures.counts;
       fault = c.in_err-count.ensures.fault;
     })
 
@@ -48,13 +48,13 @@ returns-then-count-eq0 g c =
     let so_far = c.loop-count.invariant in
     let pulls = c.in_ok-count.ensures.read in
     record {
-      same = same_on c.args.self.now c.loop-count.self c.pull_behind.new.self c.loop-count.invariant.4 c.pull_behind.ensures.same;
-      kept = c.pull_behind.ensures.kept ∙ c.loop-count.invariant.2;
+      same = same_on c.args.self.now c.loop-count.self c.pull_after.new.self c.loop-count.invariant.4 c.pull_after.ensures.same;
+      kept = c.pull_after.ensures.kept ∙ c.loop-count.invariant.2;
       read = record {
         bytes = so_far.0 ++ pulls.read;
-        reads = reads_on g.R.Read.remaining c.args.self.now.inlet.now c.loop-count.self.inlet.now c.pull_behind.new.self.inlet.now so_far.0 pulls.read so_far.1 pulls.reads;
+        reads = reads_on g.R.Read.remaining c.args.self.now.inlet.now c.loop-count.self.inlet.now c.pull_after.new.self.inlet.now so_far.0 pulls.read so_far.1 pulls.reads;
         at_end = pulls.end c.if-count-eq0.true;
       };
-      counts = counts_ok c.args.self.now c.loop-count.self c.pull_behind.new.self c.in_ok-count.count _ so_far.4.limit so_far.5 c.in_ok-count.ensures.counts;
+      counts = counts_ok c.args.self.now c.loop-count.self c.pull_after.new.self c.in_ok-count.count _ so_far.4.limit so_far.5 c.in_ok-count.ensures.counts;
       fault = tt;
     }

@@ -1,6 +1,6 @@
 use Rattle.std.proofs.Common.{rules, ◌++◌, [], ◌∙◌, ap, append-nil, refl, subst, sym}
 use Rattle.std.specs.Io.KnownBytes.{Appends}
-use Rattle.sound_core.specs.Relays.{relaced_sound}
+use Rattle.sound_core.specs.Relays.{reinterleaved_sound}
 use Rattle.sound_core.proofs.RelayLaws.{each_err, each_ok, relaced_none, until_more, until_part, writing_is_own}
 use Rattle.sound_core.proofs.relaying_sink.RelayingSinkSoundSink.begin.Goals as goal
 
@@ -22,6 +22,6 @@ returns-clause-refused g c =
     each_err _ _ c.put.result c.put.ensures.err c.put.ensures.fault c.put.ensures.failures (λ f out fault failures. record {
       same = refl;
       fault = writing_is_own c.args.self.now.sound c.args.sound f fault;
-      front = λ own rest long. until_more _ _ target.head.now (relaced_sound c.args.sound target.interleaving ([] ++ rest) ++ target.tail.now) f (until_part _ _ target.head.now f out);
+      front = λ own rest long. until_more _ _ target.head.now (reinterleaved_sound c.args.sound target.interleaving ([] ++ rest) ++ target.tail.now) f (until_part _ _ target.head.now f out);
       failures = failures;
     })

@@ -1,5 +1,0 @@
-use Rattle.dsdiff_core.proofs.ToldLaws.{found_is_told}
-use Rattle.dsdiff_core.proofs.laws.what_is_told_is_found.Goals as goal
-
-pub returns : goal.returns
-returns c = found_is_told

@@ -1,5 +1,0 @@
-use Rattle.fir_core.proofs.TurnLaws.{added_at}
-use Rattle.fir_core.proofs.turns.add_eight.Goals as goal
-
-pub returns : goal.returns
-returns c = added_at c.args.near c.args.sums.now c.args.at c.requires.eight c.requires.inside

@@ -1,5 +1,0 @@
-use Rattle.player_core.proofs.FrontLaws.{front_of_all}
-use Rattle.player_core.proofs.laws.frames_of_a_front_come_first.Goals as goal
-
-pub returns : goal.returns
-returns c = λ d s before bytes is whole least all. front_of_all d s before bytes is whole least all

@@ -1,5 +1,0 @@
-use Rattle.relace_core.proofs.JoinLaws.{groups_join}
-use Rattle.relace_core.proofs.laws.groups_join.Goals as goal
-
-pub returns : goal.returns
-returns c = groups_join

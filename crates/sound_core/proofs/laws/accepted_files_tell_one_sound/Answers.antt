@@ -1,5 +1,0 @@
-use Rattle.sound_core.proofs.ToldLaws.{one_sound}
-use Rattle.sound_core.proofs.laws.accepted_files_tell_one_sound.Goals as goal
-
-pub returns : goal.returns
-returns c = one_sound

@@ -134,7 +134,7 @@ blocks_named file e no_form fails = rw (no_form, fails) refl
 
 -- a file that begins with the head of a form is no DSF file
 not_dsf : (file : List ℕ) → 4 ≤ length file → take 4 file ≡ FRM8 → dsf_reading.recording_of file ≡ Err dsf_faults.NotDsf
-unfolding dsf_reading.recording_of dsf_reading.front_of dsf_reading.chunks_of
+unfolding dsf_reading.recording_of dsf_reading.file_header dsf_reading.chunks_of
 not_dsf file long id = rw (le-ltb (length file) 4 long, id) refl
 
 otherwise_is : (e : DsdiffFault) (other : Result Opened ReadFault) → other ≡ Err UnknownForm → from_dsdiff (Err e) other ≡ Err (dsdiff_fault e)

@@ -7,8 +7,9 @@ from collections.abc import Callable
 
 import numpy as np
 
+from bands import Band
 from hearing import Hearing
-from owing import GUESSED, sounds
+from owing import sounds
 from projects import Project, Spot
 from takes import Signals
 
@@ -21,9 +22,10 @@ def length_of(cue: dict) -> int:
     return cue["stop"] - cue["start"]
 
 
-def decoded(project: Project, guessed: tuple[int, int] = GUESSED) -> Reference:
-    """The takes' sounds are what passes a low-pass."""
-    return lambda take, first, stop: sounds(project.takes[take], first, stop, guessed)
+def decoded(project: Project, band: Band | None = None) -> Reference:
+    """The takes' sounds are what passes low-passes: those of their own bands, or one."""
+    bands = [band] * project.count if band else None
+    return lambda take, first, stop: sounds(project.takes[take], first, stop, bands)
 
 
 def known(rows: list[np.ndarray]) -> Reference:
@@ -116,10 +118,10 @@ def levels(
 def is_owned(project: Project, spot: Spot, channel: int) -> bool:
     """Whether a channel of a transition has bits of the take before, its link, and bits of the take after."""
     seam = project.record(spot.before + 1)
-    takes, middle = (project.take(spot.before), project.take(spot.after)), int(seam.middles[channel])
+    takes = project.take(spot.before), project.take(spot.after)
     stop, start = project.cues[spot.before]["stop"], project.cues[spot.after]["start"]
-    side, first, length = seam.links[channel]
-    low, high = middle - length // 2, middle + length - length // 2
+    side, first, length, place = seam.links[channel]
+    low, high = place - length // 2, place + length - length // 2
     if low < 0 or high > seam.length:
         return False
     parts = [takes[0].signs(stop, stop + low), takes[side].signs(first, first + length)]

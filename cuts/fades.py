@@ -13,14 +13,15 @@ LONGEST = 0.04  # seconds
 
 @dataclass(frozen=True)
 class Asked:
-    """What is asked for: the name of the take of seams; how long the new bits are and how far what follows may move, in
-    seconds."""
+    """What is asked for: the name of the take of seams; how long the new bits are, how far what follows may move, and
+    within what time a butt changes the sound, in seconds."""
 
     take: str = ""
     time: float = 10e-3
     shift: float = 0.0
     power: bool = False
     is_butt: bool = False
+    ramp: float = fading.BUTT
 
 
 def wish_of(project: Project, cut: int, asked: Asked, time: float) -> fading.Wish:
@@ -28,7 +29,7 @@ def wish_of(project: Project, cut: int, asked: Asked, time: float) -> fading.Wis
     cue, following = project.cues[cut], project.cues[cut + 1]
     length = round(time * project.rate) // 2 * 2 + 1
     most = round(asked.shift * project.rate)
-    wish = fading.Wish(cue["stop"], following["start"], length, most, asked.power, asked.is_butt)
+    wish = fading.Wish(cue["stop"], following["start"], length, most, asked.power, asked.is_butt, asked.ramp)
     stop, start = wish.ends
     if stop < cue["start"] + project.least(cut) or start + most > following["stop"] - project.least(cut + 1):
         raise Refused("a cue is too short for the fade")

@@ -20,7 +20,7 @@ from crossfades import Crossfade, Sounds, even_middle, wrapped
 from hearing import hearing_of
 from material import modulators
 from meeting import Field
-from owing import GUESSED, sounds
+from owing import sounds
 from spectra import let_in
 from takes import Signals
 
@@ -32,8 +32,9 @@ DOWN = 240  # dB: what a low-pass leaves of the sound in the errors adds to thei
 
 # How much of a fade the ramp takes, and how far its middle may move from the wished place: what is tried in turn.
 RAMPS = ((0.8, 0.1), (0.4, 0.3))
-BUTT = 10e-6  # seconds in which the sound of a butt changes
+BUTT = 10e-6  # seconds in which the sound of a butt changes, unless it is asked for others
 MOVES = (0.1, 0.4)  # how far its middle may move
+MOST = 0.2  # of a butt that its ramp may take
 
 
 class NotStable(Exception):
@@ -44,7 +45,7 @@ class NotStable(Exception):
 class Wish:
     """A cut in the middle of a fade: the places in both takes, an odd number of bits, and how many bits the second may
     be moved. With `power` the sum of both takes' powers stays, else that of their levels; a butt changes the sound at
-    the cut."""
+    the cut, within `ramp` seconds."""
 
     stop: int
     start: int
@@ -52,6 +53,7 @@ class Wish:
     most: int = 0
     power: bool = False
     is_butt: bool = False
+    ramp: float = BUTT
 
     @property
     def early(self) -> int:
@@ -66,7 +68,7 @@ class Wish:
     def ramps(self, rate: int) -> list[tuple[float, int]]:
         """How long the ramps are that are tried, and how far the middle of each may move."""
         if self.is_butt:
-            return [(BUTT * rate, int(self.length * it)) for it in MOVES]
+            return [(self.ramp * rate, int(self.length * it)) for it in MOVES]
         return [(self.length * ramp, int(self.length * it)) for ramp, it in RAMPS]
 
 
@@ -88,7 +90,7 @@ def moments(errors: np.ndarray, first: int) -> np.ndarray:
 
 
 def sound_of(take: Signals, first: int, stop: int) -> np.ndarray:
-    return sounds(take, first, stop, GUESSED, DOWN)
+    return sounds(take, first, stop, down=DOWN)
 
 
 class Surroundings:

@@ -7,10 +7,11 @@ import numpy as np
 import bridges
 import links
 import pairs
+from bands import wider
 from clicks import delay
 from hearing import Hearing
 from links import Link
-from owing import OTHER, Errors, Owing
+from owing import Errors, Owing
 from takes import Signals
 
 NEAR = 4096  # pairs that owe most nearly the same
@@ -22,13 +23,15 @@ GAIN = 1.0  # dB that a link gains at least, or there is none
 class Place:
     """A cut from bit `stop` - 1 of one take to bit `start` of the other, perhaps with a link between, and what each
     channel clicks: peak and A-weighted energy in dB. With a link, `other` is the loudest peak by another estimate of
-    the takes' sounds."""
+    the takes' sounds, and the sound changes `moved` bits after the middle of the link, by `step`."""
 
     stop: int
     start: int
     clicks: list[tuple[float, float]]
     link: Link | None = None
     other: float = -np.inf
+    moved: float = 0.0
+    step: float = 0.0
 
     @property
     def loudest(self) -> float:
@@ -64,7 +67,8 @@ class Cut:
         self.after = Errors(after, window.start - reach, window.start + window.starts + reach)
         self.other = copy.copy(self)  # the same by another estimate of the takes' sounds
         self.other.before, self.other.after = (
-            Errors(take, it.first, it.stop, OTHER) for take, it in zip(takes, (self.before, self.after))
+            Errors(take, it.first, it.stop, [wider(band) for band in take.bands])
+            for take, it in zip(takes, (self.before, self.after))
         )
         self.bits = [before.bits, after.bits]
         self.owed = (
@@ -90,6 +94,12 @@ class Cut:
         half = self.hearing.size // 2
         rows = zip(self.before.part(stop - half, stop), self.after.part(start, start + half))
         return Place(stop, start, [self.hearing.levels(np.concatenate(it)) for it in rows])
+
+    def sounds(self) -> list[np.ndarray]:
+        """What the first channel sounds like at the places of both takes."""
+        window = self.window
+        spans = (self.before, window.stop, window.stops), (self.after, window.start, window.starts)
+        return [errors.sound(0, first, first + number) for errors, first, number in spans]
 
     def left(self, found: np.ndarray) -> np.ndarray:
         """What is owed at pairs of places and not made up for: numbers, for each channel a row for each pair."""
@@ -123,30 +133,45 @@ class Cut:
         places = found + (window.stop, window.start)
         return [self.judged(*places[it[0]].tolist(), Link(*it[1:])) for it in best.rows.tolist()]
 
-    def links_at(self, found: np.ndarray, shortest: int) -> links.Found:
-        """The best links of at least so many bits at each of these pairs of places."""
+    def apart(self, places: np.ndarray, most: int) -> np.ndarray:
+        """How far the second take's sound is from the first's around pairs of places in the window: for each a row of
+        so many bits before and behind it."""
+        around = np.arange(-most, most)
+        before, after = self.before, self.after
+        at = (places + (self.window.stop - before.first, self.window.start - after.first))[:, :, None] + around
+        first, second = (it.signs[0] - it.values[0] for it in (before, after))
+        return second[at[:, 1]] - first[at[:, 0]]
+
+    def links_at(self, found: np.ndarray, shortest: int, more: np.ndarray | float = 0.0) -> links.Found:
+        """The best links of at least so many bits at each of these pairs of places, where `more` is left."""
         window, takes = self.window, [self.before, self.after]
         middles = [window.stop + window.stops // 2, window.start + window.starts // 2]
         spans = links.spans_of(takes, self.bits, middles)
-        return links.best(self.owing, takes, spans, found + (window.stop, window.start), self.left(found), shortest)
+        left = self.left(found) + more
+        return links.best(self.owing, takes, spans, found + (window.stop, window.start), left, shortest)
 
-    def judged(self, middle: int, start: int, link: Link) -> Place:
+    def judged(self, middle: int, start: int, link: Link, moved: float = 0.0) -> Place:
         """The exact click of a cut with a link in its place, and that by another estimate."""
-        other = self.other.with_link(middle, start, link).loudest
-        return replace(self.with_link(middle, start, link), other=other)
+        other = self.other.with_link(middle, start, link, moved).loudest
+        return replace(self.with_link(middle, start, link, moved), other=other)
 
-    def with_link(self, middle: int, start: int, link: Link) -> Place:
-        """The exact click of a cut with a link in its place."""
+    def with_link(self, middle: int, start: int, link: Link, moved: float) -> Place:
+        """The exact click of a cut with a link in its place, whose sound changes so many bits after its middle."""
         stop, start = middle - link.ahead, start + link.length - link.ahead
         takes, clicks = (self.before, self.after), []
+        more = int(np.ceil(abs(moved)))
+        inside = slice(self.hearing.size // 2 - more, self.hearing.size // 2 + more)
+        places = np.array([[middle - self.window.stop, start - link.length + link.ahead - self.window.start]])
         for channel in range(len(self.before.values)):
             signs = row(takes[link.take], channel, link.first, link.first + link.length)
             front = self.before.sound(channel, stop, middle)
             rear = self.after.sound(channel, start - link.length + link.ahead, start)
             inner = signs - np.concatenate([front, rear])
             error = self.around(channel, (stop, start), inner, link.length)
+            if more:
+                error[inside] += (changed(np.array([moved]), more) * self.apart(places, more))[0]
             clicks.append(self.hearing.levels(error, link.ahead))
-        return Place(stop, start, clicks, link)
+        return Place(stop, start, clicks, link, moved=moved)
 
     def bridged(self, places: list[tuple[int, int]], weights: list[int], length: int) -> list[Place]:
         """The same cuts with least bridges: at each pair the middle of the bridge is where it would be cut plain."""
@@ -184,6 +209,13 @@ class Cut:
 
 def row(errors: Errors, channel: int, first: int, stop: int) -> np.ndarray:
     return errors.signs[channel, first - errors.first : stop - errors.first]
+
+
+def changed(moved: np.ndarray, most: int) -> np.ndarray:
+    """How much of the second take a sound has less that changes so many bits later than between two bits: a row of so
+    many bits before and behind that place."""
+    at = np.arange(-most, most)
+    return (at >= 0) - np.clip(at + 1 - moved[:, None], 0, 1)
 
 
 def quietest(places: list[Place]) -> Place:

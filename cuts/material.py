@@ -11,12 +11,14 @@ FOLDER = Path(__file__).resolve().parent
 sys.path.insert(0, str(FOLDER.parent / "modulator"))
 import modulators  # noqa: E402
 import takes  # noqa: E402
+from hearing import lowpass  # noqa: E402
 
 NOTES = [130.8, 164.8, 196.0, 220.0, 261.6, 329.6, 392.0, 523.3, 659.3, 880.0]
 SLOW = 88_200  # music is made at about this rate, and brought to the takes'
 LEAD = 0.05  # seconds that a modulator runs before a take begins
 
 KINDS = ("tone", "piece", "music")
+NARROW = (20_000, 22_000)  # Hz: where the sound of the kind "narrow" ends, which is else as "music"
 TWICE = ("tone", "piece")  # of these both takes are at the same place of the same sound
 
 
@@ -60,8 +62,16 @@ def music(rate: int, number: int, random: np.random.Generator) -> np.ndarray:
     return 0.4 * fast / np.abs(fast).max()
 
 
+def narrowed(rate: int, row: np.ndarray) -> np.ndarray:
+    """A signal without what lies above the audio band."""
+    taps = lowpass(rate, *NARROW)
+    return signal.oaconvolve(np.pad(row, len(taps) // 2, mode="edge"), taps, mode="valid")
+
+
 def signals(kind: str, rate: int, number: int, seed: int) -> list[np.ndarray]:
     """The two true signals of one channel. Each has noise and an offset of its own: no two takes have one sum."""
+    if kind == "narrow":
+        return [narrowed(rate, it) for it in signals("music", rate, number, seed)]
     both = np.random.default_rng([seed, 0])
     each = [np.random.default_rng([seed, it]) for it in (1, 2)]
     if kind == "music":

@@ -15,11 +15,10 @@ import numpy as np
 from scipy import signal
 
 import spectra
+from bands import Band
 from hearing import DOWN, Hearing, lowpass
 from takes import Signals
 
-GUESSED = (26_000, 34_000)  # Hz: a take's sound is what passes a low-pass that ends here (cuts/README.md says why)
-OTHER = (30_000, 38_000)  # Hz: another estimate of it, by which a link has to be quiet too
 LINES = 17
 HIGHEST = 22_400  # Hz: the last line
 NUMBERS = 8
@@ -27,20 +26,29 @@ AROUND = 1024  # bits at 2,822,400 Hz to each side of a place, in which a click 
 STEP = 16  # such bits between the times at which it is
 
 
-def sounds(take: Signals, first: int, stop: int, guessed: tuple[int, int] = GUESSED, down: int = DOWN) -> np.ndarray:
-    """What of a take passes a low-pass, a row for each channel."""
-    taps = lowpass(take.rate, *guessed, down)
-    half = len(taps) // 2
-    return np.stack([signal.oaconvolve(it, taps, mode="valid") for it in take.signs(first - half, stop + half)])
+def sounds(take: Signals, first: int, stop: int, bands: list[Band] | None = None, down: int = DOWN) -> np.ndarray:
+    """What of a take passes low-passes, a row for each channel: those of its own bands, or others."""
+    taps = [lowpass(take.rate, *it, down) for it in bands or take.bands]
+    reach = max(map(len, taps)) // 2
+    rows, found = take.signs(first - reach, stop + reach), []
+    for row, one in zip(rows, taps):
+        more = reach - len(one) // 2
+        found.append(signal.oaconvolve(row[more : len(row) - more], one, mode="valid"))
+    return np.stack(found)
+
+
+def known(take: Signals) -> int:
+    """How many bits to each side tell what the sound of a take is."""
+    return max(len(lowpass(take.rate, *it)) for it in take.bands) // 2
 
 
 class Errors:
     """The signs of a take at the places from `first` on, and its errors (`values`): a row for each channel."""
 
-    def __init__(self, take: Signals, first: int, stop: int, guessed: tuple[int, int] = GUESSED):
+    def __init__(self, take: Signals, first: int, stop: int, bands: list[Band] | None = None):
         self.first, self.stop = first, stop
         self.signs = take.signs(first, stop)
-        self.values = self.signs - sounds(take, first, stop, guessed)
+        self.values = self.signs - sounds(take, first, stop, bands)
 
     def channel(self, number: int) -> "Errors":
         """Those of one channel."""

@@ -5,11 +5,10 @@ import numpy as np
 
 import bridges
 import joins
-import links
 import transitions
-from hearing import hearing_of, lowpass
+from hearing import hearing_of
 from outputs import Refused
-from owing import GUESSED, Owing
+from owing import Owing, known
 from projects import MOST_CUES, Project
 from seams import Seam
 
@@ -31,9 +30,9 @@ class Asked:
 
 
 def makes_transition(project: Project, number: int, asked: Asked) -> bool:
-    """Whether a cut is to be a transition: one channel needs none, and a bridge that stays has one place."""
+    """Whether a cut is to be a transition: a bridge that stays has one place."""
     has_bridge = project.spots()[number].role in (("line",) if asked.plain else ("bridge", "line"))
-    return project.count > 1 and asked.linking and not asked.together and not has_bridge
+    return asked.linking and not asked.together and not has_bridge
 
 
 @dataclass(frozen=True)
@@ -82,8 +81,8 @@ def window_of(project: Project, cut: int, asked: Asked, margin: int = 0) -> join
     pairs of places."""
     within, most = round(asked.within * project.rate), round(asked.shift * project.rate)
     room = room_of(project, cut, within, margin)
-    known = len(lowpass(project.rate, *GUESSED)) // 2
-    safe = room.inside(project.take(cut).bits - known, known)
+    before, after = project.take(cut), project.take(cut + 1)
+    safe = room.inside(before.bits - known(before), known(after))
     return safe.window(most) or room.window(most)
 
 
@@ -113,17 +112,20 @@ def place_together(project: Project, cut: int, asked: Asked) -> None:
 
 def place_apart(project: Project, cut: int, asked: Asked) -> bool:
     """Makes a transition of a cut, and returns whether there was room for it."""
-    window = window_of(project, cut, asked, links.MARGIN)
+    margin = transitions.margin(project.rate)
+    window = window_of(project, cut, asked, margin)
     found = transitions.best(meeting(project, cut, window)) if window else None
     if found is None:
         return False
     stop, start, offset = project.cues[cut]["stop"], project.cues[cut + 1]["start"], found.offset
-    low, high = min(found.ends[0], stop), max(found.ends[1], start - offset)  # the wished place lies inside
+    first, last = found.ends(margin)
+    low, high = min(first, stop), max(last, start - offset)  # the wished place lies inside
     seams = project.seams_as(asked.take)
-    middles = [it.stop + it.link.ahead - low for it in found.places]
-    rows = [[it.link.take, it.link.first, it.link.length] for it in found.places]
+    places = [it.stop + it.link.ahead - low for it in found.places]
+    middles = [place + it.moved for place, it in zip(places, found.places)]
+    rows = [[it.link.take, it.link.first, it.link.length, place] for place, it in zip(places, found.places)]
     wished = stop - low, high + offset - start
-    seam = Seam(seams.take.bits, high - low, "transition", *wished, 0, False, middles, rows)
+    seam = Seam(seams.take.bits, high - low, "transition", *wished, 1, False, middles, rows)
     signs = np.stack([signs_of(project, cut, (low, high), it, channel) for channel, it in enumerate(found.places)])
     project.move(cut, low, high + offset)
     project.insert_seam(cut, seam, signs)

@@ -6,8 +6,8 @@ import numpy as np
 
 import bridges
 import clicks
-from hearing import Hearing, decibels, hearing_of, lowpass
-from owing import GUESSED
+from hearing import Hearing, decibels, hearing_of
+from owing import known
 from projects import Project, Spot
 from takes import Signals
 
@@ -125,13 +125,13 @@ def warn(project: Project, number: int) -> None:
     """Prints a warning if it can't be known how loudly a cut clicks: near the end of a take, whose sound is estimated
     from both sides, and near a line."""
     spots = project.spots()
-    spot, known = spots[number], len(lowpass(project.rate, *GUESSED)) // 2
+    spot = spots[number]
     first, last = ends(project, spot)
     after = project.take(spot.before).bits - project.cues[spot.before]["stop"] - last
     before = project.cues[spot.after]["start"] - spot.length + first
     name = f"{sys.argv[0].rpartition('/')[2]}: cut {number}"
     for take, bits, end in ((spot.before, after, "end"), (spot.after, before, "start")):
-        if bits < known:
+        if bits < known(project.take(take)):
             where = f"the {end} of take {project.cues[take]['take']}, where its sound isn't known"
             print(f"{name}: it lies {max(bits, 0)} bits from {where}: it may click louder", file=sys.stderr)
     reach = 2 * hearing_of(project.rate).half  # a cut is measured to half of it, and there the rest is heard

@@ -10,6 +10,7 @@ from pathlib import Path
 import numpy as np
 import tomlkit
 
+import bands
 from seams import Seam, Seams, seams_of
 from takes import Held, Signals, Take, Unread
 from outputs import Refused
@@ -101,6 +102,9 @@ class Project:
         self.names = list(splice["takes"])
         self.takes: list[Signals] = [*opened(self.source)]
         self.records = [seams_of(it) for it in self.takes]
+        for take, record in zip(self.takes, self.records):
+            if record:
+                take.bands = [bands.USUAL] * take.count
         self.seams: Seams | None = None
         self.rate, self.count = self.takes[0].rate, self.takes[0].count
         self.slot = self.seam_slot()

@@ -25,8 +25,8 @@ KINDS = ("fade", "butt", "transition")
 class Seam:
     """The bits of the take of seams from `first` on. The wished place of the cut is `before` bits after the end of the
     cue before, and `after` bits before the start of the cue after. `middles` are counted from the first bit. A
-    transition has a link around the middle of each channel: of the take before or after (0 or 1), its first bit there
-    and its length."""
+    transition has a link near the middle of each channel: of the take before or after (0 or 1), its first bit there,
+    its length, and its own middle as a place in the seam."""
 
     first: int
     length: int
@@ -86,7 +86,13 @@ def is_seam(row: object, count: int) -> bool:
 
 
 def is_link(values: object) -> bool:
-    return are_numbers(values, (int,)) and len(values) == 3 and values[0] in (0, 1) and min(values) >= 0
+    return are_numbers(values, (int,)) and len(values) in (3, 4) and values[0] in (0, 1) and min(values) >= 0
+
+
+def seam_of(row: dict) -> Seam:
+    """The seam that a row says. A link without a middle of its own has that of its channel."""
+    links = [[*it, *([int(middle)] if len(it) == 3 else [])] for it, middle in zip(row["links"], row["middles"])]
+    return Seam(**{**row, "links": links})
 
 
 def seams_of(take: Signals) -> dict[tuple[int, int], Seam]:
@@ -98,7 +104,7 @@ def seams_of(take: Signals) -> dict[tuple[int, int], Seam]:
                 rows = tomllib.loads(comment.decode()).get("seam", [])
             except (ValueError, RecursionError):
                 continue
-            found += [Seam(**it) for it in rows if is_seam(it, take.count)] if isinstance(rows, list) else []
+            found += [seam_of(it) for it in rows if is_seam(it, take.count)] if isinstance(rows, list) else []
     return {it.ends: it for it in reversed(found)}
 
 

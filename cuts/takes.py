@@ -4,9 +4,12 @@ import os
 import stat
 import struct
 import sys
+from functools import cached_property
 from pathlib import Path
 
 import numpy as np
+
+import bands
 
 sys.path.insert(0, str(Path(__file__).resolve().parent.parent / "scripts/common"))
 import channels  # noqa: E402
@@ -39,6 +42,11 @@ class Signals:
     rate: int
     count: int
     bits: int
+
+    @cached_property
+    def bands(self) -> list[bands.Band]:
+        """Up to where its sound goes in each channel."""
+        return bands.bands_of(self)
 
     def stored(self, first: int, stop: int) -> np.ndarray:
         """The bits of all channels from `first` to `stop` - 1, which lie inside: 0 and 1, a row for each channel."""
@@ -93,6 +101,7 @@ class Held(Signals):
 
     def __init__(self, name: str, rate: int, rows: np.ndarray):
         self.name, self.rate, self.rows = name, rate, rows
+        self.bands = [bands.USUAL] * len(rows)  # as of the file, which is known by what it says of seams
 
     @property
     def count(self) -> int:

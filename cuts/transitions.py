@@ -1,20 +1,27 @@
 """A cut whose channels change from take to take each at a place of its own, with a link of its own.
 
 What follows has to come early or late by the same number of bits in all channels. But the places need not be the same,
-so the two even numbers (`links`) have to fit in one channel at a time. For each shift of the second take, and in each
-channel, the places are found that fit best, and the links that leave least there. The shift is taken whose loudest
-channel clicks least."""
-from dataclasses import dataclass
+so the two even numbers (`links`) have to fit in one channel at a time. Where both takes differ, the sum always fits:
+the sound changes some bits earlier or later than in the middle of the link, and each bit adds that difference. For each
+shift of the second take, and in each channel, the places are found that fit best, and the links that leave least there.
+The shift is taken whose loudest channel clicks least; of those that are nearly as quiet, the one with the least step of
+the sound."""
+from dataclasses import dataclass, replace
 
 import numpy as np
 
 import links
 from crossfades import wrapped
-from joins import Cut, Place
+from joins import Cut, Place, changed
 from links import Link
 
 KEPT = 2  # places of each channel for each shift, for which links are looked for; more where there are few shifts
-JUDGED = 16  # shifts whose clicks are computed exactly
+ROUGH = 4  # times as many, of which they are the best when it is computed exactly where the sound changes
+JUDGED = 16  # shifts whose clicks are computed exactly; more where there are few channels
+CLICKS = 64  # that are, of all channels
+MOVED = 5e-6  # seconds by which the sound may change before or after the middle of a link
+ALIKE = 2.0  # dB: of transitions that click at most so much louder than the quietest, the one with the least step
+NEARER = 1e-9  # of a sum: of places that are as good, the one that is nearer to the middle
 
 
 @dataclass(frozen=True)
@@ -28,10 +35,15 @@ class Transition:
         return max(max(it.loudest, it.other) for it in self.places)
 
     @property
-    def ends(self) -> tuple[int, int]:
-        """The first bit of the first take that it replaces, and the place after the last: links lie inside."""
+    def step(self) -> float:
+        """The greatest step of the sound in any channel."""
+        return max(it.step for it in self.places)
+
+    def ends(self, margin: int) -> tuple[int, int]:
+        """The first bit of the first take that it replaces, and the place after the last: so many bits from the links'
+        middles."""
         middles = [it.stop + it.link.ahead for it in self.places]
-        return min(middles) - links.MARGIN, max(middles) + links.MARGIN
+        return min(middles) - margin, max(middles) + margin
 
     @property
     def offset(self) -> int:
@@ -42,44 +54,98 @@ class Transition:
 @dataclass(frozen=True)
 class Best:
     """The best link of a channel for each shift: how loud it is, as far as the numbers say, and a row of both places
-    in the window, the link's take, its first bit and its length."""
+    in the window, the link's take, its first bit and its length; and how far from its middle the sound changes."""
 
     peaks: np.ndarray
     rows: np.ndarray
+    moved: np.ndarray
 
 
 def shifts_of(cut: Cut) -> range:
     return range(cut.window.wished - cut.window.most, cut.window.wished + cut.window.most + 1)
 
 
+def farthest(cut: Cut) -> int:
+    """How many bits from the middle of a link the sound may change."""
+    return int(MOVED * cut.hearing.rate)
+
+
+def margin(rate: int) -> int:
+    """How many bits from the middle of a link a transition begins or ends, so that the sound changes inside too."""
+    return max(links.MARGIN, int(MOVED * rate) + 1)
+
+
+def kept_of(cut: Cut) -> int:
+    """For how many places links are looked for, for each shift."""
+    return max(KEPT, links.PAIRS // len(shifts_of(cut)))
+
+
 def fitting(cut: Cut) -> np.ndarray:
-    """The pairs of places of one channel that fit best, for each shift, with the number of that."""
+    """The pairs of places of one channel that fit best, for each shift, with the number of that. The sum of what is
+    left is made up for as far as the sound may change earlier or later."""
     (before,), (after,) = (owed @ cut.owing.moments for owed in cut.owed)
+    sounds, most = cut.sounds(), farthest(cut)
     weights, found = links.parity_weights(cut.owing), []
-    kept = max(KEPT, links.PAIRS // len(shifts_of(cut)))
+    kept = ROUGH * kept_of(cut)
     for number, shift in enumerate(shifts_of(cut)):
         low, high = max(0, -shift), min(cut.window.stops, cut.window.starts - shift)
         if low >= high:
             continue
-        distance = weights @ (wrapped(before[low:high] - after[low + shift : high + shift]) ** 2).T
+        sums, moments = wrapped(before[low:high] - after[low + shift : high + shift]).T
+        apart = sounds[1][low + shift : high + shift] - sounds[0][low:high]
+        with np.errstate(divide="ignore", invalid="ignore"):
+            moved = np.nan_to_num(np.clip(-sums / apart, -most, most))
+        left = sums + moved * apart, wrapped(moments + moved**2 / 2 * apart)
+        distance = weights @ np.square(left)
         best = np.argpartition(distance, kept)[:kept] if high - low > kept else np.arange(high - low)
         first = low + np.sort(best)
         found.append(np.stack([first, first + shift, np.full(len(first), number)], axis=1))
     return np.concatenate(found) if found else np.empty((0, 3), np.int64)
 
 
+def even(cut: Cut, places: np.ndarray) -> tuple[np.ndarray, np.ndarray]:
+    """For pairs of places in one channel how many bits later the sound changes, so that the sum of what is left there
+    is nearest to an even number; and the numbers that this adds to what is left."""
+    most = farthest(cut)
+    apart = cut.apart(places, most)
+    sums = np.cumsum(np.pad(apart, ((0, 0), (1, 0))), axis=1)
+    sums += wrapped(cut.left(places)[0] @ cut.owing.moments[:, 0])[:, None] - sums[:, most : most + 1]
+    low, high = sums[:, :-1], sums[:, 1:]
+    with np.errstate(divide="ignore", invalid="ignore"):
+        crossed = np.where(low * high <= 0, np.arange(-most, most) + low / (low - high), np.nan)
+    away = np.where(np.isfinite(crossed), np.abs(crossed), np.inf)
+    best, every = away.argmin(axis=1), np.arange(len(places))
+    is_even = np.isfinite(away[every, best])
+    nearest = np.abs(sums) + NEARER * np.abs(np.arange(-most, most + 1))
+    moved = np.where(is_even, crossed[every, best], nearest.argmin(axis=1) - most)
+    return moved, (changed(moved, most) * apart) @ cut.owing.bits(2 * most)
+
+
+def fitting_best(cut: Cut, found: np.ndarray, more: np.ndarray) -> np.ndarray:
+    """Of pairs of places, with these numbers added to what is left there, the numbers of those that fit best for each
+    shift."""
+    left = wrapped((cut.left(found[:, :2])[0] + more) @ cut.owing.moments)
+    order = np.lexsort((left**2 @ links.parity_weights(cut.owing), found[:, 2]))
+    shift = found[order, 2]
+    return order[np.arange(len(order)) - np.searchsorted(shift, shift) < kept_of(cut)]
+
+
 def best_of(cut: Cut) -> Best:
     """The best link of one channel for each shift."""
     found = fitting(cut)
     number = len(shifts_of(cut))
-    made = Best(np.full(number, np.inf), np.zeros((number, 5), np.int64))
-    at = cut.links_at(found[:, :2], 0)
+    made = Best(np.full(number, np.inf), np.zeros((number, 5), np.int64), np.zeros(number))
+    moved, more = even(cut, found[:, :2])
+    chosen = fitting_best(cut, found, more)
+    found, moved, more = found[chosen], moved[chosen], more[chosen]
+    at = cut.links_at(found[:, :2], 0, more)
     shift = found[at.rows[:, 0], 2]
     order = np.lexsort((*at.rows.T[::-1], at.peaks, shift))
     _, first = np.unique(shift[order], return_index=True)
     chosen = order[first]
     made.peaks[shift[chosen]] = at.peaks[chosen]
     made.rows[shift[chosen]] = np.column_stack([found[at.rows[chosen, 0], :2], at.rows[chosen, 1:]])
+    made.moved[shift[chosen]] = moved[at.rows[chosen, 0]]
     return made
 
 
@@ -89,13 +155,16 @@ def best(cut: Cut) -> Transition | None:
     found = [best_of(it) for it in channels]
     peaks = np.max([it.peaks for it in found], axis=0)
     tried = []
-    for number in np.argsort(peaks, kind="stable")[:JUDGED]:
+    for number in np.argsort(peaks, kind="stable")[: max(JUDGED, CLICKS // cut.count)]:
         if np.isfinite(peaks[number]):
-            rows = [it.rows[number].tolist() for it in found]
-            tried.append(Transition([linked(one, row) for one, row in zip(channels, rows)]))
-    return min(tried, key=lambda it: (round(it.loudest, 6), it.ends), default=None)
+            rows = [(it.rows[number].tolist(), float(it.moved[number])) for it in found]
+            tried.append(Transition([linked(one, *row) for one, row in zip(channels, rows)]))
+    least = min((it.loudest for it in tried), default=0.0)
+    alike = [it for it in tried if it.loudest <= least + ALIKE]
+    return min(alike, key=lambda it: (round(it.step, 9), it.ends(0)), default=None)
 
 
-def linked(cut: Cut, row: list[int]) -> Place:
-    """The exact click of a channel."""
-    return cut.judged(cut.window.stop + row[0], cut.window.start + row[1], Link(*row[2:]))
+def linked(cut: Cut, row: list[int], moved: float) -> Place:
+    """The exact click of a channel, and the step of its sound."""
+    found = cut.judged(cut.window.stop + row[0], cut.window.start + row[1], Link(*row[2:]), moved)
+    return replace(found, step=float(np.abs(cut.apart(np.array([row[:2]]), 1)).max()))

@@ -18,7 +18,7 @@ from takes import Signals, Take
 SECONDS = 0.4
 CUTS = 8  # in a master
 EDGE = 0.02  # seconds at both ends of a take in which nothing is cut
-REFERENCES = ("to 20 kHz", "to 26 kHz", "true")
+REFERENCES = ("to 20 kHz", "estimated", "true")
 
 
 @dataclass(frozen=True)
@@ -74,7 +74,7 @@ def measured(project: Project, master: Signals, made: list[material.Made], predi
     trues = [it.true for it in made]
     named = {
         "to 20 kHz": clicks.decoded(project, (PASSED, STOPPED)),
-        "to 26 kHz": clicks.decoded(project),
+        "estimated": clicks.decoded(project),
         "true": clicks.known(trues),
     }
     found = []

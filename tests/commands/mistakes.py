@@ -469,6 +469,13 @@ def refusals():
     why = "in (IN) has 2,822,400 Hz, which the factor 1024 of p.toml does not divide: "
     why += "filters/pick prints the filter that fits a file"
     yield {"in": FILE, "p.toml": UNDIVIDED}, "play p.toml in out", 2, "RateNotDivided", why, {"out": b""}
+    files = {"in": mono(bytes(4)), "p.toml": DECIMATE}
+    why = "in (IN): dsdarc info prints the marks of a DSDIFF file, from mark 0 on; a DSF file has none"
+    yield files, "play --from #0 p.toml in out", 2, "NoMark", why, None
+    why = "in (IN) plays 4 frames of 352,800 Hz, and the part is not within them"
+    yield files, "play --to @5 p.toml in out", 2, "PartOutside", why, None
+    why = "what --to names is before what --from names"
+    yield files, "play --from @3 --to @2 p.toml in out", 2, "PartReversed", why, None
     why = "none/c (CERT): No such file or directory; there is no folder none"
     yield to_cut(TEXT), "edit dsdiff e.toml m.dff none/c", 2, "WriteFailed", why, {"m.dff": MASTER}
     for words, why in WORDS:

@@ -56,6 +56,7 @@ fn ended_of(shown: &Shown, failure: Option<Failure>, has_words: bool) -> Option<
         (Outcome::WriteFailed, None) => Some(Ended::WriteFailed(failure)),
         (Outcome::ReadFailed, _) => Some(Ended::ReadFailed),
         (Outcome::Fault(fault), _) => Some(Ended::Fault(*fault)),
+        (Outcome::NoPart(fault), _) => Some(Ended::NoPart(*fault)),
         (Outcome::Rejected(reason), _) => Some(Ended::Rejected(*reason)),
         (Outcome::WrongWords, _) if has_words => Some(Ended::WrongWords),
         (Outcome::WrongWords, _) => Some(Ended::NoText),

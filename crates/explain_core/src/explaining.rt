@@ -21,7 +21,7 @@ use std::alloc::{AllocError, Global};
 use std::fmt::Write;
 use std::io::Error;
 use std::rt::{Env, Files};
-use transfer_core::Fault;
+use transfer_core::{Fault, SpanFault};
 use words_core::{Task, task_of};
 
 // How a line ends that names a file and has nothing to say of it.
@@ -32,6 +32,8 @@ const NAMED: &str = ": ";
 pub enum Ended {
     /// The call was refused.
     Fault(Fault),
+    /// The part that is to be played isn't there.
+    NoPart(SpanFault),
     /// A file could not be opened or read.
     ReadFailed,
     /// A file could not be created or written; this is what failed last, if anything is known.
@@ -95,6 +97,9 @@ fn tell_task<R: Files + Env + AllocGlobal>(
 ) -> Result<(), AllocError> {
     match (ended, task) {
         (Ended::Fault(fault), _) => tell_fault(text, rt, task, fault),
+        (Ended::NoPart(fault), Task::PlayPart { project, input, .. }) => {
+            playing::tell_span(text, rt, rt.alloc(), Played { project, input }, fault)
+        }
         (Ended::ReadFailed, _) => tell_unread(text, rt, task),
         (Ended::WriteFailed(Some(failure)), _) => tell_unwritten(text, rt, task, failure),
         (

@@ -10,6 +10,7 @@ use std::alloc::{AllocError, Global};
 use std::fmt::Write;
 use std::fs;
 use std::rt::Files;
+use transfer_core::SpanFault;
 
 // What the names of ready filters say before `-to-`, for each rate that they are made for.
 const FRONTS: [(u64, &str); 6] = [
@@ -155,6 +156,49 @@ pub(crate) fn tell_large<R: Files>(
         Amount(MOST_WAVE)
     )?;
     text.push_str("choose a filter for a lower rate or 16 bits, or play it in parts")
+}
+
+/// Adds how many frames a recording has of which a part isn't there, or where its marks are counted.
+pub(crate) fn tell_span<R: Files>(
+    text: &mut String,
+    rt: &R,
+    alloc: Global,
+    played: Played,
+    fault: SpanFault,
+) -> Result<(), AllocError> {
+    match fault {
+        SpanFault::NoMark => write!(
+            text,
+            "{}: dsdarc info prints the marks of a DSDIFF file, from mark 0 on; a DSF file has none",
+            Named(played.input, "IN")
+        ),
+        SpanFault::PartReversed => text.push_str("what --to names is before what --from names"),
+        SpanFault::PartOutside => tell_frames(text, rt, alloc, played),
+    }
+}
+
+fn tell_frames<R: Files>(
+    text: &mut String,
+    rt: &R,
+    alloc: Global,
+    played: Played,
+) -> Result<(), AllocError> {
+    let (Some(shape), Some(filter)) = (
+        shape_of(rt, played.input),
+        decimation_of(rt, alloc, played.project),
+    ) else {
+        return Ok(());
+    };
+    let frames = shape.bits.div_ceil(filter.factor.max(1));
+    let rate = shape.rate.checked_div(filter.factor).unwrap_or(0);
+    write!(
+        text,
+        "{} plays {} frames of {} Hz, ",
+        Named(played.input, "IN"),
+        Grouped(frames),
+        Grouped(rate)
+    )?;
+    text.push_str("and the part is not within them")
 }
 
 /// Adds that a part is too large for a WAVE file.

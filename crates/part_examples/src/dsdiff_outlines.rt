@@ -3,7 +3,7 @@
 use crate::dsdiff_fronts::{MONO, VERSION, front_of};
 use crate::dsdiff_writing::WITH_PARTS;
 use dsd_bits::{Other, Recording, SoundAt};
-use dsdiff_core::{outline, sound_at, write_head, write_tail};
+use dsdiff_core::{DsdiffFault, outline, sound_at, write_head, write_tail};
 use fixtures::compared::equal;
 use std::alloc::{AllocError, Global};
 use std::test::Fail;
@@ -12,7 +12,11 @@ use std::test::Fail;
 // answer is `AllocError`.
 fn outlined(alloc: Global, front: &[u8], back: &[u8]) -> Result<Option<Recording>, AllocError> {
     match sound_at(alloc, front)? {
-        SoundAt::Found(sound) if sound.start == front.len() => outline(alloc, front, back),
+        SoundAt::Found(sound) if sound.start == front.len() => match outline(alloc, front, back) {
+            Ok(recording) => Ok(Some(recording)),
+            Err(DsdiffFault::Memory) => Err(AllocError),
+            Err(_) => Ok(None),
+        },
         _ => Err(AllocError),
     }
 }

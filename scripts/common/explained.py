@@ -17,4 +17,4 @@ def unnamed(line, key):
     """A line that explains, without the names that the files have in the run."""
     if key:
         line = line.replace(f"{key}.filter", "the filter")
-    return re.sub(r"^\S+ \((\w+)\)", r"\1", line).removeprefix("FILE: ").removeprefix("IN: ")
+    return re.sub(r"^.*? \(([A-Z]+)\)", r"\1", line).removeprefix("FILE: ").removeprefix("IN: ")

@@ -28,6 +28,14 @@ fn are_stereo(kept: &Kept) -> bool {
         && kept.outline.sound.count == 16
 }
 
+// Want of memory is handed out, and no other fault is right.
+fn refused(fault: Unread) -> Result<bool, AllocError> {
+    match fault {
+        Unread::Stream(StreamFault::Memory) | Unread::Refused(ReadFault::Memory) => Err(AllocError),
+        _ => Ok(false),
+    }
+}
+
 // The same for a file that was built.
 fn keeps_stereo(alloc: Global) -> Result<bool, AllocError> {
     let file = stereo(alloc, &[0xf0, 0x0f, 0xaa, 0x55])?;
@@ -35,7 +43,7 @@ fn keeps_stereo(alloc: Global) -> Result<bool, AllocError> {
     let ranges = [range(4, 12), range(12, 100), range(3, 3)];
     match read_stretches(alloc, &mut inlet, &ranges) {
         Ok(kept) => Ok(are_stereo(&kept)),
-        Err(_) => Ok(false),
+        Err(fault) => refused(fault),
     }
 }
 
@@ -45,7 +53,7 @@ fn keeps_blocks(alloc: Global) -> Result<bool, AllocError> {
     let mut inlet = Inlet::new(drip(&file, 100, NEVER));
     match read_stretches(alloc, &mut inlet, &[range(8, 32_769)]) {
         Ok(kept) => Ok(is_long(&kept) && equal(&kept.outline.back, b"a tag")),
-        Err(_) => Ok(false),
+        Err(fault) => refused(fault),
     }
 }
 

@@ -199,8 +199,13 @@ const CALLS: [Case; 4] = [
     ),
 ];
 
-// So is one that holds no recording.
-const REFUSED: Case = (NOTHING, UNREAD, "open e.toml\nopen a.dff\nopen b.dff\n");
+// One that holds no recording is opened again if one reading doesn't find its fault, as that of a chunk that is longer
+// than its form.
+const REFUSED: Case = (
+    NOTHING,
+    UNREAD,
+    "open e.toml\nopen a.dff\nopen b.dff\nopen b.dff\n",
+);
 
 // Whether reading the takes, of which this is the second, ends as a case says.
 fn asks(alloc: Global, second: &[u8], (failure, line, calls): &Case) -> Result<bool, AllocError> {
@@ -226,9 +231,10 @@ fn is_heard_changed(alloc: Global, often: usize, line: &str) -> Result<bool, All
     are_excerpts(alloc, &mut folder, line)
 }
 
-// It counts what the file is when it is opened.
+// It counts what the file is when it is opened last.
 #[test]
 fn hears_a_take_as_it_is_opened(rt: HostRuntime) {
     assert!(rt; is_heard_changed(rt.alloc(), 2, "takes 2").unwrap_or(false));
-    assert!(rt; is_heard_changed(rt.alloc(), 3, UNREAD).unwrap_or(false));
+    assert!(rt; is_heard_changed(rt.alloc(), 3, "takes 2").unwrap_or(false));
+    assert!(rt; is_heard_changed(rt.alloc(), 4, UNREAD).unwrap_or(false));
 }

@@ -9,6 +9,7 @@ import struct
 import unicodedata
 
 import channels
+import explained
 import outputs
 import room
 from outputs import Refused, shown_name
@@ -49,16 +50,16 @@ class Track:
 
 
 def asked(what, name, *words, folder=None):
-    """What the program prints; a fault is one of that file."""
+    """What the program prints; a fault is one of that file, and is explained in the same line."""
     program = os.path.abspath(PROGRAM) if "/" in PROGRAM else PROGRAM
     try:
-        status, out, err = finished([program, *words], folder)
+        status, out, err = finished([program, "--explain", *words], folder)
     except OSError as error:
         raise Refused(
             f"the program {program} can't be run ({error.strerror}): build it, or name it by DSDARC"
         ) from None
     if status:
-        said = (err or out).decode(errors="replace").strip()
+        said = ": ".join(explained.lines_of((err or out).decode(errors="replace")))
         raise Refused(f"{what}, {shown_name(name)}: {said or f'the program ended with status {status}'}")
     return out.decode()
 
@@ -204,11 +205,16 @@ def is_control(letter):
     return unicodedata.category(letter) in ("Cc", "Cs", "Zl", "Zp")
 
 
-def file_name(track, form, digits=2):
+def digits_for(tracks):
+    """How many digits the numbers of tracks have in names."""
+    return 3 if tracks[-1].number > 99 else 2
+
+
+def file_name(track, ending, digits=2):
     """A name that every system takes: the number, and of the title what is no place, no blank at an end and not long."""
     title = "".join("_" if is_control(it) else it for it in UNSAFE.sub("_", track.title or ""))
     title = shortened(title.strip(" "), MOST_NAME).rstrip(" .")
-    return f"{track.number:0{digits}}{' - ' if title else ''}{title}{ENDINGS[form]}"
+    return f"{track.number:0{digits}}{' - ' if title else ''}{title}{ending}"
 
 
 def named(name):
@@ -268,7 +274,7 @@ def make(form, takes, parts, what, made):
             asked(*what, "edit", form, "project.toml", "master", "cert", folder=folder)
         except Refused as fault:
             size = sum(os.path.getsize(name) for name in takes)
-            if str(fault).endswith("fault: WriteFailed") and not room.has_room(os.path.dirname(made), size):
+            if "fault: WriteFailed" in str(fault) and not room.has_room(os.path.dirname(made), size):
                 raise OSError(room.full().errno, room.full().strerror, what[1]) from None
             raise
         if not asked(*what, "check", "project.toml", "master", "cert", folder=folder).startswith("accepted "):

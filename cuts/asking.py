@@ -50,4 +50,5 @@ def end_with_a_byte(project: Project) -> None:
     """If the master was to be whole bytes long, it will be so again."""
     spare = project.end_with_a_byte() if project.was_whole else 0
     if spare:
-        print(f"the last cue ends {spare} bits earlier, so that DSDIFF files hold the master")
+        bits = "1 bit" if spare == 1 else f"{spare} bits"
+        print(f"the last cue ends {bits} earlier, so that DSDIFF files hold the master")

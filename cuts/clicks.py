@@ -11,6 +11,7 @@ from bands import Band
 from hearing import Hearing
 from owing import sounds
 from projects import Project, Spot
+from shifts import Shifted
 from takes import Signals
 
 # Of a take, counted from 0, its sound from one place to another, a row for each channel.
@@ -28,15 +29,26 @@ def decoded(project: Project, band: Band | None = None) -> Reference:
     return lambda take, first, stop: sounds(project.takes[take], first, stop, bands)
 
 
-def known(rows: list[np.ndarray]) -> Reference:
-    """The takes' true signals, 0 outside of them."""
+def known(project: Project, rows: list[np.ndarray]) -> Reference:
+    """The true signals of the takes that aren't made by these scripts, 0 outside of them."""
+    trues = dict(zip(originals(project), rows))
+    none = np.zeros((project.count, 0))
 
     def part(take: int, first: int, stop: int) -> np.ndarray:
-        row = rows[take]
+        shift = project.shifts[take]
+        if shift:
+            source = project.names.index(shift.take)
+            return shift.rows(lambda low, high: part(source, low, high), first, stop)
+        row = trues.get(take, none)
         low, high = min(max(first, 0), row.shape[1]), max(min(stop, row.shape[1]), 0)
         return np.pad(row[:, low : max(low, high)], ((0, 0), (low - first, stop - max(low, high))))
 
     return part
+
+
+def originals(project: Project) -> list[int]:
+    """The takes that aren't of seams, nor made of another one."""
+    return [it for it, records in enumerate(project.records) if not records and not project.shifts[it]]
 
 
 def delay(weights: list[int]) -> float:
@@ -134,6 +146,18 @@ def are_owned(project: Project, spot: Spot) -> bool:
     """Whether all channels of a transition hold takes' bits; whatever else a cut is, nothing is wrong with it."""
     is_transition = spot.role == "seam" and project.record(spot.before + 1).is_owned
     return not is_transition or all(is_owned(project, spot, it) for it in range(project.count))
+
+
+def is_shifted(project: Project, cue: int) -> bool:
+    """Whether a cue whose channels are shifted has the bits of its take's source."""
+    take, one = project.take(cue), project.cues[cue]
+    shift = project.shifts[one["take"]]
+    wanted = Shifted(take.name, project.takes[project.origin(cue)], shift)
+    for first in range(one["start"], one["stop"], PIECE):
+        stop = min(first + PIECE, one["stop"])
+        if not np.array_equal(wanted.stored(first, stop), take.stored(first, stop)):
+            return False
+    return True
 
 
 def wrong_cue(project: Project, master: Signals) -> int | None:

@@ -14,14 +14,14 @@ LONGEST = 0.04  # seconds
 @dataclass(frozen=True)
 class Asked:
     """What is asked for: the name of the take of seams; how long the new bits are, how far what follows may move, and
-    within what time a butt changes the sound, in seconds."""
+    within what time a butt changes the sound, in seconds: as fast as it isn't heard if that is None."""
 
     take: str = ""
     time: float = 10e-3
     shift: float = 0.0
     power: bool = False
     is_butt: bool = False
-    ramp: float = fading.BUTT
+    ramp: float | None = None
 
 
 def wish_of(project: Project, cut: int, asked: Asked, time: float) -> fading.Wish:
@@ -33,7 +33,7 @@ def wish_of(project: Project, cut: int, asked: Asked, time: float) -> fading.Wis
     stop, start = wish.ends
     if stop < cue["start"] + project.least(cut) or start + most > following["stop"] - project.least(cut + 1):
         raise Refused("a cue is too short for the fade")
-    if stop + length > project.take(cut).bits or start - most - length < 0:
+    if stop + length > project.span(cut)[1] or start - most - length < project.span(cut + 1)[0]:
         raise Refused("a take isn't long enough for the fade")
     return wish
 
@@ -57,6 +57,7 @@ def fade(project: Project, program: Path, number: int, asked: Asked) -> fading.F
     with project.undone():
         spot = project.spots()[number]
         project.leave_out_between(spot)
+        project.leave_out_shift(spot.before + 1)
         project.leave_out_bridge(spot.before)
         stop, start = project.cues[spot.before]["stop"], project.cues[spot.before + 1]["start"]
         try:

@@ -9,11 +9,12 @@ moment. So the middle of the crossfade moves in each channel until the sum is ri
 the moment is added to the sound as a wave that is too small to be heard. If no middle is found, as the takes are too
 much alike, the second take is moved by some bits, or what is left of the sum is added to the sound as a bump as long
 as the fade."""
-from dataclasses import dataclass
+from dataclasses import dataclass, replace
 from pathlib import Path
 
 import numpy as np
 
+import ramps
 from continuing import continued, past_of
 from crossfades import SETTLED as EVEN
 from crossfades import Crossfade, Sounds, even_middle, wrapped
@@ -32,7 +33,6 @@ DOWN = 240  # dB: what a low-pass leaves of the sound in the errors adds to thei
 
 # How much of a fade the ramp takes, and how far its middle may move from the wished place: what is tried in turn.
 RAMPS = ((0.8, 0.1), (0.4, 0.3))
-BUTT = 10e-6  # seconds in which the sound of a butt changes, unless it is asked for others
 MOVES = (0.1, 0.4)  # how far its middle may move
 MOST = 0.2  # of a butt that its ramp may take
 
@@ -45,7 +45,7 @@ class NotStable(Exception):
 class Wish:
     """A cut in the middle of a fade: the places in both takes, an odd number of bits, and how many bits the second may
     be moved. With `power` the sum of both takes' powers stays, else that of their levels; a butt changes the sound at
-    the cut, within `ramp` seconds."""
+    the cut, within `ramp` seconds, or as fast as it isn't heard if that is None."""
 
     stop: int
     start: int
@@ -53,7 +53,7 @@ class Wish:
     most: int = 0
     power: bool = False
     is_butt: bool = False
-    ramp: float = BUTT
+    ramp: float | None = None
 
     @property
     def early(self) -> int:
@@ -157,6 +157,8 @@ class Plan:
 
 def planned(before: Signals, after: Signals, wish: Wish) -> Plan:
     """The first plan that misses nothing, or the one that misses least; the second take moves only if it has to."""
+    if wish.is_butt and wish.ramp is None:
+        wish = replace(wish, ramp=ramps.shortest(before, after, wish.stop, wish.start, wish.power))
     around = Surroundings(before, after, wish, hearing_of(before.rate).size // 2)
     found = []
     for moved in sorted(range(-wish.most, wish.most + 1), key=lambda it: (abs(it), it)):

@@ -48,6 +48,7 @@ class Hearing:
 
     def click(self, error: np.ndarray, wider: int = 0) -> np.ndarray:
         """What is heard of an error, no more than the reach of the low-pass and `wider` places away from its middle."""
+        # Not by the library: an error is no sequence of bits, and every place is wanted.
         size = len(error)
         heard = fft.irfft(fft.rfft(error) * self.spectrum(size), size)
         reach = min(self.half + wider, size // 2)

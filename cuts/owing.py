@@ -28,6 +28,7 @@ STEP = 16  # such bits between the times at which it is
 
 def sounds(take: Signals, first: int, stop: int, bands: list[Band] | None = None, down: int = DOWN) -> np.ndarray:
     """What of a take passes low-passes, a row for each channel: those of its own bands, or others."""
+    # Every place is wanted, and the library gives one of eight at most, in whole numbers.
     taps = [lowpass(take.rate, *it, down) for it in bands or take.bands]
     reach = max(map(len, taps)) // 2
     rows, found = take.signs(first - reach, stop + reach), []

@@ -5,6 +5,7 @@ import numpy as np
 
 import bridges
 import joins
+import links
 import transitions
 from hearing import hearing_of
 from outputs import Refused
@@ -18,8 +19,8 @@ BRIDGED = 256  # cuts with a bridge that are tried, if it is short
 @dataclass(frozen=True)
 class Asked:
     """What is asked for: the name of the take of seams, how far a cut may move in each take and how early or late what
-    follows may come, in seconds; whether there may be links, whether all channels change together, and whether bridges
-    that fade are left out."""
+    follows may come, in seconds; whether there may be links, whether all channels change together, whether bridges
+    that fade are left out, and how many bits early a channel may come against the others."""
 
     take: str = ""
     within: float = 0.5e-3
@@ -27,6 +28,11 @@ class Asked:
     linking: bool = True
     together: bool = False
     plain: bool = False
+    between: int = 0
+
+    def shifted_name(self, number: int) -> str:
+        """The name of a take with shifted channels, by its number."""
+        return f"{self.take.removesuffix('.dff').removesuffix('.seams')}.shifted-{number}.dff"
 
 
 def makes_transition(project: Project, number: int, asked: Asked) -> bool:
@@ -70,8 +76,8 @@ def room_of(project: Project, cut: int, within: int, margin: int) -> Room:
     room = length + project.shortest if length else 0
     stop, start = cue["stop"] + early, following["start"] - late
     low = max(stop - within, cue["start"] + project.least(cut) + early + margin)
-    high = min(stop + within, project.take(cut).bits - late - margin)
-    first = max(start - within, room - late, margin)
+    high = min(stop + within, project.span(cut)[1] - late - margin)
+    first = max(start - within, room - late, project.span(cut + 1)[0] + margin)
     last = min(start + within, following["stop"] - project.least(cut + 1) - late - margin)
     return Room(stop, start, (low, high), (first, last))
 
@@ -82,7 +88,7 @@ def window_of(project: Project, cut: int, asked: Asked, margin: int = 0) -> join
     within, most = round(asked.within * project.rate), round(asked.shift * project.rate)
     room = room_of(project, cut, within, margin)
     before, after = project.take(cut), project.take(cut + 1)
-    safe = room.inside(before.bits - known(before), known(after))
+    safe = room.inside(project.span(cut)[1] - known(before), project.span(cut + 1)[0] + known(after))
     return safe.window(most) or room.window(most)
 
 
@@ -110,11 +116,21 @@ def place_together(project: Project, cut: int, asked: Asked) -> None:
         project.insert(cut, take, best.link.first, best.link.first + best.link.length)
 
 
+def may_shift(project: Project, cut: int, asked: Asked) -> bool:
+    """Whether the channels of what follows a cut may be shifted: no later cut is made for how it goes on."""
+    is_usual = project.cues[cut + 1]["take"] not in (
+        project.slot,
+        *(it for it, one in enumerate(project.shifts) if one),
+    )
+    return bool(asked.between) and project.count > 1 and is_usual and project.is_last_made(cut + 1)
+
+
 def place_apart(project: Project, cut: int, asked: Asked) -> bool:
     """Makes a transition of a cut, and returns whether there was room for it."""
     margin = transitions.margin(project.rate)
     window = window_of(project, cut, asked, margin)
-    found = transitions.best(meeting(project, cut, window)) if window else None
+    between = asked.between if may_shift(project, cut, asked) else 0
+    found = transitions.best(meeting(project, cut, window), between) if window else None
     if found is None:
         return False
     stop, start, offset = project.cues[cut]["stop"], project.cues[cut + 1]["start"], found.offset
@@ -123,13 +139,22 @@ def place_apart(project: Project, cut: int, asked: Asked) -> bool:
     seams = project.seams_as(asked.take)
     places = [it.stop + it.link.ahead - low for it in found.places]
     middles = [place + it.moved for place, it in zip(places, found.places)]
-    rows = [[it.link.take, it.link.first, it.link.length, place] for place, it in zip(places, found.places)]
+    rows = [link_row(it, *its) for it, *its in zip(found.places, places, found.early)]
     wished = stop - low, high + offset - start
     seam = Seam(seams.take.bits, high - low, "transition", *wished, 1, False, middles, rows)
     signs = np.stack([signs_of(project, cut, (low, high), it, channel) for channel, it in enumerate(found.places)])
     project.move(cut, low, high + offset)
+    if any(found.early):
+        reach = high - low + window.starts + links.FROM + hearing_of(project.rate).size
+        project.shift(cut + 1, found.early, asked.shifted_name, reach)
     project.insert_seam(cut, seam, signs)
     return True
+
+
+def link_row(place: joins.Place, middle: int, early: int) -> list[int]:
+    """A link as a seam has it, in a channel that comes so many bits early in the take after."""
+    link = place.link
+    return [link.take, link.first - (early if link.take else 0), link.length, middle]
 
 
 def signs_of(project: Project, cut: int, ends: tuple[int, int], place: joins.Place, channel: int) -> np.ndarray:
@@ -148,6 +173,7 @@ def place(project: Project, number: int, asked: Asked) -> None:
         spot = project.spots()[number]
         is_apart = makes_transition(project, number, asked)
         project.leave_out_between(spot)
+        project.leave_out_shift(spot.before + 1)
         if asked.plain:
             project.leave_out_bridge(spot.before)
         if not (is_apart and place_apart(project, spot.before, asked)):

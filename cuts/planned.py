@@ -75,6 +75,7 @@ class Seen:
         self.stop, self.start = project.cues[spot.before]["stop"], project.cues[spot.after]["start"]
         self.clicks = [hearing.levels(it, spot.length // 2) for it in errors(hearing, project, spot)]
         self.steps = steps(project, spot)
+        self.early = project.early(spot.after)
 
     @property
     def is_faded(self) -> bool:
@@ -87,17 +88,19 @@ class Seen:
         return self.spot.length
 
     def channel(self, channel: int) -> str:
-        """Where a channel of a seam changes."""
+        """Where a channel of a seam changes, and whether it comes early from there on."""
         if self.seam is None:
             return ""
         place = f" at {(self.seam.middles[channel] - self.seam.before) / self.rate * 1e6:+.1f} us"
-        return place + (f", link of {self.seam.links[channel][2]} bits," if self.seam.links else "")
+        early = f", {self.early[channel]} bit early" if self.early[channel] else ""
+        return place + early + (f", link of {self.seam.links[channel][2]} bits," if self.seam.links else "")
 
 
 def named(seen: Seen) -> str:
     """What a cut is."""
     if seen.seam:
-        return f"{seen.seam.kind} of {seen.length} bits"
+        ramp = f" over {seen.seam.ramp / seen.rate * 1e6:.3g} us" if seen.seam.kind == "butt" else ""
+        return f"{seen.seam.kind} of {seen.length} bits{ramp}"
     return {"plain": "cut plain", "link": f"link of {seen.length} bits"}.get(seen.spot.role, f"bridge of {seen.length}")
 
 
@@ -127,8 +130,8 @@ def warn(project: Project, number: int) -> None:
     spots = project.spots()
     spot = spots[number]
     first, last = ends(project, spot)
-    after = project.take(spot.before).bits - project.cues[spot.before]["stop"] - last
-    before = project.cues[spot.after]["start"] - spot.length + first
+    after = project.span(spot.before)[1] - project.cues[spot.before]["stop"] - last
+    before = project.cues[spot.after]["start"] - project.span(spot.after)[0] - spot.length + first
     name = f"{sys.argv[0].rpartition('/')[2]}: cut {number}"
     for take, bits, end in ((spot.before, after, "end"), (spot.after, before, "start")):
         if bits < known(project.take(take)):

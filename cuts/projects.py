@@ -12,11 +12,13 @@ import tomlkit
 
 import bands
 from seams import Seam, Seams, seams_of
+from shifts import Region, Shift, Shifted, regions_of, shift_of, whole_bits
 from takes import Held, Signals, Take, Unread
 from outputs import Refused
 from project_texts import MOST_BITS, MOST_CUES, MOST_TAKES, Text, read, shown
 
 LINK = 1e-5  # seconds: a shorter cue between two plain cuts is a link, which has no sound of its own
+APART = 40e-3  # seconds at least between cues of one take whose channels are shifted otherwise
 
 
 @dataclass(frozen=True)
@@ -105,11 +107,23 @@ class Project:
         for take, record in zip(self.takes, self.records):
             if record:
                 take.bands = [bands.USUAL] * take.count
+        self.shifts = [self.known_shift(it) for it in self.takes]
+        for take, shift in zip(self.takes, self.shifts):
+            if shift:
+                take.bands = self.takes[self.names.index(shift.take)].bands
         self.seams: Seams | None = None
         self.rate, self.count = self.takes[0].rate, self.takes[0].count
         self.slot = self.seam_slot()
         self.demand_bits()
         self.was_whole = self.length() % 8 == 0
+
+    def known_shift(self, take: Signals) -> Shift | None:
+        """How the channels of a take are shifted against those of another one of the project."""
+        found = shift_of(take)
+        if found is None or found.take not in self.names:
+            return None
+        source = self.takes[self.names.index(found.take)]
+        return found if source is not take and shift_of(source) is None else None
 
     def demand_bits(self) -> None:
         """The takes have all bits that are asked for."""
@@ -151,6 +165,75 @@ class Project:
 
     def take(self, cue: int) -> Signals:
         return self.takes[self.cues[cue]["take"]]
+
+    def span(self, cue: int) -> tuple[int, int]:
+        """From where to where the bits of a cue's take go on as in the cue."""
+        one = self.cues[cue]
+        shift = self.shifts[one["take"]] if one["take"] < len(self.shifts) else None
+        region = shift.region(one["start"], one["stop"]) if shift else Region(0, self.take(cue).bits, [])
+        return region.first, region.stop
+
+    def early(self, cue: int) -> list[int]:
+        """How many bits early each channel of a cue comes, against the others."""
+        one = self.cues[cue]
+        shift = self.shifts[one["take"]]
+        return shift.region(one["start"], one["stop"]).early if shift else [0] * self.count
+
+    def origin(self, cue: int) -> int:
+        """The take of a cue, or the one whose bits that take has."""
+        number = self.cues[cue]["take"]
+        shift = self.shifts[number]
+        return self.names.index(shift.take) if shift else number
+
+    def is_last_made(self, cue: int) -> bool:
+        """Whether nothing that was made depends on how a cue goes on: it isn't followed by a link or a seam."""
+        return all(it.role in ("plain", "bridge", "line") for it in self.spots() if it.before == cue)
+
+    def leave_out_shift(self, cue: int) -> None:
+        """Lets a cue have the bits of its take's source, unless the cut after it is made for those that it has."""
+        number = self.origin(cue)
+        if self.is_last_made(cue) and self.cues[cue]["stop"] <= self.takes[number].bits:
+            self.cues[cue]["take"] = number
+
+    def used(self, cue: int, reach: int) -> Region:
+        """The bits of its take that a cue, and the cuts at both of its ends, need: so many more before its start."""
+        first, stop = self.cues[cue]["start"] - reach, self.cues[cue]["stop"]
+        for spot in (it for it in self.spots() if cue in (it.before, it.after)):
+            seam = self.record(spot.before + 1) if spot.role == "seam" else None
+            links = [it for it in seam.links if it[0] == (spot.after == cue)] if seam else []
+            first = min([first - spot.length * (spot.after == cue), *(it[1] for it in links)])
+            stop = max([stop + spot.length * (spot.before == cue), *(it[1] + it[2] for it in links)])
+        return Region(first, stop, self.early(cue))
+
+    def shift(self, cue: int, early: list[int], name: Callable[[int], str], reach: int) -> None:
+        """Lets the channels of a cue, which has the bits of a usual take, come so many bits early: as a cue of a take
+        that is made of it, whose number tells its name. The cut before it needs so many more bits of it."""
+        source, new = self.cues[cue]["take"], self.used(cue, reach)
+        new = Region(new.first, new.stop, early)
+        for number, shift in enumerate(self.shifts):
+            if shift and shift.take == self.names[source]:
+                rows = [self.used(it, 0) for it, one in enumerate(self.cues) if one["take"] == number]
+                regions = regions_of([*rows, new], whole_bits(self.takes[source]), round(APART * self.rate))
+                if regions:
+                    self.put_shifted(cue, number, source, regions, name)
+                    return
+        self.demand_takes(1)
+        number = len(self.takes)
+        self.put_shifted(cue, number, source, [Region(0, whole_bits(self.takes[source]), early)], name)
+
+    def put_shifted(
+        self, cue: int, number: int, source: int, regions: list[Region], name: Callable[[int], str]
+    ) -> None:
+        """Makes a take whose channels are shifted, and lets a cue be of it."""
+        shift = Shift(self.names[source], regions)
+        take = Shifted(name(number), self.takes[source], shift)
+        for rows, new in ((self.takes, take), (self.records, {}), (self.shifts, shift), (self.names, take.name)):
+            rows[number : number + 1] = [new]
+        self.cues[cue]["take"] = number
+
+    def made_shifted(self) -> list[Shifted]:
+        """The takes with shifted channels that are to be written."""
+        return [it for it in self.takes if isinstance(it, Shifted)]
 
     def bridge(self, cue: int) -> int:
         return self.cues[cue].get("bridge", 0)
@@ -230,18 +313,25 @@ class Project:
         seam = self.record(spot.before + 1) if spot.role == "seam" else None
         early, late = (seam.before, seam.after) if seam else (spot.length // 2, spot.length - spot.length // 2)
         stop, start = self.cues[spot.before]["stop"] + early, self.cues[spot.after]["start"] - late
-        if stop > self.take(spot.before).bits or start < 0:
+        if stop > self.span(spot.before)[1] or start < self.span(spot.after)[0]:
             raise Refused(f"its takes have no bits for those of its {spot.role}")
         del self.cues[spot.before + 1], self.origins[spot.before + 1]
         self.move(spot.before, stop, start)
 
     def demand_room(self, seams: int, cues: int) -> None:
         """Refuses if there is no room for a take of seams, if any are made, and for more cues."""
-        if seams and self.slot == MOST_TAKES:
-            raise Refused(f"the project has {MOST_TAKES} takes, and there is no room for one more")
+        if seams and self.slot == len(self.takes):
+            self.demand_takes(1)
         if len(self.cues) + cues > MOST_CUES:
             had = f"the project has {len(self.cues)} cues, and {cues} more are needed"
             raise Refused(f"{had}: there is room for {MOST_CUES}")
+
+    def demand_takes(self, more: int) -> None:
+        """Refuses if there is no room for more takes."""
+        if len(self.takes) + more > MOST_TAKES:
+            raise Refused(
+                f"the project has {len(self.takes)} takes, and {more} more is needed: there is room for {MOST_TAKES}"
+            )
 
     def seam_slot(self) -> int:
         """The number of the take of seams, that of a new one if there is none."""
@@ -255,8 +345,14 @@ class Project:
             self.demand_room(1, 0)
             old = self.takes[slot] if slot < len(self.takes) else Held(name, self.rate, np.empty((self.count, 0)))
             self.seams = Seams(name, old, self.records[slot] if slot < len(self.takes) else {})
-            for rows, new in ((self.takes, self.seams.take), (self.records, self.seams.seams), (self.names, name)):
-                rows[slot : slot + 1] = [new]
+            rows = (
+                (self.takes, self.seams.take),
+                (self.records, self.seams.seams),
+                (self.shifts, None),
+                (self.names, name),
+            )
+            for row, new in rows:
+                row[slot : slot + 1] = [new]
         return self.seams
 
     def insert_seam(self, cut: int, seam: Seam, signs: np.ndarray) -> None:

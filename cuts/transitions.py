@@ -21,17 +21,22 @@ JUDGED = 16  # shifts whose clicks are computed exactly; more where there are fe
 CLICKS = 64  # that are, of all channels
 MOVED = 5e-6  # seconds by which the sound may change before or after the middle of a link
 ALIKE = 2.0  # dB: of transitions that click at most so much louder than the quietest, the one with the least step
+GAIN = 1.0  # dB that shifts between channels gain at least, or there are none
 NEARER = 1e-9  # of a sum: of places that are as good, the one that is nearer to the middle
 
 
 @dataclass(frozen=True)
 class Transition:
-    """The place at which each channel changes, with its link; and the loudest peak by the worse of both estimates."""
+    """The place at which each channel changes, with its link, and how much farther all of them are in the second take,
+    but for the bits that each channel comes early."""
 
     places: list[Place]
+    offset: int
+    early: list[int]
 
     @property
     def loudest(self) -> float:
+        """The loudest peak by the worse of both estimates."""
         return max(max(it.loudest, it.other) for it in self.places)
 
     @property
@@ -45,11 +50,6 @@ class Transition:
         middles = [it.stop + it.link.ahead for it in self.places]
         return min(middles) - margin, max(middles) + margin
 
-    @property
-    def offset(self) -> int:
-        """How much farther the places are in the second take."""
-        return self.places[0].start - self.places[0].stop - self.places[0].between
-
 
 @dataclass(frozen=True)
 class Best:
@@ -59,6 +59,9 @@ class Best:
     peaks: np.ndarray
     rows: np.ndarray
     moved: np.ndarray
+
+    def row(self, shift: int) -> tuple[list[int], float]:
+        return self.rows[shift].tolist(), float(self.moved[shift])
 
 
 def shifts_of(cut: Cut) -> range:
@@ -149,16 +152,29 @@ def best_of(cut: Cut) -> Best:
     return made
 
 
-def best(cut: Cut) -> Transition | None:
-    """The transition whose loudest channel clicks least; nothing where there is no room for one."""
+def best(cut: Cut, between: int = 0) -> Transition | None:
+    """The transition whose loudest channel clicks least; nothing where there is no room for one. A channel may come up
+    to `between` bits earlier than the others, if that gains enough."""
     channels = [cut.channel(it) for it in range(cut.count)]
     found = [best_of(it) for it in channels]
-    peaks = np.max([it.peaks for it in found], axis=0)
-    tried = []
-    for number in np.argsort(peaks, kind="stable")[: max(JUDGED, CLICKS // cut.count)]:
-        if np.isfinite(peaks[number]):
-            rows = [(it.rows[number].tolist(), float(it.moved[number])) for it in found]
-            tried.append(Transition([linked(one, *row) for one, row in zip(channels, rows)]))
+    usual = quietest(channels, found, 0)
+    apart = quietest(channels, found, between) if usual and between else None
+    return apart if apart and apart.loudest < usual.loudest - GAIN else usual
+
+
+def quietest(channels: list[Cut], found: list[Best], between: int) -> Transition | None:
+    """The quietest transition of the best links in each channel, each for one shift of all or some bits more."""
+    number = len(found[0].peaks) - between
+    peaks = np.stack([[it.peaks[more : more + number] for more in range(between + 1)] for it in found])
+    loudest, early = np.max(peaks.min(axis=1), axis=0), peaks.argmin(axis=1)
+    window, tried = channels[0].window, []
+    shift = window.start - window.stop + shifts_of(channels[0])[0]
+    for it in np.argsort(loudest, kind="stable")[: max(JUDGED, CLICKS // len(channels))].tolist():
+        if np.isfinite(loudest[it]):
+            rows = [one.row(it + more) for one, more in zip(found, early[:, it].tolist())]
+            places = [linked(one, *row) for one, row in zip(channels, rows)]
+            least = int(early[:, it].min())
+            tried.append(Transition(places, shift + it + least, (early[:, it] - least).tolist()))
     least = min((it.loudest for it in tried), default=0.0)
     alike = [it for it in tried if it.loudest <= least + ALIKE]
     return min(alike, key=lambda it: (round(it.step, 9), it.ends(0)), default=None)

@@ -75,7 +75,7 @@ def measured(project: Project, master: Signals, made: list[material.Made], predi
     named = {
         "to 20 kHz": clicks.decoded(project, (PASSED, STOPPED)),
         "estimated": clicks.decoded(project),
-        "true": clicks.known(trues),
+        "true": clicks.known(project, trues),
     }
     found = []
     for number, spot in enumerate(project.spots()):
@@ -113,6 +113,9 @@ def tried(folder: Path, program: Path, asked: material.Asked, made: list[materia
         path.write_text(project.text(), encoding="utf-8")
         if project.seams:
             Path(name).write_bytes(project.seam_file())
+        for it in project.made_shifted():
+            with open(it.name, "wb") as file:
+                it.write(file)
     project = Project(path)
     master = cut_and_checked(path, "dsf" if project.length() % 8 else "dsdiff")
     return measured(project, Take(master), made, predicted)

@@ -60,3 +60,12 @@ def dsdiff(rate, channels, sound, compression=b"DSD ", ids=None, more=b"", kept=
     inner = b"".join(chunk(*it) for it in property_chunks(rate, channels, compression, ids))
     body = chunk(*VERSION) + chunk(b"PROP", b"SND " + inner + kept) + chunk(b"DSD ", sound) + more
     return chunk(b"FRM8", b"DSD " + body)
+
+
+def around(rate, channels, size, more=b""):
+    """What stands before and behind a sound of so many bytes in such a file."""
+    empty = dsdiff(rate, channels, b"", more=more)
+    head = empty[: len(empty) - len(more)]
+    rest = b"\0" * (size % 2) + more
+    form = len(head) - 12 + size + len(rest)
+    return b"FRM8" + struct.pack(">Q", form) + head[12:-8] + struct.pack(">Q", size), rest

@@ -1,0 +1,38 @@
+/* Plays a file by the library as `dsdarc play` does, but without a header: library_player PROJECT FILE OUT */
+#include <dsdarc.h>
+#include <fcntl.h>
+#include <stdio.h>
+#include <unistd.h>
+
+enum { BLOCK = 65536, FRAMES = 65536 };
+
+static int put(int out, const unsigned char *bytes, size_t size) {
+    while (size > 0) {
+        ssize_t wrote = write(out, bytes, size);
+        if (wrote < 0) return 0;
+        bytes += wrote, size -= (size_t)wrote;
+    }
+    return 1;
+}
+
+int main(int count, char **words) {
+    static unsigned char text[1 << 20], bytes[BLOCK], pcm[FRAMES * 6 * 3];
+    dsdarc_player *player;
+    dsdarc_info info = {0};
+    size_t taken, given;
+    ssize_t size;
+    int project, file, out;
+    if (count != 4 || (project = open(words[1], O_RDONLY)) < 0 || (file = open(words[2], O_RDONLY)) < 0) return 3;
+    if ((out = open(words[3], O_WRONLY | O_CREAT | O_TRUNC, 0666)) < 0) return 3;
+    if ((size = read(project, text, sizeof text)) < 0 || dsdarc_player_new(text, (size_t)size, &player)) return 1;
+    while ((size = read(file, bytes, BLOCK)) > 0)
+        for (size_t at = 0; at < (size_t)size; at += taken) {
+            if (dsdarc_player_push(player, bytes + at, (size_t)size - at, &taken)) return 1;
+            if (info.width == 0) dsdarc_player_info(player, &info);
+            while (!dsdarc_player_pull(player, pcm, FRAMES, DSDARC_PACKED, &given) && given > 0)
+                if (!put(out, pcm, given * info.channels * info.width / 8)) return 2;
+        }
+    if (dsdarc_player_end(player)) return 1;
+    dsdarc_player_drop(player);
+    return 0;
+}

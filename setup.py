@@ -1,0 +1,34 @@
+"""Adds to the Python package what the clone has for it: the ready filters and, once it is built, the library."""
+import pathlib
+import shutil
+
+import setuptools
+from setuptools.command.build_py import build_py
+
+ROOT = pathlib.Path(__file__).resolve().parent
+LIBRARY = ROOT / "crates" / "dsdarc" / "out" / "libdsdarc.so.0"
+
+
+class Adding(build_py):
+    """Puts the package together."""
+
+    def run(self):
+        super().run()
+        package = pathlib.Path(self.build_lib) / "dsdarc"
+        (package / "filters").mkdir(parents=True, exist_ok=True)
+        for path in sorted((ROOT / "filters").glob("dsd*.toml")):
+            shutil.copyfile(path, package / "filters" / path.name)
+        if LIBRARY.is_file():
+            shutil.copyfile(LIBRARY, package / LIBRARY.name)
+        else:
+            (package / LIBRARY.name).unlink(missing_ok=True)
+
+
+class Package(setuptools.Distribution):
+    """The package, which is one of this kind of processor where the library is in it."""
+
+    def has_ext_modules(self):
+        return LIBRARY.is_file()
+
+
+setuptools.setup(distclass=Package, cmdclass={"build_py": Adding})

@@ -116,6 +116,7 @@ def gain_of(project: Project) -> float:
 
 def response(project: Project) -> tuple[np.ndarray, np.ndarray]:
     """Frequencies in Hz up to half of the stored rate, and magnitudes, 1 being that of frequency 0."""
+    # The spectrum of the taps themselves: no sound is decimated for it, which the library could do.
     magnitudes = np.abs(np.fft.rfft(project.taps.astype(float), POINTS)) / abs(float(project.taps.sum()))
     return np.fft.rfftfreq(POINTS, 1 / project.rate), magnitudes
 

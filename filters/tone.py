@@ -110,6 +110,7 @@ def stored_bits(path: Path, rate: int) -> np.ndarray:
 
 def differing(table: dict, bits: np.ndarray, played: np.ndarray) -> int:
     """How many samples aren't those of docs/PLAYING.md, by a convolution whose error is far below 1."""
+    # Not by the library: this is what the program is compared with.
     sums = np.rint(signal.oaconvolve(bits, np.array(table["taps"], dtype=float))).astype(np.int64)
     due = sums[np.arange(0, len(bits), table["factor"]) + table["delay"]]
     most = 2 ** (table["width"] - 1)

@@ -53,6 +53,7 @@ def wave_of(file):
 
 def samples(file, wave, first, count):
     """Frames as whole numbers of 32 bits, the lowest 8 or 16 of them zero."""
+    # Of the file that the run made: the library takes four times as long to play the source anew as this to read it.
     size = wave.width // 8
     file.seek(wave.start + first * wave.channels * size)
     # Four bytes from each sample's place, less the bytes before it, which belong to another.

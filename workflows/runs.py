@@ -10,7 +10,7 @@ from outputs import Refused
 from program import PROGRAM
 
 # How a line of refused.txt goes on behind a name.
-SAID = re.compile(r"(.*): (fault: .*|no filter .*|status \d+|stopped|the program ended .*)", re.DOTALL)
+SAID = re.compile(r"(.*): (fault: .*|no (?:filter|tracks:) .*|status \d+|stopped|the program ended .*)", re.DOTALL)
 
 
 @dataclasses.dataclass
@@ -118,14 +118,19 @@ def refusals_of(path):
 
 
 def asked(archive, row):
-    """Asks the program what a file of the archive holds."""
+    """Asks the program what a file of the archive holds. A track, which stands in a folder of the album's name, has
+    what the album has, but for its length."""
     path = os.path.abspath(os.path.join(archive, row.name))
+    is_track = os.path.isfile(os.path.dirname(path))
+    if is_track:
+        path = os.path.dirname(path)
     try:
         done = subprocess.run([PROGRAM, "info", path], capture_output=True, check=False)
     except ValueError:
         return
     if done.returncode == 0:
         told_of(row, dict(line.split(" ", 1) for line in done.stdout.decode().splitlines()))
+        row.samples = None if is_track else row.samples
 
 
 def of_play_all(out, archive, pool):

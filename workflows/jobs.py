@@ -1,0 +1,126 @@
+"""What `play_all` plays, a job for each WAVE file: files whole, or the tracks of albums each on its own."""
+import dataclasses
+import functools
+import os
+import struct
+import sys
+import tomllib
+
+import outputs
+
+sys.path.insert(0, os.path.join(os.path.dirname(os.path.dirname(os.path.realpath(__file__))), "cuts"))
+import albums  # noqa: E402
+
+# What a chunk of a DSDIFF form has that isn't whole, or a file that ends too early.
+BROKEN = (outputs.Refused, struct.error, OSError)
+
+
+@dataclasses.dataclass
+class Job:
+    """The name of a file in the archive, the path of the WAVE file in OUT, and which bits of the file are played:
+    `start` to `stop` - 1, to the end for None. `track` is the number of a track, or None where the file is played
+    whole."""
+
+    source: str
+    result: str
+    track: int | None = None
+    start: int = 0
+    stop: int | None = None
+
+    @property
+    def name(self):
+        return self.source if self.track is None else f"{self.source}, track {self.track}"
+
+
+def has_marks(path):
+    """Whether a file may have marks, without the program."""
+    try:
+        with open(path, "rb") as file:
+            is_dsdiff = file.read(4) == b"FRM8"
+            file.seek(0)
+            return is_dsdiff and any(name == b"DIIN" for name, _ in albums.form_chunks(file))
+    except BROKEN:
+        return False
+
+
+def sheet_of(path):
+    """The cue sheet beside a file, or None."""
+    front = os.path.splitext(path)[0]
+    return next((it for it in (f"{front}.cue", f"{front}.CUE") if os.path.isfile(it)), None)
+
+
+def playable(tracks, found):
+    """Tracks of an album with their ends. What comes before the first one is played with it if it is shorter than a
+    millisecond, as it may have no frame."""
+    tracks = albums.whole(tracks, found)
+    if len(tracks) > 1 and tracks[0].number == 0 and 1000 * tracks[1].start < found.rate:
+        tracks[1].start = 0
+        del tracks[0]
+    return tracks
+
+
+def tracks_of(path):
+    """The tracks of a file by its marks, else by the cue sheet beside it; none where it has neither, or is refused."""
+    sheet = sheet_of(path)
+    if sheet is None and not has_marks(path):
+        return []
+    try:
+        found = albums.recording("ALBUM", path)
+    except BROKEN:
+        return []
+    if albums.starts_of(found):
+        return playable(albums.marked(found), found)
+    return playable(albums.cued(found, sheet), found) if sheet else []
+
+
+def whole(entry):
+    """The job that plays a file whole."""
+    return Job(entry["name"], (entry["renamed"] or entry["name"]) + ".wav")
+
+
+def of_tracks(entry, tracks):
+    """The jobs that play the tracks of an album, by the numbers of these."""
+    folder, digits = entry["renamed"] or entry["name"], albums.digits_for(tracks)
+    stops = [*(track.start for track in tracks[1:]), None]
+    return {
+        track.number: Job(
+            entry["name"],
+            os.path.join(folder, albums.file_name(track, ".wav", digits)),
+            track.number,
+            track.start,
+            stop,
+        )
+        for track, stop in zip(tracks, stops)
+    }
+
+
+def by_tracks(archive, files):
+    """The jobs of an archive whose albums are played by tracks, by their keys, and the names of albums whose tracks
+    can't be told, with the reason."""
+    jobs, refused = {}, []
+    for key, entry in files.items():
+        try:
+            tracks = tracks_of(os.path.join(archive, entry["name"]))
+        except outputs.Refused as why:
+            refused.append((entry["name"], f"no tracks: {why}"))
+            continue
+        if tracks:
+            jobs |= {f"{key}-{number}": job for number, job in of_tracks(entry, tracks).items()}
+        else:
+            jobs[key] = whole(entry)
+    return jobs, refused
+
+
+@functools.lru_cache
+def factor_of(path):
+    """How many bits of a file make a frame, by a filter."""
+    with open(path, "rb") as file:
+        return tomllib.load(file)["decimate"]["factor"]
+
+
+def words_of(job, filter_path):
+    """The words by which the program plays just what a job says. A track's first frame is the last that begins at its
+    mark or before it, as `play --from '#3'` has it."""
+    places = [("--from", job.start or None), ("--to", job.stop)]
+    asked = [(word, bit) for word, bit in places if bit is not None]
+    return " ".join(f"{word} @{bit // factor_of(filter_path)}" for word, bit in asked)

@@ -28,6 +28,8 @@ from small_files import (
     to_check,
     to_cut,
 )
+from sums import CHECK as JUDGE
+from sums import ONE
 
 # More than two megabytes of sound, of which the end is missing.
 LONG_CUT = mono(bytes(2_153_286))[:2_000_000]
@@ -319,6 +321,50 @@ OTHERS = (
     ),
 )
 
+FLAC = b"fLaC".ljust(40, b"\0")
+IS_FLAC = 'it begins with "fLaC": a FLAC file, not a DSDIFF or DSF file'
+SUM_LINE = "a line has to be one that dsdarc sum prints of a file"
+
+# What `sum` has no sums of and can't read as a list: files, words, the fault, why, and what is printed before.
+SUMS = (
+    ({}, ["sum", "none"], "ReadFailed  none", "none (FILE): No such file or directory", ""),
+    (
+        {"in": FILE},
+        ["sum", "in", "no/in"],
+        "ReadFailed  no/in",
+        "no/in (FILE): No such file or directory; there is no folder no",
+        f"{ONE}  in\n",
+    ),
+    ({"in": FLAC}, ["sum", "in"], "FileUnread UnknownForm  in", f"in (FILE): {IS_FLAC}", ""),
+    (
+        {"in": FILE[:126]},
+        ["sum", "in"],
+        "FileUnread Dsdiff FormCut  in",
+        "in (FILE): the file ends 2 bytes early, at byte 126: fetch it again",
+        "",
+    ),
+    ({}, JUDGE, "ReadFailed  list", "list (LIST): No such file or directory", ""),
+    ({"list": b""}, JUDGE, "ListRefused  list", "list (LIST): it has no line", ""),
+    ({"list": b"\xff\n"}, JUDGE, "ListRefused  list", "list (LIST): it is not UTF-8", ""),
+    ({"list": FILE}, JUDGE, "ListRefused  list", "list (LIST): it is a recording; without --check it is summed", ""),
+    ({"list": b"no sums\n"}, JUDGE, "ListRefused line 1  list", f'list (LIST): line 1 is "no sums"; {SUM_LINE}', ""),
+    ({"list": b"s" * 100}, JUDGE, "ListRefused line 1  list", f"list (LIST): line 1 is 100 bytes long; {SUM_LINE}", ""),
+    (
+        {"list": f"{ONE}  none\n".encode()},
+        JUDGE,
+        "ReadFailed  none",
+        "none (line 1 of list): No such file or directory; names are looked up in {folder}",
+        "none: FAILED\n",
+    ),
+    (
+        {"in": FLAC, "list": f"{ONE}  in\n".encode()},
+        JUDGE,
+        "FileUnread UnknownForm  in",
+        f"in (line 1 of list): {IS_FLAC}",
+        "in: FAILED\n",
+    ),
+)
+
 ALL_COMMANDS = "the commands are info, convert, play, edit, check; dsdarc --help prints the usage"
 
 # Words that are no command, and why.
@@ -440,12 +486,12 @@ REJECTED = (
 )
 
 
-def asked(files, words, status, line, why, made=None):
+def asked(files, words, status, line, why, made=None, before=""):
     """A command line with `--explain` and without."""
     words = words.split() if isinstance(words, str) else list(words)
     made = made or {}
-    yield Case(files, [Step(["--explain", *words], status, line, made, why)])
-    yield Case(files, [Step(words, status, line, made)])
+    yield Case(files, [Step(["--explain", *words], status, line, made, why, before)])
+    yield Case(files, [Step(words, status, line, made, "", before)])
 
 
 def refusals():
@@ -497,6 +543,8 @@ def explained_cases():
         yield from asked(files, words, status, f"fault: {line}", why, made)
     for project, master, cert, line, why in REJECTED:
         yield from asked(to_check(master, cert, to_cut(project)), CHECK, 1, f"rejected {line}", why)
+    for files, words, line, why, before in SUMS:
+        yield from asked(files, words, 2, f"fault: {line}", why, None, before)
     yield from asked(TO_PLAY, "play p.toml in.dff out", 0, "played 46 bytes", "", {"out": WAVE})
     # The word that asks to explain stands once, before the command.
     why = f'"--explain" is no command: {ALL_COMMANDS}'

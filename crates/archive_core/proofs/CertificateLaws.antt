@@ -1,4 +1,4 @@
--- A master has one certificate, with which it is accepted where its bridges are least.
+-- A master has one certificate. It is accepted with it if its bridges are least.
 use Rattle.std.proofs.Common.{◌≡◌, ℕ, ◌-◌, ◌<◌, Bool, List, [], ◌∷◌, None, get_or, length, take, refl, sym, ap, subst, ◌∙◌, arith}
 use Rattle.std.specs.List.{All, AllZip}
 use Rattle.std.proofs.lemmas.List.{take_all}
@@ -11,7 +11,7 @@ use Rattle.form_core.specs.declared.form.Form.{Form}
 use Rattle.form_core.specs.declared.opening.Opened.{Opened}
 use Rattle.form_core.specs.Forms.{HoldsAs}
 use Rattle.cut_core.specs.Bridges.{IsPlace, bridges}
-use Rattle.cut_core.specs.Cuts.{CutContent, channel_number, cue_bits, master_length, window}
+use Rattle.cut_core.specs.Cuts.{CutContent, cue_bits, master_length, take_channels, window}
 use Rattle.cut_core.specs.Keeping.{CanCut}
 use Rattle.cut_core.proofs.ZipLaws.{zip_at, zip_number, zip_numbers_long, zip_range}
 use Rattle.master_core.specs.Certificates.{cert_of}
@@ -58,7 +58,7 @@ module _ (project : List ℕ) (files : List (List ℕ)) (cut : CutContent) (says
   can : CanCut (plain_cut cut)
   can = cut_can project files cut says
 
-  channel_long : (c : ℕ) → c < channel_number cut → (z : List Bool) → IsMasterChannel cut c z → length z ≡ master_length cut.splice.cues
+  channel_long : (c : ℕ) → c < take_channels cut → (z : List Bool) → IsMasterChannel cut c z → length z ≡ master_length cut.splice.cues
   channel_long c there z made =
       let n = length cut.splice.cues - 1 in
       let some = can.splicing.some_cues in
@@ -71,11 +71,11 @@ module _ (project : List ℕ) (files : List (List ℕ)) (cut : CutContent) (says
 
   count_is : AreMasterChannels cut zs → count_of zs ≡ master_length cut.splice.cues
   count_is made =
-      let some : 0 < channel_number cut = omega (arith, can.shaped.some_channel) in
-      channel_long 0 some (get_or zs 0 []) (zip_number (IsMasterChannel cut) (channel_number cut) zs 0 [] made some)
+      let some : 0 < take_channels cut = omega (arith, can.shaped.some_channel) in
+      channel_long 0 some (get_or zs 0 []) (zip_number (IsMasterChannel cut) (take_channels cut) zs 0 [] made some)
 
   cued : AreMasterChannels cut zs → HoldCues cut (channel_numbers cut) zs
-  cued made = zip_range (IsMasterChannel cut) (λ c z. z ≡ rebuilt cut c z) (channel_number cut) 0 zs (λ c z low high m. is_rebuilt (plain_cut cut) can c (omega arith) z m.bridges m.lengths m.made) made
+  cued made = zip_range (IsMasterChannel cut) (λ c z. z ≡ rebuilt cut c z) (take_channels cut) 0 zs (λ c z low high m. is_rebuilt (plain_cut cut) can c (omega arith) z m.bridges m.lengths m.made) made
 
   -- its bridges can be shown to be least
   showable : AreLeastChannels cut zs → All IsShowable (claims cut zs)
@@ -87,7 +87,7 @@ module _ (project : List ℕ) (files : List (List ℕ)) (cut : CutContent) (says
       let below : i < length cut.splice.cues - 1 = omega (arith, lt) in
       let ps = parts_of cut c in
       let d = part_at cut c i in
-      let z = zip_number (IsLeastChannel cut) (channel_number cut) zs c [] least there in
+      let z = zip_number (IsLeastChannel cut) (take_channels cut) zs c [] least there in
       let at = zip_at IsLeastPart ps z.bridges i d [] z.least (omega (arith, part_number (plain_cut cut) can c there, below)) in
       let own = subst (λ (q : Part). IsLeastPart q (get_or z.bridges i [])) (part_is (plain_cut cut) can c there i d below) at in
       let bits = bridge_in_channel (plain_cut cut) can c there (get_or zs c []) z.bridges (least_lengths ps z.bridges z.least) z.made i below in
@@ -109,7 +109,7 @@ least_is_accepted = λ project files master cert own least text.
     let are_least : AreLeastChannels cut zs = subst (λ (k : CutContent). AreLeastChannels k zs) least_cut (subst (λ (r : Content). AreLeastChannels least.cut r.channels) least_held least.least) in
     let is_text : cert ≡ cert_of cut zs = text.text ∙ (λ j. cert_of (text_cut j) (text_held j).channels) in
     let is_master : IsMasterOf cut own.form own.recording = record {
-      shape = record { same_rate = own.same_rate; as_many_channels = zip_numbers_long (IsMasterChannel cut) (channel_number cut) zs made };
+      shape = record { same_rate = own.same_rate; as_many_channels = zip_numbers_long (IsMasterChannel cut) (take_channels cut) zs made };
       long = count_is project files cut own.says zs made;
       titled = own.titled;
       cued = cued project files cut own.says zs made;

@@ -1,4 +1,4 @@
--- What is edited is what a project and takes come to, and which fault stands first.
+-- What is edited is what a project and takes come to, and which fault comes first.
 use Rattle.std.proofs.Common.{◌≡◌, ℕ, Bool, List, length, None, Some, refl, sym, ap, subst, ◌∙◌}
 use Rattle.dsd_bits.specs.Channels.{count_of}
 use Rattle.dsd_bits.specs.Contents.{Content}
@@ -22,7 +22,7 @@ use Rattle.judge_core.specs.Accepting.{Accepts, CostsLeast, CostsWindows, IsMast
 use Rattle.archive_core.specs.Editing.{IsCertificate}
 use Rattle.judge_core.specs.Cutting.{SaysCut}
 
--- no form is none that is asked for
+-- where no form is asked for, none is refused
 no_form : (form : Form) → None ≡ Some form → ⊥
 no_form form e = absurd cc
 
@@ -36,17 +36,17 @@ any_form project files form cut says = record {
 
 -- one cut comes to one master
 pub one_answer : (s t : CutContent) (form : Form) (p q : Content) (made file : List ℕ) (m n : ℕ) → s ≡ t → IsBestMaster s form p m → IsBestMaster t form q n → text_in form p ≡ Some made → text_in form q ≡ Some file → (made ≡ file) × (m ≡ n)
-one_answer s t form p q made file m n e h k text told =
+one_answer s t form p q made file m n e h k text reported =
     let both = one_master t form p q m n (subst (λ (x : CutContent). IsBestMaster x form p m) e h) k in
-    let texts : Some made ≡ Some file = sym text ∙ ap (text_in form) both.0 ∙ told in
+    let texts : Some made ≡ Some file = sym text ∙ ap (text_in form) both.0 ∙ reported in
     let same : made ≡ file = cc in
     (same, both.1)
 
 -- one cut has one file in a form
 pub one_file : (cut : CutContent) (form : Form) (xs ys : List (List Bool)) (made file : List ℕ) → AreBestChannels cut xs → AreBestChannels cut ys → text_in form (master_of cut form xs) ≡ Some made → text_in form (master_of cut form ys) ≡ Some file → made ≡ file
-one_file cut form xs ys made file h k text told =
+one_file cut form xs ys made file h k text reported =
     let both = one_answer cut cut form (master_of cut form xs) (master_of cut form ys) made file (total_cost cut xs) (total_cost cut ys) refl
-    (record { channels = xs; best = h; recording_is = refl; cost_is = refl }) (record { channels = ys; best = k; recording_is = refl; cost_is = refl }) text told in
+    (record { channels = xs; best = h; recording_is = refl; cost_is = refl }) (record { channels = ys; best = k; recording_is = refl; cost_is = refl }) text reported in
     both.0
 
 -- a cut into whole bytes fits a file of the form

@@ -6,7 +6,7 @@ ghost use Rattle.archive_core.specs.Editing.{AnswersEdited, Edits, IsCertificate
 ghost use Rattle.archive_core.specs.Planning.{CertifiesPlanned, IsFileOf, IsPlanned, IsSamePlan};
 ghost use Rattle.judge_core.specs.Cutting.{said_cut};
 ghost use Rattle.cut_core.specs.Opening.{file_bytes};
-ghost use Rattle.form_core.specs.Steps.{Fails};
+ghost use Rattle.form_core.specs.Steps.{FailsUnless};
 
 use crate::planning::{PlannedMaster, plan_master};
 use chunk_core::Outlet;
@@ -60,7 +60,7 @@ pub fn edit(alloc: Global, project: &[u8], takes: &[Vec<u8>], form: Form) -> Res
     ensures only { (master : List ℕ) (cost : ℕ) → Edits project.now (file_bytes takes.now) form master cost
         → AnswersEdited result master cost }
     // Which fault it is: the first of the project, its splice and its cut.
-    ensures refused { IfErr result (λ fault. Fails Fault.Memory fault
+    ensures refused { IfErr result (λ fault. FailsUnless Fault.Memory fault
         (said_cut project.now (file_bytes takes.now) (Some form))) }
 {
     let cut = cut_files(alloc, project, takes, Some(form))?;
@@ -94,7 +94,7 @@ fn cert_of(alloc: Global, planned: PlannedMaster) -> Result<Vec<u8>, AllocError>
     requires { IsPlanned planned }
     ensures { IfOk result (λ cert. CertifiesPlanned planned cert.items) }
 {
-    let (came, outlet) = planned.write_certificate(Outlet::new(Vec::new(alloc)));
+    let (came, outlet) = planned.write_certificate(Outlet::new(Vec::new(alloc)), &Unwatched {});
     match came {
         Ok(()) => Ok(outlet.into_inner()),
         Err(_) => Err(AllocError),

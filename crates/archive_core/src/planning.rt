@@ -31,8 +31,8 @@ pub struct PlannedMaster {
     cert_room: CertifyingRoom,
 }
 
-/// The master of a cut, before it is written. The cut must be for a file of the form. The watch is told how far the search
-/// for its bridges has come.
+/// The master of a cut, before it is written. The cut must be for a file of the form. The watch is told how large
+/// its files will be, and how far the search for its bridges has come.
 ///
 /// Refusals: `Memory`; `NotWholeBytes` only for a cut that is not for a file of the form.
 pub fn plan_master<W: Watch>(
@@ -114,10 +114,14 @@ impl PlannedMaster {
 
     /// Writes the certificate of the master to an outlet, and returns the outlet. The text is a function of the
     /// project, the takes and the bits of the bridges. The rows of each bridge are made while they are written. It
-    /// takes no memory.
+    /// takes no memory. The watch is told how many bridges were written.
     ///
     /// Refusal: `Device` if a write fails; a prefix of the certificate was written.
-    pub fn write_certificate<W: Write>(self, outlet: Outlet<W>) -> (Result<(), Device>, Outlet<W>)
+    pub fn write_certificate<W: Write, T: Watch>(
+        self,
+        outlet: Outlet<W>,
+        watch: &T,
+    ) -> (Result<(), Device>, Outlet<W>)
         requires planned { IsPlanned self }
         requires ready { outlet_failures outlet < 2 ^ 64 - 1 }
         ensures ok { OnOk result.0 (AppendsCert self.cut self.bridges (W.contents (outlet_writer outlet))
@@ -136,6 +140,6 @@ impl PlannedMaster {
             room: _,
             cert_room,
         } = self;
-        certify(&cut, &bridges, cert_room, outlet)
+        certify(&cut, &bridges, cert_room, outlet, watch)
     }
 }

@@ -37,8 +37,8 @@ const CHANGED: [(usize, usize, u8, &str); 5] = [
 fn names_the_fault_of_a_changed_file(rt: HostRuntime) {
     let alloc = rt.alloc();
     for (length, place, byte, line) in &CHANGED {
-        let (front, _) = FILE.split_at((*length).min(128));
-        let file = changed(alloc, front, *place, &[*byte]);
+        let (prefix, _) = FILE.split_at((*length).min(128));
+        let file = changed(alloc, prefix, *place, &[*byte]);
         assert!(rt;
             is_refused(alloc, DECIMATE, file, line).unwrap_or(false),
             "{line}"

@@ -187,9 +187,9 @@ fn check_reads(rt: &impl Abort, alloc: Global, ones: &Outline)
 fn stops_writing(alloc: Global, ones: &Outline, writer: Sipping, count: usize) -> bool
     requires { AreStated (around_of ones.now) }
 {
-    let (front, _) = ONES_FILE.split_at(count.min(132));
+    let (prefix, _) = ONES_FILE.split_at(count.min(132));
     let reader = drip(&ONES_FILE, 4096, NEVER);
-    convert_from(alloc, ones, Form::Dsdiff, reader, writer).stops_writing(front)
+    convert_from(alloc, ones, Form::Dsdiff, reader, writer).stops_writing(prefix)
 }
 
 // Each write takes one byte. A writer that is full from the first write on takes nothing.
@@ -206,7 +206,7 @@ fn check_writes(rt: &impl Abort, alloc: Global, ones: &Outline)
 }
 
 #[test]
-fn a_failed_read_or_write_leaves_a_front(rt: HostRuntime) {
+fn a_failed_read_or_write_leaves_a_prefix(rt: HostRuntime) {
     let ones = outline_of(rt.alloc(), &ONES_FILE);
     assert!(rt; ones.is_ok(), "the outline");
     if let Ok(ones) = ones {

@@ -24,8 +24,8 @@ const CUTS: [(usize, usize, &str); 3] = [
 fn is_read_whole_alone(alloc: Global, file: &[u8]) -> Result<bool, AllocError> {
     for (first, end, expected) in &CUTS {
         for length in *first..*end {
-            let (front, _) = file.split_at(length.min(file.len()));
-            if !is_unread(alloc, front, expected)? {
+            let (prefix, _) = file.split_at(length.min(file.len()));
+            if !is_unread(alloc, prefix, expected)? {
                 return Ok(false);
             }
         }

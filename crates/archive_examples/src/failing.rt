@@ -34,8 +34,8 @@ fn stops_reading(alloc: Global, read: u64) -> bool {
 
 // Whether this writer ends with exactly `count` bytes of the WAVE file.
 fn stops_writing(alloc: Global, writer: Sipping, count: usize) -> bool {
-    let (front, _) = ONES.split_at(count.min(54));
-    write_failing(alloc, writer).stops_writing(front)
+    let (prefix, _) = ONES.split_at(count.min(54));
+    write_failing(alloc, writer).stops_writing(prefix)
 }
 
 // After 128 bytes, which are two of the sound, no sample is due: the first needs bit 32.
@@ -48,7 +48,7 @@ fn a_failed_read_leaves_the_header(rt: HostRuntime) {
 
 // The form has 132 bytes, one per read, and no byte after it is read.
 #[test]
-fn a_failed_read_leaves_a_front(rt: HostRuntime) {
+fn a_failed_read_leaves_a_prefix(rt: HostRuntime) {
     for read in 1..=132 {
         assert!(rt; stops_reading(rt.alloc(), read), "read {read} fails");
     }
@@ -56,7 +56,7 @@ fn a_failed_read_leaves_a_front(rt: HostRuntime) {
 
 // Each write takes one byte. A writer that is full from the first write on takes nothing.
 #[test]
-fn a_failed_write_leaves_a_front(rt: HostRuntime) {
+fn a_failed_write_leaves_a_prefix(rt: HostRuntime) {
     let alloc = rt.alloc();
     for count in 0..54 {
         let write = count as u64 + 1;
@@ -69,7 +69,7 @@ fn a_failed_write_leaves_a_front(rt: HostRuntime) {
 
 // There is no read after the form, and no write after the end.
 #[test]
-fn nothing_behind_the_end_fails(rt: HostRuntime) {
+fn nothing_after_the_end_fails(rt: HostRuntime) {
     let alloc = rt.alloc();
     let played = read_failing(alloc, 133);
     assert!(rt; played.plays(&ONES) && played.reads == 132);
@@ -112,7 +112,7 @@ fn check_blocks(rt: &impl Abort, alloc: Global) -> Result<(), Fault> {
 // The DSF file of two groups of blocks has 16,481 bytes. These are 2355 reads: the 14th reaches the sound, the 1184th
 // the second group, and the last the file's end. One more read gives nothing.
 #[test]
-fn a_failed_read_of_blocks_leaves_a_front(rt: HostRuntime) {
+fn a_failed_read_of_blocks_leaves_a_prefix(rt: HostRuntime) {
     assert!(rt; check_blocks(&rt, rt.alloc()).is_ok());
 }
 

@@ -82,17 +82,17 @@ fn asks_for_files_in_order(rt: HostRuntime) {
 }
 
 // Whether the file holds its first `room` bytes if there is no room for more.
-fn keeps_front(alloc: Global, room: usize) -> Result<bool, AllocError> {
+fn keeps_prefix(alloc: Global, room: usize) -> Result<bool, AllocError> {
     let mut folder = WatchedFolder::over(alloc, folder(alloc)?, ("write", "out", room));
     let failed = comes_to_watched(alloc, &mut folder, PLAY, 2, "fault: WriteFailed")?;
-    let (front, _) = WAVE.split_at(room.min(46));
-    Ok(failed && holds(&folder.files, "out", front))
+    let (prefix, _) = WAVE.split_at(room.min(46));
+    Ok(failed && holds(&folder.files, "out", prefix))
 }
 
 #[test]
-fn keeps_a_front_after_a_failed_write(rt: HostRuntime) {
+fn keeps_a_prefix_after_a_failed_write(rt: HostRuntime) {
     let alloc = rt.alloc();
     for room in 0..46 {
-        assert!(rt; keeps_front(alloc, room).unwrap_or(false), "{room}");
+        assert!(rt; keeps_prefix(alloc, room).unwrap_or(false), "{room}");
     }
 }

@@ -33,8 +33,8 @@ struct Awaited<'a> {
 
 impl Write for Awaited<'_> {
     fn write(&mut self, buffer: &[u8]) -> io::Result<usize> {
-        let (front, left) = self.left.split_at(buffer.len().min(self.left.len()));
-        if front != buffer {
+        let (prefix, left) = self.left.split_at(buffer.len().min(self.left.len()));
+        if prefix != buffer {
             return Err(io::Error::from(ErrorKind::InvalidData));
         }
         self.left = left;
@@ -257,25 +257,25 @@ fn a_file_is_converted_in_blocks(rt: HostRuntime) -> Result<(), Fail> {
 }
 
 // How many bits a channel of a file has. The file isn't held.
-fn count_told(alloc: Global, file: &[u8]) -> Result<usize, Fault> {
+fn count_reported(alloc: Global, file: &[u8]) -> Result<usize, Fault> {
     let files: [(&str, &[u8]); 1] = [("in", file)];
     let mut shelf = shelf_of(&files);
     match open_file(alloc, &mut shelf, "in") {
-        Ok(told) => Ok(told.description.count()),
+        Ok(reported) => Ok(reported.description.count()),
         Err(fault) => Err(fault_of(Outcome::from(fault))),
     }
 }
 
 #[test]
-fn a_file_is_told_of_in_one_pass(rt: HostRuntime) -> Result<(), Fail> {
+fn a_file_is_reported_in_one_pass(rt: HostRuntime) -> Result<(), Fail> {
     let alloc = rt.alloc();
-    assert!(rt; count_told(alloc, &commented(alloc)?)? == 8);
-    assert!(rt; count_told(alloc, &tagged(alloc, 1, 0x0f)?)? == 8);
+    assert!(rt; count_reported(alloc, &commented(alloc)?)? == 8);
+    assert!(rt; count_reported(alloc, &tagged(alloc, 1, 0x0f)?)? == 8);
     Ok(())
 }
 
 // How many takes are read from files that aren't held.
-fn takes_heard(alloc: Global, sources: &Sources) -> Result<usize, Fault> {
+fn takes_read(alloc: Global, sources: &Sources) -> Result<usize, Fault> {
     let [first, second] = &sources.takes;
     let files: [(&str, &[u8]); 3] = [
         ("e.toml", sources.text.as_bytes()),
@@ -291,7 +291,7 @@ fn takes_heard(alloc: Global, sources: &Sources) -> Result<usize, Fault> {
 
 // One is in frames and one in blocks.
 #[test]
-fn takes_are_heard_in_one_pass(rt: HostRuntime) -> Result<(), Fail> {
+fn takes_are_read_in_one_pass(rt: HostRuntime) -> Result<(), Fail> {
     let alloc = rt.alloc();
     let second = dsf_of(alloc, (2, 1, 16), &[0xf0], 8192, b"a tag");
     let sources = sources_of(
@@ -299,7 +299,7 @@ fn takes_are_heard_in_one_pass(rt: HostRuntime) -> Result<(), Fail> {
         stereo(alloc, &[0xff; 4]),
         second,
     )?;
-    assert!(rt; takes_heard(alloc, &sources)? == 2);
+    assert!(rt; takes_read(alloc, &sources)? == 2);
     Ok(())
 }
 

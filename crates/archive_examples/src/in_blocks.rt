@@ -29,9 +29,9 @@ fn converted<F: Folder>(
 }
 
 // What is reported of `in` in a folder, as it is printed.
-fn told<F: Folder>(alloc: Global, folder: &mut F) -> Result<String, AllocError> {
+fn reported<F: Folder>(alloc: Global, folder: &mut F) -> Result<String, AllocError> {
     let outcome = match open_file(alloc, folder, "in") {
-        Ok(told) => Outcome::Info(told),
+        Ok(reported) => Outcome::Info(reported),
         Err(fault) => Outcome::from(fault),
     };
     outcome_line(alloc, &outcome)
@@ -46,7 +46,7 @@ fn said(
 ) -> Result<String, AllocError> {
     match form {
         Some(form) => converted(alloc, folder, form, most),
-        None => told(alloc, folder),
+        None => reported(alloc, folder),
     }
 }
 
@@ -91,7 +91,7 @@ fn is_built_alike(alloc: Global, file: Result<Vec<u8>, AllocError>) -> bool {
 
 // Each form, two channels, and what has a place in only one of the forms.
 #[test]
-fn converts_and_tells_alike(rt: HostRuntime) {
+fn converts_and_reports_alike(rt: HostRuntime) {
     let alloc = rt.alloc();
     assert!(rt; is_built_alike(alloc, file_in(alloc, Form::Dsdiff)));
     assert!(rt; is_built_alike(alloc, file_in(alloc, Form::Dsf)));

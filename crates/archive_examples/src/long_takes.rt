@@ -144,14 +144,14 @@ fn number_of(sources: Excerpts) -> Result<usize, Fault> {
 }
 
 // How many takes are read in a folder if each is treated as a long one.
-fn number_heard(alloc: Global, folder: &mut WatchedFolder) -> Result<usize, CommandFault> {
+fn number_kept(alloc: Global, folder: &mut WatchedFolder) -> Result<usize, CommandFault> {
     let sources = source_excerpts(alloc, folder, "e.toml")?;
     Ok(number_of(sources)?)
 }
 
 // Whether this line is their number, or the fault as it is printed.
 fn are_excerpts(alloc: Global, folder: &mut WatchedFolder, line: &str) -> Result<bool, AllocError> {
-    let said = match number_heard(alloc, folder) {
+    let said = match number_kept(alloc, folder) {
         Ok(number) => format!(in alloc; "takes {number}"),
         Err(fault) => outcome_line(alloc, &Outcome::from(fault)),
     };
@@ -199,13 +199,8 @@ const CALLS: [Case; 4] = [
     ),
 ];
 
-// One that holds no recording is opened again if one reading doesn't find its fault, as that of a chunk that is longer
-// than its form.
-const REFUSED: Case = (
-    NOTHING,
-    UNREAD,
-    "open e.toml\nopen a.dff\nopen b.dff\nopen b.dff\n",
-);
+// So is one that holds no recording.
+const REFUSED: Case = (NOTHING, UNREAD, "open e.toml\nopen a.dff\nopen b.dff\n");
 
 // Whether reading the takes, of which this is the second, ends as a case says.
 fn asks(alloc: Global, second: &[u8], (failure, line, calls): &Case) -> Result<bool, AllocError> {
@@ -225,16 +220,15 @@ fn opens_takes_once(rt: HostRuntime) {
 
 // Whether reading ends with this line if the second take is cut off at first, and whole after files were opened `often`
 // times.
-fn is_heard_changed(alloc: Global, often: usize, line: &str) -> Result<bool, AllocError> {
+fn is_read_changed(alloc: Global, often: usize, line: &str) -> Result<bool, AllocError> {
     let files = folder_with(alloc, &CUT_OFF, &ZEROS)?;
     let mut folder = WatchedFolder::over(alloc, files, ("change", "", often));
     are_excerpts(alloc, &mut folder, line)
 }
 
-// It counts what the file is when it is opened last.
+// It counts what the file is when it is opened.
 #[test]
-fn hears_a_take_as_it_is_opened(rt: HostRuntime) {
-    assert!(rt; is_heard_changed(rt.alloc(), 2, "takes 2").unwrap_or(false));
-    assert!(rt; is_heard_changed(rt.alloc(), 3, "takes 2").unwrap_or(false));
-    assert!(rt; is_heard_changed(rt.alloc(), 4, UNREAD).unwrap_or(false));
+fn reads_a_take_as_it_is_opened(rt: HostRuntime) {
+    assert!(rt; is_read_changed(rt.alloc(), 2, "takes 2").unwrap_or(false));
+    assert!(rt; is_read_changed(rt.alloc(), 3, UNREAD).unwrap_or(false));
 }

@@ -14,9 +14,9 @@ use std::alloc::{AllocError, Global};
 // `bare`, nothing may be written, else a prefix of these bytes.
 fn are_cut(alloc: Global, file: &[u8], (bare, end): (usize, usize), wave: &[u8]) -> bool {
     for length in 0..end.min(file.len()) {
-        let front = if length < bare { b"" } else { wave };
+        let prefix = if length < bare { b"" } else { wave };
         let played = play_by(alloc, DECIMATE.as_bytes(), &file[..length], 4096);
-        if !played.is_refused(StreamFault::FileRefused, front) {
+        if !played.is_refused(StreamFault::FileRefused, prefix) {
             return false;
         }
     }
@@ -151,9 +151,9 @@ fn ends_in(alloc: Global, file: &[u8], (most, reads): (usize, u64), plays: bool)
 // The same for a file of 100,000 bytes that begins like this, by reads of one byte, of 7 and of 4096 bytes.
 fn is_read(
     alloc: Global,
-    (front, [by_1, by_7, by_4096], plays): (&[u8], [u64; 3], bool),
+    (prefix, [by_1, by_7, by_4096], plays): (&[u8], [u64; 3], bool),
 ) -> Result<bool, AllocError> {
-    let file = filled(alloc, front, 100_000)?;
+    let file = filled(alloc, prefix, 100_000)?;
     Ok(
         ends_in(alloc, &file, (1, by_1), plays)
             && ends_in(alloc, &file, (7, by_7), plays)
@@ -162,7 +162,7 @@ fn is_read(
 }
 
 #[test]
-fn no_more_is_read_than_tells(rt: HostRuntime) {
+fn no_more_is_read_than_is_needed(rt: HostRuntime) {
     for row in &READS {
         assert!(rt; is_read(rt.alloc(), *row).unwrap_or(false), "{:?}", row.1);
     }

@@ -97,13 +97,13 @@ fn asks_for_takes_by_number(rt: HostRuntime) {
 
 // Whether cutting `CUES` fails if the certificate has room for only `room` bytes, and leaves a whole master and these
 // bytes.
-fn leaves_a_front(alloc: Global, cert: &[u8], room: usize) -> Result<bool, AllocError> {
+fn leaves_a_prefix(alloc: Global, cert: &[u8], room: usize) -> Result<bool, AllocError> {
     let folder = folder_by(alloc, "1, 0", &CUES)?;
     let mut watched = WatchedFolder::over(alloc, folder, ("write", "c.cert", room));
     let failed = comes_to_watched(alloc, &mut watched, CUT, 2, "fault: WriteFailed")?;
-    let (front, _) = cert.split_at(room.min(cert.len()));
+    let (prefix, _) = cert.split_at(room.min(cert.len()));
     let master = holds(&watched.files, "m.dff", &with_sounds([0xff, 0]));
-    Ok(failed && master && holds(&watched.files, "c.cert", front))
+    Ok(failed && master && holds(&watched.files, "c.cert", prefix))
 }
 
 // The certificate has 46 bytes.
@@ -112,7 +112,7 @@ fn leaves_the_master_where_the_certificate_is_not_written(rt: HostRuntime) {
     let alloc = rt.alloc();
     for room in 0..46 {
         assert!(rt;
-            leaves_a_front(alloc, &CERT, room).unwrap_or(false),
+            leaves_a_prefix(alloc, &CERT, room).unwrap_or(false),
             "{room}"
         );
     }

@@ -3,7 +3,7 @@
 use crate::played::{play_by, plays_built};
 use crate::streamed::is_named;
 use archive_core::StreamFault;
-use fixtures::files::{DSF_FRONT, FILE, MONO, RATE, RAW, WAVE, changed, file_of, one_bit};
+use fixtures::files::{DSF_HEADER, FILE, MONO, RATE, RAW, WAVE, changed, file_of, one_bit};
 use fixtures::projects::{DECIMATE, Numbers, SPLICE, project};
 use fixtures::waves::sample;
 use std::alloc::{AllocError, Global};
@@ -72,15 +72,15 @@ fn a_rate_is_refused_before_the_first_write(rt: HostRuntime) {
 // The header of a DSF file without its sound: the number of channels, the bits of each, and the size of the chunk
 // `data`.
 fn head_of(alloc: Global, (number, count, size): Claim) -> Result<Vec<u8>, AllocError> {
-    let front = DSF_FRONT.as_slice();
+    let prefix = DSF_HEADER.as_slice();
     let number = number.to_le_bytes();
     [
-        &front[..48],
+        &prefix[..48],
         &number,
         &number,
-        &front[56..64],
+        &prefix[56..64],
         &count.to_le_bytes(),
-        &front[72..84],
+        &prefix[72..84],
         &size.to_le_bytes(),
     ]
     .concat(alloc)

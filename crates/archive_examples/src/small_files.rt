@@ -108,7 +108,7 @@ fn plays_the_edges_of_33_taps(rt: HostRuntime) -> Result<(), Fail> {
 
 // A mark after the sound, and a tag after two groups of blocks.
 #[test]
-fn keeps_what_stands_behind_the_sound(rt: HostRuntime) -> Result<(), Fail> {
+fn keeps_what_stands_after_the_sound(rt: HostRuntime) -> Result<(), Fail> {
     let alloc = rt.alloc();
     let form = noted(alloc, 200)?;
     check_played(&rt, alloc, (DECIMATE, &form, 100), &WAVE)?;
@@ -118,7 +118,7 @@ fn keeps_what_stands_behind_the_sound(rt: HostRuntime) -> Result<(), Fail> {
 }
 
 // Whether what follows three bytes is played to these, from an inlet that already gave the three.
-fn plays_behind(alloc: Global, bytes: &[u8], wave: &[u8]) -> bool {
+fn plays_after(alloc: Global, bytes: &[u8], wave: &[u8]) -> bool {
     let mut inlet = Inlet::new(drip(bytes, 100, NEVER));
     let pulled = inlet.pull(&mut [0; 3]);
     let played = play_on(alloc, DECIMATE.as_bytes(), inlet, sip(alloc, NEVER, NEVER));
@@ -126,22 +126,22 @@ fn plays_behind(alloc: Global, bytes: &[u8], wave: &[u8]) -> bool {
 }
 
 // The same for a file after three other bytes.
-fn plays_behind_others(
+fn plays_after_others(
     alloc: Global,
     file: Result<Vec<u8>, AllocError>,
     wave: &[u8],
 ) -> Result<bool, AllocError> {
     let file = file?;
     let bytes = [b"abc".as_slice(), &file].concat(alloc)?;
-    Ok(plays_behind(alloc, &bytes, wave))
+    Ok(plays_after(alloc, &bytes, wave))
 }
 
 // What the inlet counted before doesn't count for the file.
 #[test]
-fn plays_files_behind_other_bytes(rt: HostRuntime) {
+fn plays_files_after_other_bytes(rt: HostRuntime) {
     let alloc = rt.alloc();
-    assert!(rt; plays_behind_others(alloc, mono(alloc, &[0xf0]), &WAVE).unwrap_or(false));
+    assert!(rt; plays_after_others(alloc, mono(alloc, &[0xf0]), &WAVE).unwrap_or(false));
     assert!(rt;
-        plays_behind_others(alloc, one_bit(alloc, b"a tag"), &sample([4, 0])).unwrap_or(false)
+        plays_after_others(alloc, one_bit(alloc, b"a tag"), &sample([4, 0])).unwrap_or(false)
     );
 }

@@ -108,7 +108,7 @@ fn unlike(alloc: Global) -> Result<MemoryFolder, AllocError> {
 }
 
 #[test]
-fn reads_master_and_certificate_before_it_tells_of_takes(rt: HostRuntime) {
+fn reads_master_and_certificate_before_it_reports_takes(rt: HostRuntime) {
     let alloc = rt.alloc();
     for asked in &UNCUT {
         let said = asks(alloc, unlike(alloc), CHECK, asked);

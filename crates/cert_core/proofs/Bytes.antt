@@ -1,4 +1,4 @@
--- Numbers in so many bytes each, the highest byte first.
+-- Numbers of n bytes each, the highest byte first.
 use Rattle.std.proofs.Common.{◌≡◌, ℕ, zero, suc, ◌+◌, ◌*◌, ◌-◌, ◌/◌, ◌%◌, ◌^◌, ◌<◌, ◌≤◌, List, [], ◌∷◌, ◌++◌, refl, sym, ap, ap₂, ◌∙◌, subst, append_assoc, length, take, drop, get_or, set, inl, inr, arith}
 use Rattle.std.specs.List.{flat_map}
 use Rattle.std.specs.Int.{w64, to_be_bytes, byte_at, bytes_high_first}
@@ -41,7 +41,7 @@ high_shifted w p n bytes few is =
     let spare : 8 * (8 - w) ≡ 64 - 8 * w = omega arith in
     sym (take-take w 8 (drop p bytes) few) ∙ ap (take w) (is ∙ ap (λ m. bytes_high_first m n) e) ∙ high_part w (8 - w) n ∙ ap (λ m. bytes_high_first w (n / 2 ^ m)) spare
 
--- and they hold no more than so many bytes can
+-- and they hold no more than n bytes can
 pub high_small : (w n : ℕ) → w ≤ 8 → n < 2 ^ 64 → n / 2 ^ (64 - 8 * w) < 256 ^ w
 high_small w n few small =
     let e : 64 ≡ 8 * w + (64 - 8 * w) = omega arith in
@@ -76,7 +76,7 @@ high_inj w a b ha hb e =
     let hb2 : b < 2 ^ (8 * w) = subst (λ m. b < m) (pow_bytes w) hb in
     sym (mod-eq_of_lt ha2) ∙ same_low w a b e ∙ mod-eq_of_lt hb2
 
--- numbers of so many bytes each are read in one way
+-- numbers of n bytes each are read in one way
 pub highs_inj : (w : ℕ) (over over2 : List ℕ) → length over ≡ length over2 → ((q : ℕ) → get_or over q 0 < 256 ^ w) → ((q : ℕ) → get_or over2 q 0 < 256 ^ w) → (r r2 : List ℕ)
     → flat_map (bytes_high_first w) over ++ r ≡ flat_map (bytes_high_first w) over2 ++ r2 → (over ≡ over2) × (r ≡ r2)
 highs_inj w [] [] n f f2 r r2 e = (refl, e)
@@ -114,7 +114,7 @@ fits_more w i v row small low before q h = elim (cases_lt q i) [
       subst (λ k. get_or (set row i v) k 0 < 256 ^ w) e (subst (λ x. x < 256 ^ w) (sym (get_or-set_same row i v 0 low)) small)
 ]
 
--- and none behind the row
+-- and none after the row
 pub fits_all : (w n : ℕ) (row : List ℕ) → length row ≡ n → ((q : ℕ) → q < n → get_or row q 0 < 256 ^ w) → (q : ℕ) → get_or row q 0 < 256 ^ w
 fits_all w n row e fits q = elim (cases_lt q n) [
   | inl lt ↦ fits q lt

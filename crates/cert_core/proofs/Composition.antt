@@ -71,7 +71,7 @@ cert_has_head weights claims bytes (v, entries, shown, is) =
     let (are, n) = are_entries v claims entries shown in
     (v, flat_map (cert_entry v) entries, is ∙ ap (λ k. cert_head v weights k ++ flat_map (cert_entry v) entries) n)
 
--- a head tells its version
+-- a head states its version
 head_tells : (v v2 : Version) (weights n weights2 n2 : ℕ) (r r2 : List ℕ) → cert_head v weights n ++ r ≡ cert_head v2 weights2 n2 ++ r2 → v ≡ v2
 head_tells One One weights n weights2 n2 r r2 e = refl
 head_tells Two Two weights n weights2 n2 r r2 e = refl
@@ -104,14 +104,14 @@ rows_once v m rows rows2 s s2 r r2 are are2 n is = none (rows_inj v m rows2 rows
   none ([], e, a, same) = sym (ap (drop 8) same)
   none (row ∷ more, e, a, same) = absurd (omega (arith, n, ap length e, length-append rows2 (row ∷ more)))
 
--- an entry of a claim, parted behind its start and its rows
+-- an entry of a claim, parted after its start and its rows
 entry_parts : (v : Version) (claim : Claim) (rows : List (List ℕ)) (stated : ℕ) (e r : List ℕ) → e ≡ cert_entry v (record { cue = claim.cue; channel = claim.channel; levels = claim.bridging.levels; rows = rows; cost = stated })
     → drop 6 (e ++ r) ≡ flat_map (row_text v) rows ++ (to_be_bytes w64 stated ++ r)
 entry_parts v claim rows stated e r is =
     let body = flat_map (row_text v) rows ++ to_be_bytes w64 stated in
     ap (λ l. drop 6 (l ++ r)) is ∙ append_assoc (flat_map (row_text v) rows) (to_be_bytes w64 stated) r
 
--- entries of the same claim at the front of the same bytes end at the same place
+-- entries of the same claim at the start of the same bytes end at the same place
 same_rest : (v : Version) (claim : Claim) (e e2 r r2 : List ℕ) → IsEntryOf v claim e → IsEntryOf v claim e2 → e ++ r ≡ e2 ++ r2 → r ≡ r2
 same_rest v claim e e2 r r2 (rows, stated, table, valid, is) (rows2, stated2, table2, valid2, is2) whole =
     let t = trellis_of claim.bridging in
@@ -119,14 +119,14 @@ same_rest v claim e e2 r r2 (rows, stated, table, valid, is) (rows2, stated2, ta
     (sym (entry_parts v claim rows stated e r is) ∙ ap (drop 6) whole ∙ entry_parts v claim rows2 stated2 e2 r2 is2)
 
 pub next_is_read : NextIsRead
-next_is_read v [] claim more front after none (entry, rest, is, w, are) = (entry, rest, sym (ap (λ l. l ++ after) none) ∙ is, w)
-next_is_read v (c ∷ claims) claim more front after (first, rest, is, w, are) (entry, rest2, is2, w2, are2) =
+next_is_read v [] claim more prefix after none (entry, rest, is, w, are) = (entry, rest, sym (ap (λ l. l ++ after) none) ∙ is, w)
+next_is_read v (c ∷ claims) claim more prefix after (first, rest, is, w, are) (entry, rest2, is2, w2, are2) =
     let e : rest ++ after ≡ rest2 = same_rest v c first entry (rest ++ after) rest2 w w2 (sym (append_assoc first rest after) ∙ sym (ap (λ l. l ++ after) is) ∙ is2) in
     next_is_read v claims claim more rest after are (subst (AreEntries v (claims ++ claim ∷ more)) (sym e) are2)
 
 pub nothing_follows : NothingFollows
-nothing_follows v [] front after none all = sym (ap (λ l. l ++ after) none) ∙ all
-nothing_follows v (c ∷ claims) front after (first, rest, is, w, are) (entry, rest2, is2, w2, are2) =
+nothing_follows v [] prefix after none all = sym (ap (λ l. l ++ after) none) ∙ all
+nothing_follows v (c ∷ claims) prefix after (first, rest, is, w, are) (entry, rest2, is2, w2, are2) =
     let e : rest ++ after ≡ rest2 = same_rest v c first entry (rest ++ after) rest2 w w2 (sym (append_assoc first rest after) ∙ sym (ap (λ l. l ++ after) is) ∙ is2) in
     nothing_follows v claims rest after are (subst (AreEntries v claims) (sym e) are2)
 

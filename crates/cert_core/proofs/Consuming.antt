@@ -33,9 +33,9 @@ maps (Err (Reason reason)) P Q f p = f reason p
 maps (Err Device) P Q f p = tt
 maps (Err Memory) P Q f p = tt
 
--- what an exit says of the stop that it hands on
-pub told_back : {A : Type 0} (r : Result A Stop) (stop : Stop) (P : CertReason → Type 0) → r ≡ Err stop → OnReason {T = A} (Err stop) P → OnReason r P
-told_back r stop P is = subst (λ r. OnReason r P) (sym is)
+-- what an exit says of the fault that it passes on
+pub stated_back : {A : Type 0} (r : Result A Stop) (stop : Stop) (P : CertReason → Type 0) → r ≡ Err stop → OnReason {T = A} (Err stop) P → OnReason r P
+stated_back r stop P is = subst (λ r. OnReason r P) (sym is)
 
 pub counted_back : {A : Type 0} (r : Result A Stop) (stop : Stop) (new old : ℕ) → r ≡ Err stop → new ≡ old + failed_stops {T = A} (Err stop) → new ≡ old + failed_stops r
 counted_back r stop new old is = subst (λ r. new ≡ old + failed_stops r) (sym is)

@@ -35,18 +35,18 @@ own_held Two m row rest long fits =
     let each : (q : ℕ) → q < length row → get_or (excesses row) q 0 < 256 ^ row_width row = λ q h. omega (arith, width.0, get_or-map (λ v. v - floor row) row q 0 0 h, peak_high row q h) in
     (floor row, row_width row, excesses row, refl, n ∙ long, floor_small row fits, width.1, fits_all (row_width row) (length row) (excesses row) n each, put_back (floor row) row (floor_low row))
 
--- the front of eight bytes, the width behind it, and what follows
-module _ (front front2 xs ys : List ℕ) (w w2 : ℕ) (n : length front ≡ 8) (n2 : length front2 ≡ 8) (is : front ++ (w ∷ xs) ≡ front2 ++ (w2 ∷ ys)) where
-  behind : (w ∷ xs) ≡ (w2 ∷ ys)
-  behind = sym (drop_at front (w ∷ xs) 8 n) ∙ ap (drop 8) is ∙ drop_at front2 (w2 ∷ ys) 8 n2
+-- the first eight bytes, the width after them, and what follows
+module _ (prefix prefix2 xs ys : List ℕ) (w w2 : ℕ) (n : length prefix ≡ 8) (n2 : length prefix2 ≡ 8) (is : prefix ++ (w ∷ xs) ≡ prefix2 ++ (w2 ∷ ys)) where
+  after : (w ∷ xs) ≡ (w2 ∷ ys)
+  after = sym (drop_at prefix (w ∷ xs) 8 n) ∙ ap (drop 8) is ∙ drop_at prefix2 (w2 ∷ ys) 8 n2
 
   same_width : w ≡ w2
-  same_width = ap (λ l. get_or l 0 0) behind
+  same_width = ap (λ l. get_or l 0 0) after
 
   same_after : xs ≡ ys
-  same_after = ap (drop 1) behind
+  same_after = ap (drop 1) after
 
--- the text of a raised row, parted behind its width
+-- the text of a raised row, parted after its width
 parted : (least width : ℕ) (over rest : List ℕ) → raised_text least width over ++ rest ≡ to_be_bytes w64 least ++ (width ∷ flat_map (bytes_high_first width) over ++ rest)
 parted least width over rest = append_assoc (to_be_bytes w64 least) (width ∷ flat_map (bytes_high_first width) over) rest
 
@@ -72,23 +72,23 @@ pub held_whole : (v : Version) (m : ℕ) (bytes row rest : List ℕ) → HoldsRo
 held_whole One m bytes row rest (is, long, fits) short = absurd (omega (arith, short, ap length is, length-append (row_text One row) rest, row_text-length row))
 held_whole Two m bytes row rest (l, w, over, is, long, small, few, fits, e) (inl short) =
     absurd (omega (arith, short, ap length (is ∙ parted l w over rest), length-append (to_be_bytes w64 l) (w ∷ flat_map (bytes_high_first w) over ++ rest)))
-held_whole Two m bytes row rest (l, w, over, is, long, small, few, fits, e) (inr (front, w2, after, is2, n, few2, short)) =
+held_whole Two m bytes row rest (l, w, over, is, long, small, few, fits, e) (inr (prefix, w2, after, is2, n, few2, short)) =
     let all = sym is2 ∙ is ∙ parted l w over rest in
-    let same : w2 ≡ w = same_width front (to_be_bytes w64 l) after _ w2 w n refl all in
-    let size : length after ≡ w * m + length rest = ap length (same_after front (to_be_bytes w64 l) after _ w2 w n refl all) ∙ length-append (flat_map (bytes_high_first w) over) rest ∙ ap (λ k. k + length rest) (highs-length w over ∙ ap (λ k. w * k) long) in
+    let same : w2 ≡ w = same_width prefix (to_be_bytes w64 l) after _ w2 w n refl all in
+    let size : length after ≡ w * m + length rest = ap length (same_after prefix (to_be_bytes w64 l) after _ w2 w n refl all) ∙ length-append (flat_map (bytes_high_first w) over) rest ∙ ap (λ k. k + length rest) (highs-length w over ∙ ap (λ k. w * k) long) in
     let short2 : length after < w * m = subst (λ k. length after < k * m) same short in
     absurd (omega (arith, size, short2))
 
 -- nor is their width above eight
 pub held_narrow : (v : Version) (m : ℕ) (bytes row rest : List ℕ) → HoldsRow v m bytes row rest → IsTooWide v bytes → ⊥
 held_narrow One m bytes row rest h wide = wide
-held_narrow Two m bytes row rest (l, w, over, is, long, small, few, fits, e) (front, w2, after, is2, n, wide) =
-    absurd (omega (arith, few, wide, same_width front (to_be_bytes w64 l) after _ w2 w n refl (sym is2 ∙ is ∙ parted l w over rest)))
+held_narrow Two m bytes row rest (l, w, over, is, long, small, few, fits, e) (prefix, w2, after, is2, n, wide) =
+    absurd (omega (arith, few, wide, same_width prefix (to_be_bytes w64 l) after _ w2 w n refl (sym is2 ∙ is ∙ parted l w over rest)))
 
 pub cut_narrow : (v : Version) (m : ℕ) (bytes : List ℕ) → IsCutRow v m bytes → IsTooWide v bytes → ⊥
 cut_narrow One m bytes cut wide = wide
-cut_narrow Two m bytes (inl short) (front, w, after, is, n, wide) = absurd (omega (arith, short, ap length is, length-append front (w ∷ after)))
-cut_narrow Two m bytes (inr (front, w, after, is, n, few, short)) (front2, w2, after2, is2, n2, wide) = absurd (omega (arith, few, wide, same_width front front2 after after2 w w2 n n2 (sym is ∙ is2)))
+cut_narrow Two m bytes (inl short) (prefix, w, after, is, n, wide) = absurd (omega (arith, short, ap length is, length-append prefix (w ∷ after)))
+cut_narrow Two m bytes (inr (prefix, w, after, is, n, few, short)) (prefix2, w2, after2, is2, n2, wide) = absurd (omega (arith, few, wide, same_width prefix prefix2 after after2 w w2 n n2 (sym is ∙ is2)))
 
 -- as a version spells them, bytes spell one row
 pub row_inj : (v : Version) (m : ℕ) (row row2 : List ℕ) → length row ≡ m → length row2 ≡ m → ((q : ℕ) → get_or row q 0 < 2 ^ 64) → ((q : ℕ) → get_or row2 q 0 < 2 ^ 64) → (r r2 : List ℕ)

@@ -60,11 +60,11 @@ one_over_value row v lr ne =
     let w = one_over row (replicate 8 v) lr refl ne in
     (w.0, w.1, omega (arith, w.2, get_or-replicate 8 w.0 v 0 w.1))
 
--- one of eight values where it stands in its row
+-- one of eight values, at its place in its row
 pub lane : (i k : ℕ) (ys xs : List ℕ) → ys ≡ take 8 (drop (8 * i) xs) → k < 8 → get_or ys k 0 ≡ get_or xs (8 * i + k) 0
 lane i k ys xs e h = ap (λ y. get_or y k 0) e ∙ get_or-chunk (8 * i) 8 xs k 0 h
 
--- the same of a value behind the eights
+-- the same of a value after the eights
 pub in_rest : (rest xs : List ℕ) (i : ℕ) → rest ≡ drop (length xs / 8 * 8) xs → get_or rest i 0 ≡ get_or xs (8 * (length xs / 8) + i) 0
 in_rest rest xs i is =
     let place : length xs / 8 * 8 + i ≡ 8 * (length xs / 8) + i = omega arith in

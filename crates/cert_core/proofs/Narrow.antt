@@ -14,10 +14,10 @@ use borrow.Rule.Slice.PartMut.{put_mid}
 -- the first of some bytes that were put into a buffer
 pub put_first : (at k w : ℕ) (buffer low : List ℕ) → w ≤ length low → at ≤ length buffer → take (at + w) (put_mid at k buffer low) ≡ take at buffer ++ take w low
 put_first at k w buffer low few room =
-    let front = take at buffer in
-    let n : length front ≡ at = length-take-le at buffer room in
+    let prefix = take at buffer in
+    let n : length prefix ≡ at = length-take-le at buffer room in
     sym (take-take (at + w) (at + length low) (put_mid at k buffer low) (omega arith)) ∙ ap (take (at + w)) (take-put_mid at k buffer low (at + length low) refl room)
-    ∙ ap (λ m. take (m + w) (front ++ low)) (sym n) ∙ take-append-add front low w
+    ∙ ap (λ m. take (m + w) (prefix ++ low)) (sym n) ∙ take-append-add prefix low w
 
 -- the bytes of one excess more
 pub narrow_more : (w i k least : ℕ) (row buffer low : List ℕ) → w ≤ 8 → take (w * i) buffer ≡ flat_map (bytes_high_first w) (map (λ v. v - least) (take i row)) → low ≡ to_be_bytes w64 ((get_or row i 0 - least) * 2 ^ (64 - 8 * w)) → i < length row → w * i ≤ length buffer
@@ -34,14 +34,14 @@ narrow_more w i k least row buffer low few before is h room =
     ∙ ap (λ l. flat_map (bytes_high_first w) done ++ l) (append-nil (bytes_high_first w (v - least))))
 
 -- a row's least value, its width and its excesses, as they are put into a buffer
-pub narrow_is : (front post ys : List ℕ) (w k j : ℕ) → length front ≡ 8 → 9 ≤ length (front ++ post) → j ≤ length ys → take (9 + j) (put_mid 9 k (set (front ++ post) 8 w) ys) ≡ front ++ (w ∷ take j ys)
-narrow_is front post ys w k j long room few =
-    let xs = front ++ post in
+pub narrow_is : (prefix post ys : List ℕ) (w k j : ℕ) → length prefix ≡ 8 → 9 ≤ length (prefix ++ post) → j ≤ length ys → take (9 + j) (put_mid 9 k (set (prefix ++ post) 8 w) ys) ≡ prefix ++ (w ∷ take j ys)
+narrow_is prefix post ys w k j long room few =
+    let xs = prefix ++ post in
     put_first 9 k j (set xs 8 w) ys few (omega (arith, room, length-set xs 8 w))
-    ∙ ap (λ l. l ++ take j ys) (take_more_set xs 8 w (omega (arith, room)) ∙ ap (λ l. l ++ (w ∷ [])) (take_at front post 8 long))
-    ∙ append_assoc front (w ∷ []) (take j ys)
+    ∙ ap (λ l. l ++ take j ys) (take_more_set xs 8 w (omega (arith, room)) ∙ ap (λ l. l ++ (w ∷ [])) (take_at prefix post 8 long))
+    ∙ append_assoc prefix (w ∷ []) (take j ys)
 
 -- and by what each of them is
-pub narrow_text : (row front ys : List ℕ) (least greatest w : ℕ) → least ≡ floor row → greatest ≡ peak row → front ≡ to_be_bytes w64 least → w ≡ byte_width (greatest - least) → ys ≡ flat_map (bytes_high_first w) (map (λ v. v - least) row)
-    → front ++ (w ∷ ys) ≡ row_text Two row
-narrow_text row front ys least greatest w el eg ef ew ey = rw (ef, ey, ew, eg, el) refl
+pub narrow_text : (row prefix ys : List ℕ) (least greatest w : ℕ) → least ≡ floor row → greatest ≡ peak row → prefix ≡ to_be_bytes w64 least → w ≡ byte_width (greatest - least) → ys ≡ flat_map (bytes_high_first w) (map (λ v. v - least) row)
+    → prefix ++ (w ∷ ys) ≡ row_text Two row
+narrow_text row prefix ys least greatest w el eg ef ew ey = rw (ef, ey, ew, eg, el) refl

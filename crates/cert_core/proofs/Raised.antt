@@ -91,7 +91,7 @@ none_reached v k (suc n) a h =
     let e : a + cond (leb (256 ^ k) v) 1 0 ≡ a = rw (lt-leb (256 ^ k) v h) (omega arith) in
     ap (λ m. fold (counted v) m (steps (suc k) n)) e ∙ none_reached v (suc k) n a (omega arith)
 
--- of so many powers the first j are reached, and no more
+-- of n powers the first j are reached, and no more
 reached : (v k n a : ℕ) → v < 256 ^ (k + n) → (j : ℕ) × (fold (counted v) a (steps k n) ≡ a + j) × (v < 256 ^ (k + j)) × (j ≤ n) × ((i : ℕ) → i < j → 256 ^ (k + i) ≤ v)
 reached v k zero a h = (0, omega arith, h, omega arith, λ i less. absurd (omega arith))
 reached v k (suc n) a h = elim (cases_lt v (256 ^ k)) [
@@ -117,7 +117,7 @@ width_fits v h =
     let e : byte_width v ≡ 0 + j = is in
     (subst (λ m. v < 256 ^ m) (sym e) below, omega (arith, e, few))
 
--- in no fewer
+-- in no fewer bytes
 pub width_least : (v : ℕ) → v < 2 ^ 64 → (w : ℕ) → v < 256 ^ w → byte_width v ≤ w
 width_least v h w fits =
     let (j, is, below, few, each) = reached v 0 8 0 h in

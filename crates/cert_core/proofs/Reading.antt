@@ -46,18 +46,18 @@ module _ (form : List ℕ) (nine : length form ≡ 9) where
 -- what is wrong with numbers over another is wrong with the row of the bytes that they were read from
 pub raised_first : (a c : Option (List ℕ)) (m level least width : ℕ) (over : List ℕ) (reason : CertReason) → Consumes a c (raised_text least width over) → length over ≡ m → 0 < m → least < 2 ^ 64 → width ≤ 8
     → ((q : ℕ) → get_or over q 0 < 256 ^ width) → RaisedReason least width level over reason → InSpelling Two m level a reason
-raised_first a c m level least width over reason p long some small few fits w = after (λ bytes. SpellingReason Two m level bytes reason) a c (raised_text least width over) p (λ rest. told rest w) where
+raised_first a c m level least width over reason p long some small few fits w = after (λ bytes. SpellingReason Two m level bytes reason) a c (raised_text least width over) p (λ rest. stated rest w) where
   row : List ℕ
   row = map (λ v. least + v) over
 
   held : (rest : List ℕ) → HoldsRow Two m (raised_text least width over ++ rest) row rest
   held rest = (least, width, over, refl, long, small, few, fits, refl)
 
-  told : (rest : List ℕ) → RaisedReason least width level over reason → SpellingReason Two m level (raised_text least width over ++ rest) reason
-  told rest (inl (e, (q, below, above))) =
+  stated : (rest : List ℕ) → RaisedReason least width level over reason → SpellingReason Two m level (raised_text least width over ++ rest) reason
+  stated rest (inl (e, (q, below, above))) =
       let at : get_or row q 0 ≡ least + get_or over q 0 = get_or-map (λ v. least + v) over q 0 0 below in
       subst (SpellingReason Two m level (raised_text least width over ++ rest)) (sym e) (row, rest, held rest, (q, omega (arith, below, long), omega (arith, above, at)))
-  told rest (inr (e, bounded, other)) =
+  stated rest (inr (e, bounded, other)) =
       let all : Bounded m row = λ q h. bounded q (omega (arith, h, long)) in
       let n : 0 < length over = omega (arith, some, long) in
       let low : floor row < 2 ^ 64 = omega (arith, floor_low row 0 (omega (arith, n, length-map over (λ v. least + v))), all 0 some) in

@@ -50,12 +50,12 @@ ReadMore = (v : Version) (claims : List Claim) (claim : Claim) (bytes entry : Li
 -- after the entries of the first claims comes a valid entry of the next one
 abbrev pub NextIsRead : Type 0
 NextIsRead =
-    (v : Version) (claims : List Claim) (claim : Claim) (more : List Claim) (front after : List ℕ) → AreEntries v claims front → AreEntries v (claims ++ claim ∷ more) (front ++ after)
+    (v : Version) (claims : List Claim) (claim : Claim) (more : List Claim) (prefix after : List ℕ) → AreEntries v claims prefix → AreEntries v (claims ++ claim ∷ more) (prefix ++ after)
     → BeginsValid v (trellis_of claim.bridging) claim.cue claim.channel claim.bits after
 
 -- after the entries of all claims comes nothing
 abbrev pub NothingFollows : Type 0
-NothingFollows = (v : Version) (claims : List Claim) (front after : List ℕ) → AreEntries v claims front → AreEntries v claims (front ++ after) → after ≡ []
+NothingFollows = (v : Version) (claims : List Claim) (prefix after : List ℕ) → AreEntries v claims prefix → AreEntries v claims (prefix ++ after) → after ≡ []
 
 -- bits that an entry shows to be least are least
 abbrev pub ShownIsLeast : Type 0

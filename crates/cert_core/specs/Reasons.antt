@@ -137,4 +137,4 @@ EndReason t last found bytes Extra = ⊥
 -- the first reason in a head: fewer than twelve bytes, or others than those of the expected head in each version
 abbrev pub HeadReason : ℕ → ℕ → List ℕ → CertReason → Type 0
 HeadReason weights entries bytes reason = ((reason ≡ Cut) × (length bytes < 12))
-    ⊎ ((reason ≡ Head) × ((front : List ℕ) × (rest : List ℕ) × (bytes ≡ front ++ rest) × (length front ≡ 12) × ((v : Version) → front ≢ cert_head v weights entries)))
+    ⊎ ((reason ≡ Head) × ((prefix : List ℕ) × (rest : List ℕ) × (bytes ≡ prefix ++ rest) × (length prefix ≡ 12) × ((v : Version) → prefix ≢ cert_head v weights entries)))

@@ -40,12 +40,14 @@ row_width row = byte_width (peak row - floor row)
 abbrev pub raised_text : ℕ → ℕ → List ℕ → List ℕ
 raised_text least width over = to_be_bytes w64 least ++ (width ∷ flat_map (bytes_high_first width) over)
 
--- a row: by the first version its values, eight bytes each; by the second its least value, its width, and its excesses in as many bytes each
+-- a row: by the first version its values, eight bytes each; by the second its least value, its width, and its excesses
+-- in as many bytes each
 abbrev pub row_text : Version → List ℕ → List ℕ
 row_text One row = flat_map (to_be_bytes w64) row
 row_text Two row = raised_text (floor row) (row_width row) (excesses row)
 
--- the bytes hold a row of m values and then the rest, in the form of a version: by the second a number and what each value exceeds it by, in some width
+-- the bytes hold a row of m values and then the rest, in the form of a version: by the second a number and what each
+-- value exceeds it by, in some width
 abbrev pub HoldsRow : Version → ℕ → List ℕ → List ℕ → List ℕ → Type 0
 HoldsRow One m bytes row rest = (bytes ≡ row_text One row ++ rest) × (length row ≡ m) × ((q : ℕ) → slice_index_or row q 0 < 2 ^ 64)
 HoldsRow Two m bytes row rest = (least : ℕ) × (width : ℕ) × (over : List ℕ) × (bytes ≡ raised_text least width over ++ rest) × (length over ≡ m)
@@ -55,12 +57,12 @@ HoldsRow Two m bytes row rest = (least : ℕ) × (width : ℕ) × (over : List �
 abbrev pub IsCutRow : Version → ℕ → List ℕ → Type 0
 IsCutRow One m bytes = length bytes < 8 * m
 IsCutRow Two m bytes = (length bytes < 9)
-    ⊎ ((front : List ℕ) × (width : ℕ) × (after : List ℕ) × (bytes ≡ front ++ (width ∷ after)) × (length front ≡ 8) × (width ≤ 8) × (length after < width * m))
+    ⊎ ((prefix : List ℕ) × (width : ℕ) × (after : List ℕ) × (bytes ≡ prefix ++ (width ∷ after)) × (length prefix ≡ 8) × (width ≤ 8) × (length after < width * m))
 
 -- the bytes begin with a row whose width is above eight
 abbrev pub IsTooWide : Version → List ℕ → Type 0
 IsTooWide One bytes = ⊥
-IsTooWide Two bytes = (front : List ℕ) × (width : ℕ) × (after : List ℕ) × (bytes ≡ front ++ (width ∷ after)) × (length front ≡ 8) × (8 < width)
+IsTooWide Two bytes = (prefix : List ℕ) × (width : ℕ) × (after : List ℕ) × (bytes ≡ prefix ++ (width ∷ after)) × (length prefix ≡ 8) × (8 < width)
 
 -- by how much the values of a row exceed another number, each in `width` bytes
 abbrev pub excess_text : ℕ → ℕ → List ℕ → List ℕ

@@ -1,4 +1,4 @@
--- Where the chunks of a range stand.
+-- Where the chunks of a range are.
 use Rattle.std.proofs.Common.{◌≡◌, ℕ, ◌+◌, ◌-◌, ◌≤◌, List, [], ◌∷◌, ◌++◌, length, map, take, drop, Ok, refl, sym, ap, subst, ◌∙◌, arith}
 use Rattle.std.specs.Prelude.{slice_range}
 use Rattle.std.proofs.lemmas.List.{length-take, length-drop}
@@ -31,7 +31,7 @@ span_long xs stop s h k = omega (arith, length-take s.size (drop s.start xs), le
 
 -- ---- the places in a range
 
--- the chunks of a range stand at their places
+-- the chunks of a range are at their places
 places_back : (bytes : List ℕ) (start stop : ℕ) (cs : List Chunk) → chunks (slice_range bytes start stop) cs → map (span_chunk bytes) (places start cs) ≡ cs
 places_back bytes start stop [] h = refl
 places_back bytes start stop (c ∷ cs) h =

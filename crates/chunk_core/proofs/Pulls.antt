@@ -6,7 +6,7 @@ use Rattle.std.specs.Io.KnownBytes.{ReadConsumes}
 use borrow.Rule.Slice.PartMut.{put_mid}
 use Rattle.chunk_core.specs.Inlets.{PullsAfter}
 
--- the front of a buffer whose end was filled with ys, up to n of them
+-- the start of a buffer whose end was filled with ys, up to n of them
 take-filled : (a k n : ℕ) (xs ys : List ℕ) → a ≤ length xs → n ≤ length ys → take (a + n) (put_mid a k xs ys) ≡ take a xs ++ take n ys
 take-filled a k n xs ys within few =
     let long : length (take a xs) ≡ a = length-take-le a xs within in

@@ -42,7 +42,7 @@ first_again at bytes c f =
     let l2 : ltb (length bytes - 12) (size_of bytes) ≡ false = le-ltb _ _ (omega (arith, f.long)) in
     rw (l1, l2, f.id, f.content) refl
 
--- the size stands in the first 12 bytes
+-- the size is in the first 12 bytes
 pub size_of_head : (bytes : List ℕ) → 12 ≤ length bytes → size_of (take 12 bytes) ≡ size_of bytes
 size_of_head bytes h =
     let e : drop 4 (take 12 bytes) ≡ take 8 (drop 4 bytes) = drop-take 4 8 bytes in
@@ -56,7 +56,7 @@ no_chunks (c ∷ cs) (inr h) = absurd (omega (arith, h.1.long, ap length h.3, le
 
 -- ---- the first chunk in the relation
 
--- bytes with a first chunk and more behind it, or a first chunk alone with no pad
+-- bytes with a first chunk and more after it, or a first chunk alone with no pad
 pub first_joins : (bytes : List ℕ) (c : Chunk) (cs : List Chunk) → First bytes c → chunks (drop (width c) bytes) cs → chunks bytes (c ∷ cs)
 first_joins bytes c cs f h =
     let n : ℕ = length c.content in
@@ -85,33 +85,33 @@ first_joins bytes c cs f h =
     ]
 
 -- bytes that begin with a head and its data
-front_is : (bytes head : List ℕ) (c : Chunk) (tail : List ℕ) → IsHead head c → bytes ≡ head ++ (c.content ++ tail) → First bytes c × (drop (12 + length c.content) bytes ≡ tail)
-front_is bytes head c tail h e =
+prefix_is : (bytes head : List ℕ) (c : Chunk) (tail : List ℕ) → IsHead head c → bytes ≡ head ++ (c.content ++ tail) → First bytes c × (drop (12 + length c.content) bytes ≡ tail)
+prefix_is bytes head c tail h e =
     let n : ℕ = length c.content in
     let after : drop 12 bytes ≡ c.content ++ tail = rw e (drop_at head (c.content ++ tail) 12 h.long) in
-    let front : take 12 bytes ≡ head = rw e (take_at head (c.content ++ tail) 12 h.long) in
+    let prefix : take 12 bytes ≡ head = rw e (take_at head (c.content ++ tail) 12 h.long) in
     let long : 12 + n ≤ length bytes = omega (arith, ap length e, length-append head (c.content ++ tail), length-append c.content tail, h.long) in
-    let size : size_of bytes ≡ n = sym (size_of_head bytes (omega arith)) ∙ rw front h.size in (
+    let size : size_of bytes ≡ n = sym (size_of_head bytes (omega arith)) ∙ rw prefix h.size in (
       record {
         long = omega arith;
-        id = sym (take-take 4 12 bytes (omega arith)) ∙ rw front h.id;
+        id = sym (take-take 4 12 bytes (omega arith)) ∙ rw prefix h.id;
         size = size;
         content = rw (size, after) (take_at c.content tail n refl);
       },
       sym (drop-drop n 12 bytes) ∙ rw after (drop_at c.content tail n refl),
     )
 
--- what the relation says of the first chunk and of what is behind it
+-- what the relation says of the first chunk and of what follows it
 pub first_parts : (bytes : List ℕ) (c : Chunk) (cs : List Chunk) → chunks bytes (c ∷ cs) → First bytes c × chunks (drop (width c) bytes) cs
 first_parts bytes c cs (inl h) =
     let n : ℕ = length c.content in
-    let f = front_is bytes h.0 c (h.1 ++ h.2) h.3 h.5 in
+    let f = prefix_is bytes h.0 c (h.1 ++ h.2) h.3 h.5 in
     let more : drop (width c) bytes ≡ h.2 =
     ap (λ (k : ℕ). drop k bytes) (omega arith) ∙ sym (drop-drop (n % 2) (12 + n) bytes) ∙ rw f.1 (drop_at h.1 h.2 (n % 2) h.4) in
     (f.0, rw more h.6)
 first_parts bytes c cs (inr h) =
     let n : ℕ = length c.content in
-    let f = front_is bytes h.0 c [] h.1 (h.3 ∙ ap (λ (t : List ℕ). h.0 ++ t) (sym (append-nil c.content))) in
+    let f = prefix_is bytes h.0 c [] h.1 (h.3 ∙ ap (λ (t : List ℕ). h.0 ++ t) (sym (append-nil c.content))) in
     let end : drop (width c) bytes ≡ [] = drop_all (width c) bytes (omega (arith, ap length h.3, length-append h.0 c.content, h.1.long)) in
     (f.0, rw (end, h.4) refl)
 

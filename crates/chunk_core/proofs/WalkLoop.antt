@@ -15,35 +15,35 @@ use Rattle.chunk_core.proofs.PlaceLaws.{end_of, end_push, places_push, span_long
 use Rattle.chunk_core.proofs.Ranges.{range_after, range_inner}
 
 -- what was found before, and what is still found
-abbrev pub with_front : List Chunk → Result (List Chunk) ChunkFault → Result (List Chunk) ChunkFault
-with_front front found = found >>= λ cs. Ok (front ++ cs)
+abbrev pub with_prefix : List Chunk → Result (List Chunk) ChunkFault → Result (List Chunk) ChunkFault
+with_prefix prefix found = found >>= λ cs. Ok (prefix ++ cs)
 
--- a chunk more in front, or before what is still found
-regroup : (front : List Chunk) (c : Chunk) (found : Result (List Chunk) ChunkFault) → with_front front (found >>= λ cs. Ok (c ∷ cs)) ≡ with_front (front ++ c ∷ []) found
-regroup front c (Ok cs) = ap (λ (ds : List Chunk). Ok ds) (simp append_assoc)
-regroup front c (Err f) = refl
+-- one chunk more, or one before what is still found
+regroup : (prefix : List Chunk) (c : Chunk) (found : Result (List Chunk) ChunkFault) → with_prefix prefix (found >>= λ cs. Ok (c ∷ cs)) ≡ with_prefix (prefix ++ c ∷ []) found
+regroup prefix c (Ok cs) = ap (λ (ds : List Chunk). Ok ds) (simp append_assoc)
+regroup prefix c (Err f) = refl
 
 -- one step of the walk, where a chunk is found
-goes_on : (front : List Chunk) (at : ℕ) (rest : List ℕ) (c : Chunk) (total : Result (List Chunk) ChunkFault) → 0 < length rest → first_of at rest ≡ Ok c
-    → with_front front (walk_of at rest) ≡ total → with_front (front ++ c ∷ []) (walk_of (at + width c) (drop (width c) rest)) ≡ total
-goes_on front at rest c total some first so_far =
-    let one : with_front front (walk_of at rest) ≡ with_front (front ++ c ∷ []) (walk_of (at + width c) (drop (width c) rest)) =
-    rw (walk_step at rest some, first) (regroup front c (walk_of (at + width c) (drop (width c) rest))) in
+goes_on : (prefix : List Chunk) (at : ℕ) (rest : List ℕ) (c : Chunk) (total : Result (List Chunk) ChunkFault) → 0 < length rest → first_of at rest ≡ Ok c
+    → with_prefix prefix (walk_of at rest) ≡ total → with_prefix (prefix ++ c ∷ []) (walk_of (at + width c) (drop (width c) rest)) ≡ total
+goes_on prefix at rest c total some first so_far =
+    let one : with_prefix prefix (walk_of at rest) ≡ with_prefix (prefix ++ c ∷ []) (walk_of (at + width c) (drop (width c) rest)) =
+    rw (walk_step at rest some, first) (regroup prefix c (walk_of (at + width c) (drop (width c) rest))) in
     sym one ∙ so_far
 
 -- one step, where a fault is found
-ends : (e : ChunkFault) (front : List Chunk) (at : ℕ) (rest : List ℕ) (total : Result (List Chunk) ChunkFault) → 0 < length rest → Fails e (first_of at rest)
-    → with_front front (walk_of at rest) ≡ total → Fails e total
-ends Memory front at rest total some h so_far = tt
-ends (HeadCut k) front at rest total some h so_far =
-    let one : with_front front (walk_of at rest) ≡ Err (HeadCut k) = rw (walk_step at rest some, h) refl in sym so_far ∙ one
-ends (DataCut k) front at rest total some h so_far =
-    let one : with_front front (walk_of at rest) ≡ Err (DataCut k) = rw (walk_step at rest some, h) refl in sym so_far ∙ one
+ends : (e : ChunkFault) (prefix : List Chunk) (at : ℕ) (rest : List ℕ) (total : Result (List Chunk) ChunkFault) → 0 < length rest → Fails e (first_of at rest)
+    → with_prefix prefix (walk_of at rest) ≡ total → Fails e total
+ends Memory prefix at rest total some h so_far = tt
+ends (HeadCut k) prefix at rest total some h so_far =
+    let one : with_prefix prefix (walk_of at rest) ≡ Err (HeadCut k) = rw (walk_step at rest some, h) refl in sym so_far ∙ one
+ends (DataCut k) prefix at rest total some h so_far =
+    let one : with_prefix prefix (walk_of at rest) ≡ Err (DataCut k) = rw (walk_step at rest some, h) refl in sym so_far ∙ one
 
 -- no bytes are left
-is_done : (front : List Chunk) (at : ℕ) (rest : List ℕ) (total : Result (List Chunk) ChunkFault) → length rest ≡ 0 → with_front front (walk_of at rest) ≡ total → total ≡ Ok front
-is_done front at rest total none so_far =
-    let one : with_front front (walk_of at rest) ≡ Ok front = rw (walk_end at rest none) (ap (λ (ds : List Chunk). Ok ds) (append-nil front)) in
+is_done : (prefix : List Chunk) (at : ℕ) (rest : List ℕ) (total : Result (List Chunk) ChunkFault) → length rest ≡ 0 → with_prefix prefix (walk_of at rest) ≡ total → total ≡ Ok prefix
+is_done prefix at rest total none so_far =
+    let one : with_prefix prefix (walk_of at rest) ≡ Ok prefix = rw (walk_end at rest none) (ap (λ (ds : List Chunk). Ok ds) (append-nil prefix)) in
     sym so_far ∙ one
 
 -- a fault of the walk is one of the spans
@@ -53,22 +53,22 @@ spans_fail xs start stop Memory h = tt
 spans_fail xs start stop (HeadCut at) h = rw h refl
 spans_fail xs start stop (DataCut at) h = rw h refl
 
--- what the loop keeps: what was found and what is still found make up the walk, and the spans stand at their places
+-- what the loop keeps: what was found and what is still found make up the walk, and the spans are at their places
 pub record IsWalked (xs : List ℕ) (start at stop : ℕ) (spans : List Span) : Type 0 where
-  pub so_far : with_front (map (span_chunk xs) spans) (walk_of at (slice_range xs at stop)) ≡ walk_of start (slice_range xs start stop)
+  pub so_far : with_prefix (map (span_chunk xs) spans) (walk_of at (slice_range xs at stop)) ≡ walk_of start (slice_range xs start stop)
   pub placed : spans ≡ places start (map (span_chunk xs) spans)
   pub end : end_of start (map (span_chunk xs) spans) ≡ at
   pub onward : start ≤ at
   pub inside : All (LiesIn start stop) spans
 
-front_of_none : (found : Result (List Chunk) ChunkFault) → with_front [] found ≡ found
-front_of_none (Ok cs) = refl
-front_of_none (Err e) = refl
+prefix_of_none : (found : Result (List Chunk) ChunkFault) → with_prefix [] found ≡ found
+prefix_of_none (Ok cs) = refl
+prefix_of_none (Err e) = refl
 
 -- before the first step
 pub walked_none : (xs : List ℕ) (start stop : ℕ) → IsWalked xs start start stop []
 walked_none xs start stop = record {
-  so_far = front_of_none (walk_of start (slice_range xs start stop));
+  so_far = prefix_of_none (walk_of start (slice_range xs start stop));
   placed = refl;
   end = refl;
   onward = omega arith;
@@ -81,20 +81,20 @@ module _ (xs : List ℕ) (start at stop : ℕ) (spans : List Span) (w : IsWalked
       → IsWalked xs start (s.start + s.size + s.size % 2) stop (spans ++ s ∷ [])
   walked_on s lt fits first s-start s-fits =
       let c : Chunk = span_chunk xs s in
-      let front : List Chunk = map (span_chunk xs) spans in
+      let prefix : List Chunk = map (span_chunk xs) spans in
       let here : List ℕ = slice_range xs at stop in
       let long : length c.content ≡ s.size = span_long xs stop s s-fits fits in
       let next : at + width c ≡ s.start + s.size + s.size % 2 = rw long (omega arith) in
-      let more : map (span_chunk xs) (spans ++ s ∷ []) ≡ front ++ c ∷ [] = map_push (span_chunk xs) spans s in
+      let more : map (span_chunk xs) (spans ++ s ∷ []) ≡ prefix ++ c ∷ [] = map_push (span_chunk xs) spans s in
       let some : 0 < length here = omega (arith, length-take (stop - at) (drop at xs), length-drop at xs) in
       let here-after : drop (width c) here ≡ slice_range xs (at + width c) stop = range_after xs at stop (width c) in
-      let on = goes_on front at here c (walk_of start (slice_range xs start stop)) some first w.so_far in
-      let one : Span = record { id = c.id; start = end_of start front + 12; size = length c.content } in
+      let on = goes_on prefix at here c (walk_of start (slice_range xs start stop)) some first w.so_far in
+      let one : Span = record { id = c.id; start = end_of start prefix + 12; size = length c.content } in
       let same : one ≡ s = rw (long, w.end, ← s-start) refl in
       record {
         so_far = rw (more, ← next, ← here-after) on;
-        placed = rw more (sym (places_push start front c ∙ (ap (λ (ss : List Span). ss ++ one ∷ []) (sym w.placed) ∙ ap (λ (o : Span). spans ++ o ∷ []) same)));
-        end = rw more (end_push start front c ∙ rw w.end next);
+        placed = rw more (sym (places_push start prefix c ∙ (ap (λ (ss : List Span). ss ++ one ∷ []) (sym w.placed) ∙ ap (λ (o : Span). spans ++ o ∷ []) same)));
+        end = rw more (end_push start prefix c ∙ rw w.end next);
         onward = omega (arith, w.onward);
         inside = All-push (LiesIn start stop) spans s w.inside (record { begins = omega (arith, w.onward); ends = s-fits });
       }
@@ -123,20 +123,20 @@ pub found_all : {X : Type 0} (view : X → List Span) (r : Result X ChunkFault) 
 found_all view (Ok x) xs start stop h = spans_found xs start stop (view x) h
 found_all view (Err e) xs start stop h = (tt, tt)
 
--- ---- bytes that stand at a place
+-- ---- bytes at a place
 
 -- a file that has them there
 abbrev pub set_at : ℕ → List ℕ → List ℕ
 set_at at bytes = replicate at 0 ++ bytes
 
 module _ (at : ℕ) (bytes : List ℕ) where
-  behind : (k : ℕ) → drop (at + k) (set_at at bytes) ≡ drop k bytes
-  behind k = sym (drop-drop k at (set_at at bytes)) ∙ ap (drop k) (drop_at (replicate at 0) bytes at (length-replicate {A = ℕ} at 0))
+  after : (k : ℕ) → drop (at + k) (set_at at bytes) ≡ drop k bytes
+  after k = sym (drop-drop k at (set_at at bytes)) ∙ ap (drop k) (drop_at (replicate at 0) bytes at (length-replicate {A = ℕ} at 0))
 
   pub left : (done : ℕ) → slice_range (set_at at bytes) (at + done) (at + length bytes) ≡ slice_range bytes done (length bytes)
   left done =
       let few : at + length bytes - (at + done) ≡ length bytes - done = omega arith in
-      ap (take (at + length bytes - (at + done))) (behind done) ∙ ap (λ n. take n (drop done bytes)) few
+      ap (take (at + length bytes - (at + done))) (after done) ∙ ap (λ n. take n (drop done bytes)) few
 
   pub whole : slice_range (set_at at bytes) at (at + length bytes) ≡ bytes
   whole =
@@ -154,4 +154,4 @@ module _ (at : ℕ) (bytes : List ℕ) where
   pub set_chunk : (done : ℕ) (s : Span) → 12 + s.size ≤ length bytes - done → s.start ≡ at + done + 12 → chunk_of s.id s.size (slice_range bytes done (length bytes)) ≡ span_chunk (set_at at bytes) s
   set_chunk done s fits e =
       let place : s.start ≡ at + (done + 12) = omega (arith, e) in
-      ap (λ (xs : List ℕ). record { id = s.id; content = xs }) (range_inner bytes done (length bytes) 12 s.size fits ∙ ap (take s.size) (sym (behind (done + 12)) ∙ ap (λ n. drop n (set_at at bytes)) (sym place)))
+      ap (λ (xs : List ℕ). record { id = s.id; content = xs }) (range_inner bytes done (length bytes) 12 s.size fits ∙ ap (take s.size) (sym (after (done + 12)) ∙ ap (λ n. drop n (set_at at bytes)) (sym place)))

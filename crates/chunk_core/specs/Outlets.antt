@@ -13,11 +13,11 @@ outlet_failures outlet = outlet.failures
 
 -- a writer's bytes, if they are known, grew by a prefix of these
 abbrev pub AppendsPrefix : Option (List ℕ) → Option (List ℕ) → List ℕ → Type 0
-AppendsPrefix old new all = (front : List ℕ) × (back : List ℕ) × (all ≡ front ++ back) × Appends old new front
+AppendsPrefix old new all = (prefix : List ℕ) × (back : List ℕ) × (all ≡ prefix ++ back) × Appends old new prefix
 
 -- a writer's bytes, if they are known, grew by a prefix of these, and not by all of them
 abbrev pub AppendsPart : Option (List ℕ) → Option (List ℕ) → List ℕ → Type 0
-AppendsPart old new all = (front : List ℕ) × (back : List ℕ) × (all ≡ front ++ back) × (0 < length back) × Appends old new front
+AppendsPart old new all = (prefix : List ℕ) × (back : List ℕ) × (all ≡ prefix ++ back) × (0 < length back) × Appends old new prefix
 
 -- these bytes were written
 abbrev pub Puts : {W : Type 0} → (W → Option (List ℕ)) → Outlet W → Outlet W → List ℕ → Type 0

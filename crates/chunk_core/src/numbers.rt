@@ -21,9 +21,9 @@ pub fn id_at(bytes: &[u8], at: usize) -> [u8; 4]
     ensures { result ≡ id_at bytes.now at }
 {
     let (_, here) = bytes.split_at(at);
-    let (front, _) = here.split_at(4);
+    let (prefix, _) = here.split_at(4);
     let mut id = [0; 4];
-    id.copy_from_slice(front);
+    id.copy_from_slice(prefix);
     id
 }
 

@@ -2,7 +2,7 @@
 use Rattle.std.proofs.Common.{◌≡◌, ◌≢◌, ◌⊎◌, ℕ, inl, inr, IfErr, IfOk, IfSome, IsTrue, List, None, Option, Ok, Err, Result, refl, subst, sym, ◌∙◌}
 use Rattle.judge_core.specs.Accepting.{Accepts}
 use Rattle.archive_core.specs.Editing.{Edits, IsCertificate}
-use Rattle.folder_core.specs.Files.{IsFront, IsGiven, IsPut, IsReadOf, KeepsOthers, View}
+use Rattle.folder_core.specs.Files.{IsGiven, IsPut, IsPutInPart, IsReadOf, KeepsOthers, View}
 use Rattle.folder_core.specs.declared.fault.FileFault.{FileFault}
 use Rattle.folder_core.specs.declared.fault.FileFault.TheVariants as files
 use Rattle.transfer_commands.specs.Faults.{of_file}
@@ -18,7 +18,7 @@ use Rattle.command_core.specs.Outcomes.{of_words}
 use Rattle.words_core.specs.declared.fault.WordsFault.{WordsFault}
 use Rattle.words_core.specs.declared.fault.WordsFault.TheVariants as words
 
--- what is told of words that ask for nothing
+-- what is printed for words that ask for nothing
 pub no_command : (fault : WordsFault) → IsNoCommand (of_words fault)
 no_command words.WrongWords = tt
 no_command words.UnknownFormName = tt
@@ -29,37 +29,37 @@ pub cut_unwritten : (cut : Cut) (old new : View) (project master : List ℕ) (ta
     → AreSources cut.project_name old project takes
     → Edits project takes cut.form master total
     → KeepsOthers cut.master_name old new
-    → IsFront cut.master_name old new master
+    → IsPutInPart cut.master_name old new master
     → fault ≡ files.WriteFailed → EditComesTo cut old new (Err (of_file fault))
-cut_unwritten cut old new project master takes total fault sources edits others front is =
+cut_unwritten cut old new project master takes total fault sources edits others prefix is =
     subst (λ (f : FileFault). EditComesTo cut old new (Err (of_file f))) (sym is) (inl (record {
       project = project;
       takes = takes;
       master = master;
       total = total;
       sources = sources;
-      front = front;
+      prefix = prefix;
       others = others;
       edits = edits;
     }))
 
--- a master is written, and then what stands under another name
+-- a master is written, and what another name holds then
 module _ (cut : Cut) (old written new : View) (project master : List ℕ) (takes : List (List ℕ)) (total : ℕ)
     (sources : AreSources cut.project_name old project takes) (edits : Edits project takes cut.form master total)
     (others : KeepsOthers cut.master_name old written) (master_put : IsPut written cut.master_name master) (others_second : KeepsOthers cut.cert_name written new) where
   cuts_still : CutsFile cut old new project takes master total
   cuts_still = record {
     sources = sources;
-    master_put = λ (differs : cut.master_name ≢ cut.cert_name) told. others_second.others cut.master_name differs ∙ master_put (subst IsTrue others_second.same_told told);
+    master_put = λ (differs : cut.master_name ≢ cut.cert_name) reported. others_second.others cut.master_name differs ∙ master_put (subst IsTrue others_second.same_known reported);
     others = λ (other : List ℕ) (differs : other ≢ cut.master_name) (differs_second : other ≢ cut.cert_name). others_second.others other differs_second ∙ others.others other differs;
     edits = edits;
   }
 
-  -- what is left of the certificate's file is so of the files before the master was written too
-  front_before : (cert : List ℕ) → cut.cert_name ≢ cut.master_name → IsFront cut.cert_name written new cert → IsFront cut.cert_name old new cert
-  front_before cert differs front = λ told.
+  -- what is left in the certificate's file holds of the files before the master was written, too
+  prefix_before : (cert : List ℕ) → cut.cert_name ≢ cut.master_name → IsPutInPart cut.cert_name written new cert → IsPutInPart cut.cert_name old new cert
+  prefix_before cert differs prefix = λ reported.
       let same = others.others cut.cert_name differs in
-      elim (front (subst IsTrue (sym others.same_told) told)) [
+      elim (prefix (subst IsTrue (sym others.same_known) reported)) [
         | inl kept ↦ inl (kept ∙ same)
         | inr held ↦ inr (record {
           prefix = held.prefix;
@@ -71,8 +71,8 @@ module _ (cut : Cut) (old written new : View) (project master : List ℕ) (takes
       ]
 
   -- its certificate could not be
-  pub cert_unwritten : (cert : List ℕ) (fault : FileFault) → IsFront cut.cert_name written new cert → IsCertificate project takes master cert → Accepts project takes master cert total → fault ≡ files.WriteFailed → EditComesTo cut old new (Err (of_file fault))
-  cert_unwritten cert fault front certificate accepted is =
+  pub cert_unwritten : (cert : List ℕ) (fault : FileFault) → IsPutInPart cut.cert_name written new cert → IsCertificate project takes master cert → Accepts project takes master cert total → fault ≡ files.WriteFailed → EditComesTo cut old new (Err (of_file fault))
+  cert_unwritten cert fault prefix certificate accepted is =
       subst (λ (f : FileFault). EditComesTo cut old new (Err (of_file f))) (sym is) (inr (record {
         project = project;
         takes = takes;
@@ -80,7 +80,7 @@ module _ (cut : Cut) (old written new : View) (project master : List ℕ) (takes
         cert = cert;
         total = total;
         cuts = cuts_still;
-        front = λ (differs : cut.cert_name ≢ cut.master_name). front_before cert differs front;
+        prefix = λ (differs : cut.cert_name ≢ cut.master_name). prefix_before cert differs prefix;
         certificate = certificate;
         accepted = accepted;
       }))
@@ -102,7 +102,7 @@ module _ (cut : Cut) (old written new : View) (project master : List ℕ) (takes
 -- a master is judged by the project and its takes, or refused, and nothing changes
 module _ (project_name master_name cert_name : List ℕ) (old new : View) (project : List ℕ) (takes : List (List ℕ)) (master : List ℕ) (left : Option (List ℕ)) where
   pub checked : new ≡ old → AreSources project_name old project takes → IsReadOf old master_name master → IsGiven old cert_name left
-      → (came : Result Verdict CommandFault) → IfOk came (IsLeastIfAccepted project takes master) → (IsTrue old.is_told → IfOk came (JudgesBy project takes master left)) → IfErr came IsUnread → CheckComesTo project_name master_name cert_name old new came
+      → (came : Result Verdict CommandFault) → IfOk came (IsLeastIfAccepted project takes master) → (IsTrue old.is_known → IfOk came (JudgesBy project takes master left)) → IfErr came IsUnread → CheckComesTo project_name master_name cert_name old new came
   checked same sources master_read given (Ok verdict) least judged unread = record {
     project = project;
     takes = takes;
@@ -110,9 +110,9 @@ module _ (project_name master_name cert_name : List ℕ) (old new : View) (proje
     sources = sources;
     master_read = master_read;
     least = least;
-    by_certificate = λ told.
-        let g = given told in
-        (g.0, g.1, subst (λ o. IfSome o (λ cert. Judges project takes master cert verdict)) g.2 (judged told));
+    by_certificate = λ reported.
+        let g = given reported in
+        (g.0, g.1, subst (λ o. IfSome o (λ cert. Judges project takes master cert verdict)) g.2 (judged reported));
     same = same;
   }
   checked same sources master_read given (Err (faults.Call Memory)) least judged unread = (same, inl refl)

@@ -2,7 +2,7 @@
 use Rattle.std.proofs.Common.{◌≡◌, ℕ, Err, List, [], IfOk, IfSome, Option, None, Result, Some, Ok, refl, subst}
 use Rattle.std.specs.Io.Buffered.{reader_buffer, reader_capacity, reader_inner, reader_remaining}
 use Rattle.std.specs.declared.io.buffered.BufReader.{BufReader}
-use Rattle.judge_core.specs.Accepting.{Accepts, CostsLeast, CostsWindows, IfAccepted, IfRejected, IsLeastMaster, IsMaster, RejectsFirst}
+use Rattle.judge_core.specs.Accepting.{Accepts, CostsLeast, CostsWindows, IfMasterAccepted, IfMasterRejected, IsLeastMaster, IsMaster, RejectsFirst}
 use Rattle.transfer_core.specs.declared.fault.Fault.{Fault}
 use Rattle.judge_core.specs.declared.verdict.Verdict.{Verdict}
 use Rattle.judge_core.specs.declared.verdict.Verdict.TheVariants.{Accepted, Rejected}
@@ -19,7 +19,7 @@ known_by project files master buffered left e v h = subst (λ o. JudgesBy projec
 
 -- a verdict is that by whatever certificate is left to read
 pub judges_by : (project : List ℕ) (files : List (List ℕ)) (master : List ℕ) (left : Option (List ℕ)) (r : Result Verdict Fault)
-    → IfAccepted r (λ cost. IfSome left (λ cert. Accepts project files master cert cost)) → IfAccepted r (λ cost. IfSome left (λ _. CostsWindows project files master cost)) → IfRejected r (λ reason. IfSome left (λ cert. RejectsFirst project files master cert reason)) → IfOk r (JudgesBy project files master left)
+    → IfMasterAccepted r (λ cost. IfSome left (λ cert. Accepts project files master cert cost)) → IfMasterAccepted r (λ cost. IfSome left (λ _. CostsWindows project files master cost)) → IfMasterRejected r (λ reason. IfSome left (λ cert. RejectsFirst project files master cert reason)) → IfOk r (JudgesBy project files master left)
 judges_by project files master None (Ok verdict) accepts windows rejects = tt
 judges_by project files master (Some cert) (Ok (Accepted cost)) accepts windows rejects = (accepts, windows)
 judges_by project files master (Some cert) (Ok (Rejected reason)) accepts windows rejects = rejects
@@ -27,7 +27,7 @@ judges_by project files master left (Err fault) accepts windows rejects = tt
 
 -- what is accepted is least
 pub least_by : (project : List ℕ) (files : List (List ℕ)) (master : List ℕ) (r : Result Verdict Fault)
-    → IfAccepted r (λ _. IsMaster project files master) → IfAccepted r (λ _. IsLeastMaster project files master) → IfAccepted r (CostsLeast project files master) → IfOk r (IsLeastIfAccepted project files master)
+    → IfMasterAccepted r (λ _. IsMaster project files master) → IfMasterAccepted r (λ _. IsLeastMaster project files master) → IfMasterAccepted r (CostsLeast project files master) → IfOk r (IsLeastIfAccepted project files master)
 least_by project files master (Ok (Accepted cost)) is least joint = record { is_master = is; least = least; joint = joint }
 least_by project files master (Ok (Rejected reason)) is least joint = tt
 least_by project files master (Err fault) is least joint = tt

@@ -12,16 +12,16 @@ use Rattle.command_core.specs.Masters.{FindsMaster}
 found_of : (view : View) (cut : CutContent) (name : List ℕ) (left : Option (List ℕ)) → IsGiven view name left → (found : Option Found) → IfSome left (λ bytes. IsFoundHeld cut bytes found) → IsFoundInSome cut found → FindsMaster view cut name found
 found_of view cut name left given (Some found) known some =
     let read = known_or_some view name left (λ file. FindsHeld cut file found) given known some in
-    record { file = read.0; file_read = read.1; held = read.2; is_found = λ told. read.2 }
-found_of view cut name left given None known some = by view.is_told refl
+    record { file = read.0; file_read = read.1; held = read.2; is_found = λ reported. read.2 }
+found_of view cut name left given None known some = by view.is_known refl
   where
-    by : (told : Bool) → view.is_told ≡ told → FindsMaster view cut name None
+    by : (reported : Bool) → view.is_known ≡ reported → FindsMaster view cut name None
     by true is =
         let h = given is in
-        record { file = h.0; file_read = λ told. h.1; held = tt; is_found = λ told. subst (λ o. IfSome o HoldsNothing) h.2 known }
-    by false is = record { file = []; file_read = unknown_view view.is_told is; held = tt; is_found = unknown_view view.is_told is }
+        record { file = h.0; file_read = λ reported. h.1; held = tt; is_found = λ reported. subst (λ o. IfSome o HoldsNothing) h.2 known }
+    by false is = record { file = []; file_read = unknown_view view.is_known is; held = tt; is_found = unknown_view view.is_known is }
 
--- the same of an answer
+-- the same for an answer
 pub found_there : (view : View) (cut : CutContent) (name : List ℕ) (left : Option (List ℕ)) → IsGiven view name left
     → (r : Result (Option Found) CommandFault) → IfOk r (λ found. IfSome left (λ bytes. IsFoundHeld cut bytes found)) → IfOk r (IsFoundInSome cut) → IfOk r (FindsMaster view cut name)
 found_there view cut name left given (Ok found) known some = found_of view cut name left given found known some

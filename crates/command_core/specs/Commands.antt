@@ -8,9 +8,9 @@ use Rattle.judge_core.specs.declared.verdict.Verdict.{Verdict}
 use Rattle.judge_core.specs.declared.verdict.Verdict.TheVariants as verdicts
 use Rattle.judge_core.specs.Accepting.{Accepts, CostsLeast, CostsWindows, IsLeastMaster, IsMaster, RejectsFirst}
 use Rattle.judge_core.specs.Cutting.{said_cut}
-use Rattle.form_core.specs.Steps.{Fails}
+use Rattle.form_core.specs.Steps.{FailsUnless}
 use Rattle.archive_core.specs.Editing.{Edits, IsCertificate}
-use Rattle.folder_core.specs.Files.{OpensAs, IsFront, IsPut, IsReadOf, KeepsAllBut, KeepsOthers, View}
+use Rattle.folder_core.specs.Files.{OpensAs, IsPutInPart, IsPut, IsReadOf, KeepsAllBut, KeepsOthers, View}
 use Rattle.transfer_commands.specs.Converting.{ConvertComesTo}
 use Rattle.transfer_commands.specs.Playing.{PlayComesTo}
 use Rattle.transfer_commands.specs.Sources.{AreSources, IsUnnamed}
@@ -33,7 +33,8 @@ pub record Cut : Type 0 where
   pub master_name : List ℕ
   pub cert_name : List ℕ
 
--- the master's file holds now the master of a project and takes that were read, at this cost, unless its name is that of the certificate too; no file of another name changed
+-- the master's file holds now the master of a project and takes that were read, at this cost, unless its name is that
+-- of the certificate too; no file of another name changed
 pub record CutsFile (cut : Cut) (old new : View) (project : List ℕ) (takes : List (List ℕ)) (master : List ℕ) (total : ℕ) : Type 0 where
   pub sources : AreSources cut.project_name old project takes
   pub master_put : cut.master_name ≢ cut.cert_name → IsPut new cut.master_name master
@@ -46,7 +47,8 @@ pub record CostsAtLeast (project : List ℕ) (takes : List (List ℕ)) (master :
   pub joint : CostsLeast project takes master total
   pub windows : CostsWindows project takes master total
 
--- a master was cut at this cost, than which none costs less, and the certificate's file holds now its certificate, with which it is accepted at this cost
+-- a master was cut at this cost, than which none costs less, and the certificate's file holds now its certificate, with
+-- which it is accepted at this cost
 pub record EditsFiles (cut : Cut) (old new : View) (total : ℕ) : Type 0 where
   pub project : List ℕ
   pub takes : List (List ℕ)
@@ -65,11 +67,12 @@ pub record CutsPrefix (cut : Cut) (old new : View) : Type 0 where
   pub master : List ℕ
   pub total : ℕ
   pub sources : AreSources cut.project_name old project takes
-  pub front : IsFront cut.master_name old new master
+  pub prefix : IsPutInPart cut.master_name old new master
   pub others : KeepsOthers cut.master_name old new
   pub edits : Edits project takes cut.form master total
 
--- a master was cut, and the certificate's file is as it was, or holds a prefix of its certificate, with which it is accepted
+-- a master was cut, and the certificate's file is as it was, or holds a prefix of its certificate, with which it is
+-- accepted
 pub record LeavesMaster (cut : Cut) (old new : View) : Type 0 where
   pub project : List ℕ
   pub takes : List (List ℕ)
@@ -77,7 +80,7 @@ pub record LeavesMaster (cut : Cut) (old new : View) : Type 0 where
   pub cert : List ℕ
   pub total : ℕ
   pub cuts : CutsFile cut old new project takes master total
-  pub front : cut.cert_name ≢ cut.master_name → IsFront cut.cert_name old new cert
+  pub prefix : cut.cert_name ≢ cut.master_name → IsPutInPart cut.cert_name old new cert
   pub certificate : IsCertificate project takes master cert
   pub accepted : Accepts project takes master cert total
 
@@ -93,7 +96,8 @@ abbrev pub IsLeastIfAccepted : List ℕ → List (List ℕ) → List ℕ → Ver
 IsLeastIfAccepted project takes master (verdicts.Accepted cost) = IsLeastAt project takes master cost
 IsLeastIfAccepted project takes master (verdicts.Rejected reason) = Unit {0}
 
--- a master is accepted by a certificate at this cost, which is that over its windows, or this reason comes first against it
+-- a master is accepted by a certificate at this cost, which is that over its windows, or this reason comes first
+-- against it
 abbrev pub Judges : List ℕ → List (List ℕ) → List ℕ → List ℕ → Verdict → Type 0
 Judges project takes master cert (verdicts.Accepted cost) = Accepts project takes master cert cost × CostsWindows project takes master cost
 Judges project takes master cert (verdicts.Rejected reason) = RejectsFirst project takes master cert reason
@@ -111,7 +115,7 @@ pub record ChecksFiles (project_name master_name cert_name : List ℕ) (old new 
   pub sources : AreSources project_name old project takes
   pub master_read : IsReadOf old master_name master
   pub least : IsLeastIfAccepted project takes master verdict
-  pub by_certificate : IsTrue old.is_told → (cert : List ℕ) × OpensAs old cert_name cert × Judges project takes master cert verdict
+  pub by_certificate : IsTrue old.is_known → (cert : List ℕ) × OpensAs old cert_name cert × Judges project takes master cert verdict
   pub same : new ≡ old
 
 -- this is the first fault of making a cut of a project and takes that were read, into a file of the form if one is
@@ -120,7 +124,7 @@ pub record IsUncut (form : Option Form) (project_name : List ℕ) (old : View) (
   pub project : List ℕ
   pub takes : List (List ℕ)
   pub sources : AreSources project_name old project takes
-  pub first : Fails Memory fault (said_cut project takes form)
+  pub first : FailsUnless Memory fault (said_cut project takes form)
 
 -- nothing changed, and memory ran out, or this fault comes first on the way from the project to its cut
 abbrev pub CutRefused : Option Form → List ℕ → View → View → calls.Fault → Type 0

@@ -11,4 +11,4 @@ pub record FindsMaster (old : View) (cut : CutContent) (name : List ℕ) (found 
   pub file : List ℕ
   pub file_read : IsReadOf old name file
   pub held : IfSome found (FindsHeld cut file)
-  pub is_found : IsTrue old.is_told → IsFoundHeld cut file found
+  pub is_found : IsTrue old.is_known → IsFoundHeld cut file found

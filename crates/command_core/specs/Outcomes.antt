@@ -22,7 +22,7 @@ ShowsDone (Played n) line = line ≡ codes "played " ++ decimal n ++ codes " byt
 ShowsDone (Converted n) line = line ≡ codes "converted dropped " ++ decimal n
 ShowsDone (Edited n) line = line ≡ codes "edited total " ++ decimal n
 ShowsDone (Accepted n) line = line ≡ codes "accepted total " ++ decimal n
-ShowsDone (Info told) line = line ≡ info_text told.form told.description
+ShowsDone (Info reported) line = line ≡ info_text reported.form reported.description
 ShowsDone _ line = Unit {0}
 
 -- done: 0; a master that is rejected: 1; a fault: 2; words that are no command or name no form: 3
@@ -32,7 +32,7 @@ status_of (Converted n) = 0
 status_of (Edited n) = 0
 status_of (Accepted n) = 0
 status_of (Rejected reason) = 1
-status_of (Info told) = 0
+status_of (Info reported) = 0
 status_of (Fault f) = 2
 status_of (NoPart f) = 2
 status_of ReadFailed = 2

@@ -45,11 +45,11 @@ abbrev pub SumLineComesTo : List ℕ → View → View → Result (Vec ℕ Globa
 SumLineComesTo name old new (Ok line) = ShowsSums name old new line.items
 SumLineComesTo name old new (Err fault) = SumComesTo name old new (Err fault)
 
--- bytes that were read of a name have sums, and it is told whether this is their line
+-- bytes that were read under this name have sums, and the answer says whether this is the line of these sums
 pub record JudgesLine (name line : List ℕ) (old new : View) (is_listed : Bool) : Type 0 where
   pub made : List ℕ
   pub shows : ShowsSums name old new made
-  pub told : IsTrue is_listed ↔ (made ≡ line)
+  pub reported : IsTrue is_listed ↔ (made ≡ line)
 
 -- the folder before and after a file was judged by a line came to this
 abbrev pub ListedComesTo : List ℕ → List ℕ → View → View → Result Bool CommandFault → Type 0

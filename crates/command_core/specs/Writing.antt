@@ -2,7 +2,7 @@
 use Rattle.std.specs.Prelude.{ℕ, List}
 use Rattle.archive_core.specs.Planning.{CertifiesPlanned}
 use Rattle.archive_core.specs.declared.planning.PlannedMaster.{PlannedMaster}
-use Rattle.folder_core.specs.Files.{IsFront, IsPut, View}
+use Rattle.folder_core.specs.Files.{IsPut, IsPutInPart, View}
 
 -- it holds a certificate that shows each bridge of the master to be least
 abbrev pub CertifiesWhole : PlannedMaster → List ℕ → View → Type 0
@@ -10,4 +10,4 @@ CertifiesWhole planned name new = (cert : List ℕ) × CertifiesPlanned planned 
 
 -- it is as it was, or holds a prefix of such a certificate
 abbrev pub CertifiesPrefix : PlannedMaster → List ℕ → View → View → Type 0
-CertifiesPrefix planned name old new = (cert : List ℕ) × CertifiesPlanned planned cert × IsFront name old new cert
+CertifiesPrefix planned name old new = (cert : List ℕ) × CertifiesPlanned planned cert × IsPutInPart name old new cert

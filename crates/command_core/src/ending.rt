@@ -32,7 +32,7 @@ pub(crate) fn reads_to_end<R: Read>(inlet: &mut Inlet<R>) -> bool
 
 /// A fault of the call, which is returned only if a master and its certificate can be read. Both are read to their
 /// ends.
-pub(crate) fn fault_behind<F: Folder>(
+pub(crate) fn fault_after<F: Folder>(
     folder: &mut F,
     master: &str,
     cert: &str,

@@ -1,8 +1,8 @@
 //! Explains an outcome in a line of its own, after it was printed.
 
 use crate::outcome::Outcome;
-use disk_core::Failure;
 use explain_core::{Ended, explain};
+use folder_core::Failure;
 use std::io;
 use std::rt::{Env, Files};
 

@@ -19,7 +19,7 @@
 //!
 //! What it promises: an outcome reports what came about. What `edit` cut and what `check` accepts is a master, and none
 //! costs less. [`run`] does some command with some file names, or none, and then nothing changed. Which words ask for
-//! which command is tested. [`run_program`] has no clause.
+//! which command is tested. [`run_program`] ends with one of the statuses of [`status`].
 //!
 //! ```text
 //! let task = Task::Convert { form: Form::Dsf, input: "in.dff", output: "out.dsf" };

@@ -6,19 +6,19 @@ use std::alloc::{AllocError, Global};
 /// has none, or whose sums aren't decimal and hexadecimal digits.
 pub(crate) fn listed_name(alloc: Global, line: &str) -> Result<Option<String>, AllocError> {
     match line.split_once("  ") {
-        Some((front, shown)) if are_sums(front) => name_of(alloc, shown),
+        Some((prefix, shown)) if are_sums(prefix) => name_of(alloc, shown),
         _ => Ok(None),
     }
 }
 
-// Whether the part of a line in front of its name has digits and blanks alone.
-fn are_sums(front: &str) -> bool {
-    for byte in front.as_bytes() {
+// Whether the part of a line before its name has digits and blanks alone.
+fn are_sums(prefix: &str) -> bool {
+    for byte in prefix.as_bytes() {
         if !matches!(*byte, b' ' | b'0'..=b'9' | b'a'..=b'f') {
             return false;
         }
     }
-    !front.is_empty()
+    !prefix.is_empty()
 }
 
 // The name that was put on one line. None where a backslash stands before any other byte than those that it may.

@@ -1,6 +1,6 @@
 //! The outcome of a command, the line that is printed, and the status with which the program ends.
 
-ghost use Rattle.std.specs.Prelude.{◌≡◌, IfOk, string_bytes};
+ghost use Rattle.std.specs.Prelude.{◌≡◌, ◌≤◌, IfOk, string_bytes};
 ghost use Rattle.command_core.specs.Outcomes.{ShowsDone, of_command, of_part, of_words, status_of};
 ghost use Rattle.command_core.specs.declared.outcome.Outcome.TheVariants as outcomes;
 
@@ -93,7 +93,7 @@ pub fn outcome_line(alloc: Global, outcome: &Outcome) -> Result<String, AllocErr
         Outcome::Edited(total) => format!(in alloc; "edited total {total}"),
         Outcome::Accepted(total) => format!(in alloc; "accepted total {total}"),
         Outcome::Rejected(reason) => format!(in alloc; "rejected {reason}"),
-        Outcome::Info(told) => info_lines(alloc, told.form, &told.description),
+        Outcome::Info(reported) => info_lines(alloc, reported.form, &reported.description),
         Outcome::Fault(fault) => format!(in alloc; "fault: {fault}"),
         Outcome::NoPart(fault) => format!(in alloc; "fault: {fault}"),
         Outcome::ReadFailed => format!(in alloc; "fault: ReadFailed"),
@@ -106,7 +106,8 @@ pub fn outcome_line(alloc: Global, outcome: &Outcome) -> Result<String, AllocErr
 /// The program's exit status: 0 if the command was done, 1 for a master that is rejected, 2 for a fault, 3 for words
 /// that are no command or name no form.
 pub fn status(outcome: &Outcome) -> u8
-    ensures { result ≡ status_of outcome.now }
+    ensures value { result ≡ status_of outcome.now }
+    ensures limit { result ≤ 3 }
 {
     match outcome {
         Outcome::Played(_)

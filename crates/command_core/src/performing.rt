@@ -5,7 +5,7 @@ ghost use Rattle.command_core.specs.Commands.{CheckComesTo, EditComesTo, TaskCom
 ghost use Rattle.command_core.specs.Outcomes.{outcome_of, verdict_of};
 ghost use Rattle.command_core.specs.declared.outcome.Outcome.TheVariants as outcomes;
 
-use crate::ending::fault_behind;
+use crate::ending::fault_after;
 use crate::judging::judge_opened;
 use crate::masters::find_named;
 use crate::outcome::Outcome;
@@ -30,8 +30,8 @@ use words_core::Task;
 ///   created. Its certificate is created once the master is complete.
 /// - `Play`: The recording is opened and the WAVE file created. Then the one is read and the other written, piece by
 ///   piece.
-/// - `PlayPart`: The recording is read through as for `Info`, to find the part. Then it is played as by `Play`, and what
-///   lies before the part is dropped.
+/// - `PlayPart`: The recording is read through as for `Info`, to find the part. Then it is played as by `Play`, and
+///   what lies before the part is dropped.
 /// - `Check`, and recordings and takes of 2 MiB or more: see below.
 ///
 /// `Check` reads a master once, and its certificate while the master is judged. Both are read to their ends, whatever
@@ -77,7 +77,7 @@ pub fn perform<F: Folder>(alloc: Global, task: Task, folder: &mut F) -> Outcome
             master,
             cert,
         } => judged(check_files(alloc, folder, project, master, cert)),
-        Task::Info { file } => told(open_file(alloc, folder, file)),
+        Task::Info { file } => reported(open_file(alloc, folder, file)),
     }
 }
 
@@ -115,7 +115,7 @@ fn check_files<F: Folder>(
     let sources = source_excerpts(alloc, folder, project)?;
     let cut = match cut_of(sources, None) {
         Ok(cut) => cut,
-        Err(fault) => return Err(fault_behind(folder, master, cert, fault)),
+        Err(fault) => return Err(fault_after(folder, master, cert, fault)),
     };
     let found = find_named(alloc, folder, &cut, master)?;
     let Ok(file) = folder.open(cert) else {
@@ -166,11 +166,11 @@ fn judged(came: Result<Verdict, CommandFault>) -> Outcome
 }
 
 // The outcome of a command that reported what a file holds.
-fn told(came: Result<Reported, CommandFault>) -> Outcome
+fn reported(came: Result<Reported, CommandFault>) -> Outcome
     ensures { result ≡ outcome_of outcomes.Info came }
 {
     match came {
-        Ok(told) => Outcome::Info(told),
+        Ok(reported) => Outcome::Info(reported),
         Err(fault) => fault.into(),
     }
 }

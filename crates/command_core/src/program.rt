@@ -1,14 +1,16 @@
 //! The program: does what its words ask for over its files, and prints the outcome.
 
+ghost use Rattle.std.specs.Prelude.{◌≡◌, ◌≤◌, ℕ};
+ghost use Rattle.std.specs.Process.{exit_status};
 ghost use Rattle.command_core.specs.Commands.{ComesTo};
+ghost use Rattle.command_core.specs.declared.program.Came.TheVariants.{Summed};
 
 use crate::explaining::{Shown, asks_to_explain, explain_outcome};
 use crate::outcome::{Outcome, outcome_line, status};
 use crate::performing::perform;
 use crate::sums::{Watch, run_sums};
 use archive_core::Fault;
-use disk_core::{Disk, Failure};
-use folder_core::{Folder, WatchedFolder};
+use folder_core::{Disk, Failure, Folder, WatchedFolder};
 use std::alloc::Global;
 use std::io;
 use std::io::Input;
@@ -31,11 +33,13 @@ pub fn run_program<R: Env + Files + Clock + Input + Print + Eprint + AllocGlobal
 ) -> ExitCode
 where
     R::File: AsFd,
+    ensures status { exit_status result ≤ 3 }
 {
     let is_asked = asks_to_explain(rt);
     let watch = Watch {
         process,
         is_watched,
+        is_explained: is_watched || is_asked,
     };
     let (words, ran) = match given_words(rt, is_asked) {
         Ok(words) => match ran_by(rt, words.as_slice(), watch) {
@@ -44,11 +48,11 @@ where
         },
         Err(error) => (None, not_run(&error)),
     };
-    let told = tell(rt, ran.outcome, ran.answers);
-    if is_watched || is_asked {
-        explain_outcome(rt, words.as_ref(), &told, ran.failure);
+    let reported = tell(rt, ran.outcome, ran.answers);
+    if watch.is_explained {
+        explain_outcome(rt, words.as_ref(), &reported, ran.failure);
     }
-    ExitCode::from(status(&told.outcome))
+    ExitCode::from(status(&reported.outcome))
 }
 
 // What came of the words, where it is told, and why a file could not be made.
@@ -67,13 +71,14 @@ enum Came {
 }
 
 // Does what the words ask for.
-fn ran_by<R: Files + Clock + Input + Print + Eprint + AllocGlobal>(
+fn ran_by<R: Files + Env + Clock + Input + Print + Eprint + AllocGlobal>(
     rt: &R,
     words: &[String],
     watch: Watch,
 ) -> Came
 where
     R::File: AsFd,
+    ensures { (status : ℕ) → result ≡ Summed status → status ≤ 3 }
 {
     match sum_task_of(rt.alloc(), words) {
         Ok(Some(task)) => Came::Summed(run_sums(rt, &task, watch)),

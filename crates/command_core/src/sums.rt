@@ -1,36 +1,41 @@
 //! The program's `sum`: prints the sums of files, or judges files by lists of sums.
 
+ghost use Rattle.std.specs.Prelude.{◌≤◌, IfOk};
+
 use crate::listing::listed_name;
 use crate::outcome::{Outcome, outcome_line, status};
 use crate::summing::{is_as_listed, push_name, sum_line};
 use archive_core::Fault;
-use disk_core::Disk;
-use folder_core::{WatchedFolder, read_file};
+use explain_core::{Ended, Summed, explain, explain_sum};
+use folder_core::{Disk, WatchedFolder, read_file};
 use std::alloc::Global;
-use std::io::Input;
+use std::io::{Error, Input};
 use std::os::fd::AsFd;
-use std::rt::{Clock, Files};
+use std::rt::{Clock, Env, Files};
 use transfer_commands::CommandFault;
 use words_core::SumTask;
 
-/// What the program knows of itself: its process, and whether standard error shows how far it is.
+/// What the program knows of itself: its process, whether standard error shows how far it is, and whether faults are
+/// explained there.
 #[derive(Clone, Copy)]
 pub(crate) struct Watch {
     pub(crate) process: u32,
     pub(crate) is_watched: bool,
+    pub(crate) is_explained: bool,
 }
 
 /// Does what `sum` asks for, file by file, and returns the status with which the program ends: the greatest of those of
 /// the files. It is 0 if all were done or are as they are listed, 1 if one isn't, 2 after a fault.
 ///
 /// If standard output doesn't take a line, no more files are read.
-pub(crate) fn run_sums<R: Files + Clock + Input + Print + Eprint + AllocGlobal>(
+pub(crate) fn run_sums<R: Files + Env + Clock + Input + Print + Eprint + AllocGlobal>(
     rt: &R,
     task: &SumTask,
     watch: Watch,
 ) -> u8
 where
     R::File: AsFd,
+    ensures { result ≤ 3 }
 {
     let mut worst = 0;
     for file in &task.files {
@@ -40,115 +45,132 @@ where
             sum_one(rt, file, watch)
         };
         match came {
-            Some(status) => worst = status.max(worst),
-            None => return unwritten(rt),
+            Ok(status) => worst = status.max(worst),
+            Err(error) => return unwritten(rt, file, &error, watch),
         }
     }
     worst
 }
 
-// Prints the line of a file, and returns its status; None where standard output doesn't take it.
-fn sum_one<R: Files + Clock + Input + Print + Eprint + AllocGlobal>(
+// Prints the line of a file, and returns its status; Err where standard output doesn't take it.
+fn sum_one<R: Files + Env + Clock + Input + Print + Eprint + AllocGlobal>(
     rt: &R,
     name: &str,
     watch: Watch,
-) -> Option<u8>
+) -> Result<u8, Error>
 where
     R::File: AsFd,
+    ensures { IfOk result (λ status. status ≤ 3) }
 {
     let mut folder = WatchedFolder::new(rt, Disk::new(rt, watch.process), watch.is_watched);
     let came = sum_line(rt.alloc(), &mut folder, name);
+    let file = Summed::File(name);
     if folder.into_inner().has_wanted_memory() {
-        return Some(tell_fault(rt, Fault::Memory.into(), name));
+        return Ok(tell_fault(rt, Fault::Memory.into(), file, watch));
     }
     match came {
         Ok(line) => put_line(rt, &line, ""),
-        Err(fault) => Some(tell_fault(rt, fault, name)),
+        Err(fault) => Ok(tell_fault(rt, fault, file, watch)),
     }
 }
 
 // Judges the files of a list, and returns the greatest status of its lines.
-fn check_list<R: Files + Clock + Input + Print + Eprint + AllocGlobal>(
+fn check_list<R: Files + Env + Clock + Input + Print + Eprint + AllocGlobal>(
     rt: &R,
     list: &str,
     watch: Watch,
-) -> Option<u8>
+) -> Result<u8, Error>
 where
     R::File: AsFd,
+    ensures { IfOk result (λ status. status ≤ 3) }
 {
     let mut disk = Disk::new(rt, watch.process);
     let came = read_file(rt.alloc(), &mut disk, list);
     if disk.has_wanted_memory() {
-        return Some(tell_fault(rt, Fault::Memory.into(), list));
+        return Ok(tell_fault(rt, Fault::Memory.into(), Summed::List(list), watch));
     }
     match came {
         Ok(bytes) => check_lines(rt, list, &bytes, watch),
-        Err(fault) => Some(tell_fault(rt, fault.into(), list)),
+        Err(fault) => Ok(tell_fault(rt, fault.into(), Summed::List(list), watch)),
     }
 }
 
 // Judges the files of a list's lines. A list without a line is refused.
-fn check_lines<R: Files + Clock + Input + Print + Eprint + AllocGlobal>(
+fn check_lines<R: Files + Env + Clock + Input + Print + Eprint + AllocGlobal>(
     rt: &R,
     list: &str,
     bytes: &[u8],
     watch: Watch,
-) -> Option<u8>
+) -> Result<u8, Error>
 where
     R::File: AsFd,
+    ensures { IfOk result (λ status. status ≤ 3) }
 {
     let Ok(text) = str::from_utf8(bytes) else {
-        return Some(refuse_list(rt, list, 0));
+        return Ok(refuse_list(rt, list, 0, watch));
     };
     let mut worst = 0;
     let mut number = 0usize;
     for line in text.lines() {
         number = number.saturating_add(1);
         let status = match listed_name(rt.alloc(), line) {
-            Ok(Some(name)) => check_one(rt, &name, line, watch)?,
-            Ok(None) => refuse_list(rt, list, number),
-            Err(_) => tell_fault(rt, Fault::Memory.into(), list),
+            Ok(Some(name)) => check_one(rt, Summed::Listed(&name, number, list), line, watch)?,
+            Ok(None) => refuse_list(rt, list, number, watch),
+            Err(_) => tell_fault(rt, Fault::Memory.into(), Summed::List(list), watch),
         };
         worst = status.max(worst);
     }
     if number == 0 {
-        return Some(refuse_list(rt, list, 0));
+        return Ok(refuse_list(rt, list, 0, watch));
     }
-    Some(worst)
+    Ok(worst)
 }
 
 // Judges a file by its line, and prints whether it is as listed.
-fn check_one<R: Files + Clock + Input + Print + Eprint + AllocGlobal>(
+fn check_one<R: Files + Env + Clock + Input + Print + Eprint + AllocGlobal>(
     rt: &R,
-    name: &str,
+    file: Summed,
     line: &str,
     watch: Watch,
-) -> Option<u8>
+) -> Result<u8, Error>
 where
     R::File: AsFd,
+    ensures { IfOk result (λ status. status ≤ 3) }
 {
+    let name = name_of(file);
     let mut folder = WatchedFolder::new(rt, Disk::new(rt, watch.process), watch.is_watched);
     let came = is_as_listed(rt.alloc(), &mut folder, name, line.as_bytes());
     let has_wanted_memory = folder.into_inner().has_wanted_memory();
     let Some(shown) = shown_name(rt.alloc(), name) else {
-        return Some(tell_fault(rt, Fault::Memory.into(), name));
+        return Ok(tell_fault(rt, Fault::Memory.into(), file, watch));
     };
     if matches!(came, Ok(true)) && !has_wanted_memory {
         return put_line(rt, &shown, ": OK");
     }
     put_line(rt, &shown, ": FAILED")?;
     match came {
-        _ if has_wanted_memory => Some(tell_fault(rt, Fault::Memory.into(), name)),
-        Ok(_) => Some(1),
-        Err(fault) => Some(tell_fault(rt, fault, name)),
+        _ if has_wanted_memory => Ok(tell_fault(rt, Fault::Memory.into(), file, watch)),
+        Ok(_) => Ok(1),
+        Err(fault) => Ok(tell_fault(rt, fault, file, watch)),
+    }
+}
+
+// The name of a file.
+fn name_of(file: Summed<'_>) -> &str {
+    match file {
+        Summed::File(name) => name,
+        Summed::List(name) => name,
+        Summed::Listed(name, _, _) => name,
     }
 }
 
 // Prints a line and what stands behind it, and returns the status of a file that was done.
-fn put_line<R: Print>(rt: &R, line: &[u8], behind: &str) -> Option<u8> {
-    rt.write_all(line).ok()?;
-    rt.println(behind).ok()?;
-    Some(0)
+fn put_line<R: Print>(rt: &R, line: &[u8], after: &str) -> Result<u8, Error>
+    ensures { IfOk result (λ status. status ≤ 3) }
+{
+    rt.write_all(line)?;
+    rt.println(after)?;
+    Ok(0)
 }
 
 // A name on one line; None if there is no memory for it.
@@ -159,17 +181,37 @@ fn shown_name(alloc: Global, name: &str) -> Option<Vec<u8>> {
 }
 
 // Prints the fault of a file and its name, and returns its status.
-fn tell_fault<R: Eprint + AllocGlobal>(rt: &R, fault: CommandFault, name: &str) -> u8 {
+fn tell_fault<R: Files + Env + Eprint + AllocGlobal>(
+    rt: &R,
+    fault: CommandFault,
+    file: Summed,
+    watch: Watch,
+) -> u8
+    ensures { result ≤ 3 }
+{
     let outcome = Outcome::from(fault);
     match outcome_line(rt.alloc(), &outcome) {
-        Ok(line) => tell_named(rt, &line, name),
+        Ok(line) => tell_named(rt, &line, name_of(file)),
         Err(_) => tell_want(rt),
     }
+    let ended = match fault {
+        CommandFault::Call(fault) => Ended::Fault(fault),
+        CommandFault::ReadFailed => Ended::ReadFailed,
+        CommandFault::WriteFailed => Ended::WriteFailed(None),
+    };
+    tell_why(rt, file, ended, watch);
     status(&outcome)
 }
 
 // Prints that a line of a list isn't one of sums, or, for the line 0, that the list has none, and returns the status.
-fn refuse_list<R: Eprint + AllocGlobal>(rt: &R, list: &str, number: usize) -> u8 {
+fn refuse_list<R: Files + Env + Eprint + AllocGlobal>(
+    rt: &R,
+    list: &str,
+    number: usize,
+    watch: Watch,
+) -> u8
+    ensures { result ≤ 3 }
+{
     let line = if number == 0 {
         format!(in rt.alloc(); "fault: ListRefused")
     } else {
@@ -179,7 +221,27 @@ fn refuse_list<R: Eprint + AllocGlobal>(rt: &R, list: &str, number: usize) -> u8
         Ok(line) => tell_named(rt, &line, list),
         Err(_) => tell_want(rt),
     }
+    tell_why(rt, Summed::List(list), Ended::ListRefused(number), watch);
     2
+}
+
+// Prints what explains a fault, if that is asked for and there is something.
+fn tell_why<R: Files + Env + Eprint + AllocGlobal>(
+    rt: &R,
+    file: Summed,
+    ended: Ended,
+    watch: Watch,
+) {
+    if !watch.is_explained {
+        return;
+    }
+    let explained = match ended {
+        Ended::Untold(_) => explain(rt, &[], ended),
+        _ => explain_sum(rt, file, ended),
+    };
+    if let Some(line) = explained {
+        let _ = rt.eprintln(&line);
+    }
 }
 
 // Prints a line and behind two blanks a name on standard error, which may fail. If there is no memory for the name, it
@@ -203,8 +265,16 @@ fn tell_want<R: Eprint>(rt: &R) {
     let _ = rt.eprintln("fault: Memory");
 }
 
-// Prints that standard output doesn't take a line, and returns the status.
-fn unwritten<R: Eprint>(rt: &R) -> u8 {
+// Prints that standard output doesn't take the line of a file or of a list, and returns the status.
+fn unwritten<R: Files + Env + Eprint + AllocGlobal>(
+    rt: &R,
+    name: &str,
+    error: &Error,
+    watch: Watch,
+) -> u8
+    ensures { result ≤ 3 }
+{
     let _ = rt.eprintln("fault: WriteFailed");
+    tell_why(rt, Summed::File(name), Ended::Untold(*error), watch);
     2
 }

@@ -1,14 +1,18 @@
 //! Writes the files of a planned master. Each is created only when it is written.
 
-ghost use Rattle.std.specs.Prelude.{◌≡◌, [], IfErr, IfOk, IsTrue, List, OnErr, OnOk, Some, ℕ};
+ghost use Rattle.std.specs.Prelude.{◌≡◌, ◌-◌, ◌<◌, ◌^◌, [], IfErr, IfOk, IsTrue, List, OnErr, OnOk, Some, ℕ};
 ghost use Rattle.archive_core.specs.Planning.{IsFileOf, IsPlanned, IsSamePlan};
 ghost use Rattle.command_core.specs.Writing.{CertifiesPrefix, CertifiesWhole};
-ghost use Rattle.folder_core.specs.Files.{IsFront, IsPut, KeepsOthers};
+ghost use Rattle.chunk_core.specs.Outlets.{outlet_failures, outlet_writer};
+ghost use Rattle.master_core.specs.Certifying.{AppendsCert, AppendsCertPrefix};
+ghost use Rattle.folder_core.specs.Files.{IsPut, IsPutInPart, KeepsOthers};
 ghost use Rattle.folder_core.specs.declared.fault.FileFault.TheVariants as faults;
 
+use crate::sources::WorkShown;
 use archive_core::PlannedMaster;
-use chunk_core::Outlet;
-use folder_core::{FileFault, Folder, FolderFault, hand_back};
+use chunk_core::{Device, Outlet};
+use folder_core::{FileFault, Folder, FolderFault, Work, hand_back};
+use std::io::Write;
 
 /// Creates a file, writes the planned master to it and keeps it, or gives it up if a write failed. Before that, it
 /// reserves the memory to create the file of the certificate.
@@ -28,7 +32,7 @@ pub(crate) fn write_master<F: Folder>(
     ensures bytes { (file : List ℕ) → IsFileOf planned.old file
         → OnOk result (IsPut (F.view folder.new) name.now file) }
     ensures refused { (file : List ℕ) → IsFileOf planned.old file
-        → OnErr result (IsFront name.now (F.view folder.old) (F.view folder.new) file) }
+        → OnErr result (IsPutInPart name.now (F.view folder.old) (F.view folder.new) file) }
     ensures fault { IfErr result (λ fault. fault ≡ faults.WriteFailed) }
 {
     let Ok(made) = create_before(folder, name, cert) else {
@@ -58,14 +62,34 @@ pub(crate) fn write_certificate<F: Folder>(
     let Ok(made) = folder.create(name) else {
         return Err(FileFault::WriteFailed);
     };
-    let (written, outlet) = planned.write_certificate(Outlet::new(made));
+    let (written, outlet) = certify_shown(folder, planned, Outlet::new(made));
     hand_back(folder, name, &written, outlet.into_inner())
+}
+
+// Writes the certificate of the planned master to an outlet. The folder shows how far it has come.
+fn certify_shown<F: Folder, W: Write>(
+    folder: &mut F,
+    planned: PlannedMaster,
+    outlet: Outlet<W>,
+) -> (Result<(), Device>, Outlet<W>)
+    requires planned { IsPlanned planned }
+    requires ready { outlet_failures outlet < 2 ^ 64 - 1 }
+    ensures same { F.view folder.new ≡ F.view folder.old }
+    ensures ok { OnOk result.0 (AppendsCert planned.cut planned.bridges (W.contents (outlet_writer outlet))
+        (W.contents (outlet_writer result.1))) }
+    ensures err { OnErr result.0 (AppendsCertPrefix planned.cut planned.bridges (W.contents (outlet_writer outlet))
+        (W.contents (outlet_writer result.1))) }
+{
+    folder.begin_work(Work::Certificate);
+    let came = planned.write_certificate(outlet, &WorkShown { folder });
+    folder.end_work();
+    came
 }
 
 // Creates a file, after it reserved the memory to create the next.
 fn create_before<F: Folder>(folder: &mut F, name: &str, next: &str) -> Result<F::Out, FolderFault>
     ensures same { F.view folder.new ≡ F.view folder.old }
-    ensures empty { IfOk result (λ made. IsTrue (F.view folder.old).is_told → F.Out.contents made ≡ Some []) }
+    ensures empty { IfOk result (λ made. IsTrue (F.view folder.old).is_known → F.Out.contents made ≡ Some []) }
 {
     folder.hold(next)?;
     folder.create(name)

@@ -8,7 +8,7 @@ use Rattle.cost_core.specs.Bridges.{Bridging, target, term, places_cost, bridge_
 use Rattle.cost_core.specs.Channels.{Part, channel, channel_cost, windows_cost, AreJoined, HaveLengths, AreLeast, PlacesAreWindows, LeastTogether}
 use Rattle.cost_core.proofs.SumLaws.{weighed_same}
 
--- a weighted sum reads a list that stands within another as it reads it alone
+-- a weighted sum reads a list within another as it reads it alone
 weighted_inside : (weights : List ℤ) (u z v : List Bool) (n : ℕ) → length weights ≤ n + 1 → n < length z → weighted weights (u ++ (z ++ v)) (length u + n) ≡ weighted weights z n
 unfolding weighted
 weighted_inside weights u z v n few lt =
@@ -43,8 +43,8 @@ channel_is cue [] xs = sym (append-nil cue)
 channel_is cue (p ∷ ps) [] = sym (append-nil cue)
 channel_is cue (p ∷ ps) (x ∷ xs) = refl
 
-window_in : (u front pre x fol rest : List Bool) → u ++ ((front ++ pre) ++ (x ++ (fol ++ rest))) ≡ (u ++ front) ++ ((pre ++ (x ++ fol)) ++ rest)
-window_in u front pre x fol rest = simp append_assoc refl
+window_in : (u prefix pre x fol rest : List Bool) → u ++ ((prefix ++ pre) ++ (x ++ (fol ++ rest))) ≡ (u ++ prefix) ++ ((pre ++ (x ++ fol)) ++ rest)
+window_in u prefix pre x fol rest = simp append_assoc refl
 
 moved_on : (u cue x rest : List Bool) → u ++ (cue ++ (x ++ rest)) ≡ (u ++ (cue ++ x)) ++ rest
 moved_on u cue x rest = simp append_assoc refl
@@ -52,11 +52,11 @@ moved_on u cue x rest = simp append_assoc refl
 -- the places of one bridge
 module _ (u cue x next rest : List Bool) (d : Bridging) (many : length d.weights ≡ suc (length d.preceding)) (fits : length d.preceding ≤ length cue) (pre : d.preceding ≡ drop (length cue - length d.preceding) cue)
     (fits_after : length d.following ≤ length next) (fol : d.following ≡ take (length d.following) next) (levels : length x ≡ d.levels) where
-  front : List Bool
-  front = take (length cue - length d.preceding) cue
+  prefix : List Bool
+  prefix = take (length cue - length d.preceding) cue
 
-  cue_is : cue ≡ front ++ d.preceding
-  unfolding front
+  cue_is : cue ≡ prefix ++ d.preceding
+  unfolding prefix
   cue_is = sym (take-append-drop (length cue - length d.preceding) cue) ∙ ap (λ l. take (length cue - length d.preceding) cue ++ l) (sym pre)
 
   back : List Bool
@@ -66,11 +66,11 @@ module _ (u cue x next rest : List Bool) (d : Bridging) (many : length d.weights
   unfolding back
   next_is = ap (λ l. l ++ rest) (sym (take-append-drop (length d.following) next) ∙ ap (λ l. l ++ drop (length d.following) next) (sym fol)) ∙ append_assoc d.following (drop (length d.following) next) rest
 
-  whole_is : u ++ (cue ++ (x ++ (next ++ rest))) ≡ (u ++ front) ++ ((d.preceding ++ (x ++ d.following)) ++ back)
-  whole_is = ap (λ l. u ++ (cue ++ (x ++ l))) next_is ∙ ap (λ l. u ++ (l ++ (x ++ (d.following ++ back)))) cue_is ∙ window_in u front d.preceding x d.following back
+  whole_is : u ++ (cue ++ (x ++ (next ++ rest))) ≡ (u ++ prefix) ++ ((d.preceding ++ (x ++ d.following)) ++ back)
+  whole_is = ap (λ l. u ++ (cue ++ (x ++ l))) next_is ∙ ap (λ l. u ++ (l ++ (x ++ (d.following ++ back)))) cue_is ∙ window_in u prefix d.preceding x d.following back
 
-  place_is : length u + length cue ≡ length (u ++ front) + length d.preceding
-  place_is = omega (arith, ap length cue_is, length-append front d.preceding, length-append u front)
+  place_is : length u + length cue ≡ length (u ++ prefix) + length d.preceding
+  place_is = omega (arith, ap length cue_is, length-append prefix d.preceding, length-append u prefix)
 
   pub bridge_places : places_cost d (u ++ (cue ++ (x ++ (next ++ rest)))) (length u + length cue) ≡ bridge_cost d x
   unfolding bridge_cost places_cost
@@ -78,7 +78,7 @@ module _ (u cue x next rest : List Bool) (d : Bridging) (many : length d.weights
       let z = d.preceding ++ (x ++ d.following) in
       let n = d.levels + length d.following in
       let long : length z ≡ length d.preceding + n = length-append d.preceding (x ++ d.following) ∙ omega (arith, length-append x d.following) in
-      ap (λ l. places_cost d l (length u + length cue)) whole_is ∙ ap (places_cost d ((u ++ front) ++ (z ++ back))) place_is ∙ places_inside d many (u ++ front) z back n 1 (omega arith) (omega arith)
+      ap (λ l. places_cost d l (length u + length cue)) whole_is ∙ ap (places_cost d ((u ++ prefix) ++ (z ++ back))) place_is ∙ places_inside d many (u ++ prefix) z back n 1 (omega arith) (omega arith)
 
 places_from : (u cue : List Bool) (ps : List Part) (xs : List (List Bool)) → AreJoined cue ps → HaveLengths ps xs → channel_cost (u ++ channel cue ps xs) (length u + length cue) ps ≡ windows_cost ps xs
 unfolding channel channel_cost windows_cost AreJoined HaveLengths

@@ -3,7 +3,7 @@ use Rattle.std.proofs.Common.{◌≡◌, ℕ, ◌+◌, ◌-◌, ◌≤◌, Bool,
 use Rattle.std.proofs.lemmas.List.{drop-drop, drop-take, take-take}
 use Rattle.dsd_bits.proofs.PackingLemmas.{length-slice_range}
 use Rattle.cost_core.specs.Channels.{FadesJoin}
-use Rattle.cost_core.specs.Windows.{cue_at}
+use Rattle.cost_core.specs.Windows.{splice_cue}
 use Rattle.cost_core.proofs.Windows.{cue_fits, preceding_many, following_many}
 
 module _ (xs : List Bool) where
@@ -25,15 +25,15 @@ module _ (xs : List Bool) where
 pub fades_join : FadesJoin
 fades_join splice i a b fine h inside next_inside =
     let n = length splice.weights - 1 in
-    let first = (cue_at splice i).start in
-    let stop = (cue_at splice i).stop in
-    let start = (cue_at splice (i + 1)).start in
-    let last = (cue_at splice (i + 1)).stop in
+    let first = (splice_cue splice i).start in
+    let stop = (splice_cue splice i).stop in
+    let start = (splice_cue splice (i + 1)).start in
+    let last = (splice_cue splice (i + 1)).stop in
     let some = fine.weights_fit.two_weights in
     let here = (cue_fits splice fine i (omega arith)).long_enough in
     let next = (cue_fits splice fine (i + 1) h).long_enough in
     let before = preceding_many splice fine i a stop b start (omega arith) (omega (arith, here, some)) inside (omega (arith, next, next_inside)) in
-    let behind = following_many splice fine i a stop b start (omega arith) (omega (arith, here, some)) inside (omega (arith, next, next_inside)) in
+    let after = following_many splice fine i a stop b start (omega arith) (omega (arith, here, some)) inside (omega (arith, next, next_inside)) in
     let cue = length-slice_range a first stop inside in
     let next_cue = length-slice_range b start last next_inside in
     let place : stop - first - n ≡ length (slice_range a first stop) - length (slice_range a (stop - n) stop) = omega arith in
@@ -42,5 +42,5 @@ fades_join splice i a b fine h inside next_inside =
       before_in = omega arith;
       before_is = last_of_range a first stop n (omega arith) inside ∙ ap (λ m. drop m (slice_range a first stop)) place;
       after_in = omega arith;
-      after_is = first_of_range b start last n (omega arith) ∙ ap (λ m. take m (slice_range b start last)) (sym behind);
+      after_is = first_of_range b start last n (omega arith) ∙ ap (λ m. take m (slice_range b start last)) (sym after);
     }

@@ -2,7 +2,7 @@ pub mod Arriving
 pub mod Channels
 pub mod Chunks
 pub mod Fades
-pub mod Hearing
+pub mod TakeParts
 pub mod Joining
 pub mod Lanes
 pub mod Leasts

@@ -39,7 +39,7 @@ weighed_in weights bit = partly_weighed_in weights bit (length weights) (omega a
 pub kept : (z : ℤ) → unsigned_abs z < 2 ^ 31 → to_z w32 (of_z w32 z) ≡ z
 kept z h = to_z-of_z w32 z (fits_signed_from_abs w32 z h)
 
--- so many parts of a weighted sum
+-- n parts of a weighted sum
 pub part_in : (n : ℕ) (z : ℤ) → unsigned_abs z ≤ 4096 → unsigned_abs (pos n *ℤ z) ≤ n * 4096
 part_in n z h = rw (unsigned_abs-mul (pos n) z) (mul-le n (unsigned_abs z) n 4096 (omega arith) h)
 
@@ -48,7 +48,7 @@ part_kept n z h k =
     let e : to_z w32 n ≡ pos n = omega (arith, ints) in
     rw (e, kept z (omega arith)) (kept (pos n *ℤ z) (omega (arith, part_in n z k)))
 
--- a small number fits in 32 bits, and so many parts of a weighted sum do
+-- a small number fits in 32 bits, and so do n parts of a weighted sum
 pub small_fits : (n : ℕ) → n ≤ 4097 → FitsSigned w32 (pos n)
 small_fits n h = fits_signed_from_abs w32 (pos n) (omega arith)
 

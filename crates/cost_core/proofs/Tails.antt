@@ -43,7 +43,7 @@ twice_moved q e k v =
     let d : q * (2 * 2 ^ k) ≡ 2 * (q * 2 ^ k) = omega arith in
     rw (p, d) (omega arith)
 
--- state q's number in the table, where so many bits that end in state e follow it and then the bit v
+-- state q's number in the table, where n bits that end in state e follow it and then the bit v
 pub code_is : (w q e k v : ℕ) → v < 2 → (q * 2 ^ (k + 1) + (2 * e + v)) % 2 ^ suc w ≡ 2 * ((q * 2 ^ k + e) % 2 ^ w) + v
 code_is w q e k v h =
     let x = q * 2 ^ k + e in

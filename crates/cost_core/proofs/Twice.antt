@@ -10,9 +10,9 @@ use Rattle.cost_core.proofs.Chunks.{at_chunk, each_chunk, chunk-zip2, row_more, 
 use Rattle.cost_core.proofs.Lanes.{sums_fit}
 
 -- `interleave` of eight lanes with themselves
-pub woven_front : (xs : List ℕ) → length xs ≡ 8 → pick_l 0 (xs ++ xs) (0 ∷ 8 ∷ 1 ∷ 9 ∷ 2 ∷ 10 ∷ 3 ∷ 11 ∷ []) ≡ twice (take 4 xs)
-woven_front (a ∷ b ∷ c ∷ d ∷ e ∷ f ∷ g ∷ h ∷ []) l = refl
-woven_front _ l = absurd (omega arith)
+pub woven_prefix : (xs : List ℕ) → length xs ≡ 8 → pick_l 0 (xs ++ xs) (0 ∷ 8 ∷ 1 ∷ 9 ∷ 2 ∷ 10 ∷ 3 ∷ 11 ∷ []) ≡ twice (take 4 xs)
+woven_prefix (a ∷ b ∷ c ∷ d ∷ e ∷ f ∷ g ∷ h ∷ []) l = refl
+woven_prefix _ l = absurd (omega arith)
 
 pub woven_back : (xs : List ℕ) → length xs ≡ 8 → pick_l 0 (xs ++ xs) (4 ∷ 12 ∷ 5 ∷ 13 ∷ 6 ∷ 14 ∷ 7 ∷ 15 ∷ []) ≡ twice (drop 4 xs)
 woven_back (a ∷ b ∷ c ∷ d ∷ e ∷ f ∷ g ∷ h ∷ []) l = refl
@@ -42,8 +42,8 @@ take-twice zero xs = refl
 take-twice (suc n) [] = let e : 2 * suc n ≡ suc (suc (2 * n)) = omega arith in ap (λ m. take m (twice [])) e
 take-twice (suc n) (x ∷ xs) = let e : 2 * suc n ≡ suc (suc (2 * n)) = omega arith in ap (λ m. take m (twice (x ∷ xs))) e ∙ ap (λ l. x ∷ x ∷ l) (take-twice n xs)
 
-pub front_is : (xs : List ℕ) (i : ℕ) → twice (take 4 (take 8 (drop (8 * i) xs))) ≡ take 8 (drop (8 * (2 * i)) (twice xs))
-front_is xs i =
+pub prefix_is : (xs : List ℕ) (i : ℕ) → twice (take 4 (take 8 (drop (8 * i) xs))) ≡ take 8 (drop (8 * (2 * i)) (twice xs))
+prefix_is xs i =
     let e : 2 * (8 * i) ≡ 8 * (2 * i) = omega arith in
     ap twice (take-take 4 8 (drop (8 * i) xs) (omega arith)) ∙ sym (take-twice 4 (drop (8 * i) xs)) ∙ ap (take 8) (sym (drop-twice (8 * i) xs)) ∙ ap (λ m. take 8 (drop m (twice xs))) e
 
@@ -66,8 +66,8 @@ each_last P n part xs e all = subst (Each1 P) (sym e) (Each1-drop P n xs all)
 
 -- the doubled halves of a chunk
 module _ (ws : List (List ℕ)) (xs ys : List ℕ) (i : ℕ) (e : ws ≡ first_chunks 8 (length xs / 8) xs) (l : i < length xs / 8) where
-  pub front_of : ys ≡ twice (take 4 (get_or ws i [])) → ys ≡ take 8 (drop (8 * (2 * i)) (twice xs))
-  front_of is = is ∙ ap (λ w. twice (take 4 w)) (at_chunk ws xs i e l) ∙ front_is xs i
+  pub prefix_of : ys ≡ twice (take 4 (get_or ws i [])) → ys ≡ take 8 (drop (8 * (2 * i)) (twice xs))
+  prefix_of is = is ∙ ap (λ w. twice (take 4 w)) (at_chunk ws xs i e l) ∙ prefix_is xs i
 
   pub back_of : ys ≡ twice (drop 4 (get_or ws i [])) → ys ≡ take 8 (drop (8 * (2 * i + 1)) (twice xs))
   back_of is = is ∙ ap (λ w. twice (drop 4 w)) (at_chunk ws xs i e l) ∙ back_is xs i

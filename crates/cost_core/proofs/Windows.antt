@@ -9,7 +9,7 @@ use Rattle.splice_core.specs.Splices.{SpliceContent, splice_content}
 use Rattle.splice_core.specs.declared.cue.Cue.{Cue}
 use Rattle.splice_core.specs.declared.splice.Splice.{Splice}
 use Rattle.cost_core.specs.Limits.{IsBridging}
-use Rattle.cost_core.specs.Windows.{bridging_at, cue_at}
+use Rattle.cost_core.specs.Windows.{bridging_at, splice_cue}
 use Rattle.cost_core.proofs.TargetLaws.{targets_number, targets_small}
 
 -- what a splice keeps of itself
@@ -17,18 +17,18 @@ pub splicing : (splice : Splice) → IsSplicing (splice_content splice).weights 
 splicing splice = rw (length-map splice.takes.items string_bytes) splice.limits
 
 -- a cue that was read is that of the splice
-pub cue_read : (splice : Splice) (i : ℕ) (c : Cue) → i < length (splice_content splice).cues → c ≡ get_or splice.cues.items i c → cue_content c ≡ cue_at (splice_content splice) i
+pub cue_read : (splice : Splice) (i : ℕ) (c : Cue) → i < length (splice_content splice).cues → c ≡ get_or splice.cues.items i c → cue_content c ≡ splice_cue (splice_content splice) i
 cue_read splice i c h e =
     let there : i < length splice.cues.items = omega (arith, length-map splice.cues.items cue_content) in
     ap cue_content e ∙ sym (get_or-map cue_content splice.cues.items i c _ there)
 
 module _ (splice : SpliceContent) (fine : IsSplicing splice.weights (length splice.takes) splice.cues) where
   -- each cue is within the limits
-  pub cue_fits : (i : ℕ) → i < length splice.cues → IsCueWithin (length splice.weights) (length splice.takes) (cue_at splice i)
+  pub cue_fits : (i : ℕ) → i < length splice.cues → IsCueWithin (length splice.weights) (length splice.takes) (splice_cue splice i)
   cue_fits i h = All-get_or (IsCueWithin (length splice.weights) (length splice.takes)) splice.cues i _ h fine.each_fits
 
   module _ (i : ℕ) (a : List Bool) (stop : ℕ) (b : List Bool) (start : ℕ) (there : i < length splice.cues) (ends : length splice.weights ≤ stop + 1) (inside : stop ≤ length a) (next_inside : start + length splice.weights ≤ length b + 1) where
-    before : IsCueWithin (length splice.weights) (length splice.takes) (cue_at splice i)
+    before : IsCueWithin (length splice.weights) (length splice.takes) (splice_cue splice i)
     before = cue_fits i there
 
     pub preceding_many : length (bridging_at splice i a stop b start).preceding ≡ length splice.weights - 1
@@ -45,8 +45,8 @@ module _ (splice : SpliceContent) (fine : IsSplicing splice.weights (length spli
           before = omega (arith, preceding_many);
           after = omega (arith, following_many);
           levels_in = before.bridge_fits;
-          target_in = λ k. targets_small (cue_at splice i).target before.target_fits splice.weights fine.weights_fit a stop b start (cue_at splice i).bridge (k - 1);
+          target_in = λ k. targets_small (splice_cue splice i).target before.target_fits splice.weights fine.weights_fit a stop b start (splice_cue splice i).bridge (k - 1);
         }
 
     pub targets_many : length (bridging_at splice i a stop b start).targets ≡ (bridging_at splice i a stop b start).levels + length (bridging_at splice i a stop b start).following
-    targets_many = targets_number (cue_at splice i).target splice.weights a stop b start (cue_at splice i).bridge ∙ omega (arith, following_many)
+    targets_many = targets_number (splice_cue splice i).target splice.weights a stop b start (splice_cue splice i).bridge ∙ omega (arith, following_many)

@@ -2,7 +2,7 @@
 use Rattle.std.specs.Prelude.{◌≡◌, ℕ, suc, ◌+◌, ◌-◌, ◌<◌, ◌≤◌, ◌==◌, if◌then◌else◌, Bool, List, [], ◌∷◌, ◌++◌, length, take, drop}
 use Rattle.splice_core.specs.Cues.{IsSplicing}
 use Rattle.splice_core.specs.Splices.{SpliceContent}
-use Rattle.cost_core.specs.Windows.{cue_at, cued, bridging}
+use Rattle.cost_core.specs.Windows.{splice_cue, cued, bridging}
 use Rattle.cost_core.specs.Bridges.{Bridging, places_cost, bridge_cost, IsLeastBridge}
 
 -- a bridge and the cue after it
@@ -74,4 +74,4 @@ LeastTogether =
 abbrev pub FadesJoin : Type 0
 FadesJoin =
     (splice : SpliceContent) (i : ℕ) (a b : List Bool) → IsSplicing splice.weights (length splice.takes) splice.cues → i + 1 < length splice.cues →
-    (cue_at splice i).stop ≤ length a → (cue_at splice (i + 1)).stop ≤ length b → Joins (cued splice i a) (record { bridging = bridging splice i a b; cue = cued splice (i + 1) b })
+    (splice_cue splice i).stop ≤ length a → (splice_cue splice (i + 1)).stop ≤ length b → Joins (cued splice i a) (record { bridging = bridging splice i a b; cue = cued splice (i + 1) b })

@@ -6,17 +6,17 @@ use Rattle.cost_core.specs.declared.fault.RoomFault.TheVariants as rooms
 use Rattle.cost_core.specs.declared.fault.WindowFault.{WindowFault}
 use Rattle.cost_core.specs.declared.fault.WindowFault.TheVariants.{NoRoomBefore, NoRoomAfter, Memory}
 use Rattle.cost_core.specs.Targets.{Reach, reach_of}
-use Rattle.cost_core.specs.Windows.{cue_at}
+use Rattle.cost_core.specs.Windows.{splice_cue}
 
 -- the number of bits beyond its cues that the target of the bridge after cue i reads
 abbrev pub reach_at : SpliceContent → ℕ → Reach
-reach_at splice i = reach_of (cue_at splice i).target (length splice.weights) (cue_at splice i).bridge
+reach_at splice i = reach_of (splice_cue splice i).target (length splice.weights) (splice_cue splice i).bridge
 
 -- the bridge after cue i has room, if the take of cue i has `count` bits: what its target reads is in the takes, before
 -- the next cue and after cue i
 pub record HasRoom (splice : SpliceContent) (i count : ℕ) : Type 0 where
-  pub before : (reach_at splice i).before ≤ (cue_at splice (i + 1)).start
-  pub after : (cue_at splice i).stop + (reach_at splice i).after ≤ count
+  pub before : (reach_at splice i).before ≤ (splice_cue splice (i + 1)).start
+  pub after : (splice_cue splice i).stop + (reach_at splice i).after ≤ count
 
 -- the bridge after cue i can be made, if that cue ends at place `stop` of some bits a, and the next one begins at place
 -- `start` of some bits b: these hold what its target and its weights read
@@ -32,8 +32,8 @@ pub record CanBridge (splice : SpliceContent) (i : ℕ) (a : List Bool) (stop : 
 abbrev pub missing_room : SpliceContent → ℕ → ℕ → Option RoomFault
 missing_room splice i count =
     let reach = reach_at splice i in
-    if nat_lt (cue_at splice (i + 1)).start reach.before then Some rooms.NoRoomBefore
-    else (if nat_lt count ((cue_at splice i).stop + reach.after) then Some rooms.NoRoomAfter else None)
+    if nat_lt (splice_cue splice (i + 1)).start reach.before then Some rooms.NoRoomBefore
+    else (if nat_lt count ((splice_cue splice i).stop + reach.after) then Some rooms.NoRoomAfter else None)
 
 -- the missing room that a fault names; none if memory ran out
 abbrev pub named_room : WindowFault → Option RoomFault

@@ -3,8 +3,8 @@ use Rattle.std.specs.Prelude.{◌≡◌, ℕ, Option, List, ◌++◌, flat_map}
 use Rattle.std.specs.Io.KnownBytes.{Appends}
 
 -- bytes, if they are known, grew by a prefix of these
-abbrev pub AppendsPrefix : Option (List ℕ) → Option (List ℕ) → List ℕ → Type 0
-AppendsPrefix old new bytes = (front : List ℕ) × (back : List ℕ) × (bytes ≡ front ++ back) × Appends old new front
+abbrev pub GrowsByPrefix : Option (List ℕ) → Option (List ℕ) → List ℕ → Type 0
+GrowsByPrefix old new bytes = (prefix : List ℕ) × (back : List ℕ) × (bytes ≡ prefix ++ back) × Appends old new prefix
 
 -- the spellings of these rows were appended to the text, if it is known, in order
 abbrev pub HandsOver : (List ℕ → List ℕ) → Option (List ℕ) → Option (List ℕ) → List (List ℕ) → Type 0
@@ -13,4 +13,4 @@ HandsOver spelling old new rows = Appends old new (flat_map spelling rows)
 -- the spellings of these rows were appended to the text, if it is known, and then a prefix of the spelling of one more
 -- row
 abbrev pub HandsOverPart : (List ℕ → List ℕ) → Option (List ℕ) → Option (List ℕ) → List (List ℕ) → List ℕ → Type 0
-HandsOverPart spelling old new rows row = (front : List ℕ) × (back : List ℕ) × (spelling row ≡ front ++ back) × Appends old new (flat_map spelling rows ++ front)
+HandsOverPart spelling old new rows row = (prefix : List ℕ) × (back : List ℕ) × (spelling row ≡ prefix ++ back) × Appends old new (flat_map spelling rows ++ prefix)

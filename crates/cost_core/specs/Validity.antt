@@ -5,7 +5,8 @@ use Rattle.cost_core.specs.Bridges.{Bridging, IsLeastBridge}
 use Rattle.cost_core.specs.StateCosts.{trellis_of}
 use Rattle.cost_core.specs.Limits.{IsBridging}
 
--- forward bounds: no walk from the start reaches a state for less than its bound, each end costs c at least, and c is the cost of x
+-- forward bounds: no walk from the start reaches a state for less than its bound, each end costs c at least, and c is
+-- the cost of x
 pub record IsValid (t : Trellis) (bound : ℕ → ℕ → ℕ) (c : ℕ) (x : List Bool) : Type 0 where
   pub bounded : (level q : ℕ) → level ≤ t.levels → q < states t → bound level q ≤ 2 ^ 63
   pub at_start : bound 0 t.start ≡ 0
@@ -19,6 +20,6 @@ LeastFromValid =
     (d : Bridging) (bound : ℕ → ℕ → ℕ) (c : ℕ) (x : List Bool) → IsBridging d → length x ≡ d.levels → IsValid (trellis_of d) bound c x → IsLeastBridge d x
 
 -- law: a valid table stays valid if each bound above c becomes c
-abbrev pub CutIsValid : Type 0
-CutIsValid =
+abbrev pub CappedIsValid : Type 0
+CappedIsValid =
     (t : Trellis) (bound : ℕ → ℕ → ℕ) (c : ℕ) (x : List Bool) → IsValid t bound c x → IsValid t (λ level q. min (bound level q) c) c x

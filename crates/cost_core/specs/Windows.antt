@@ -7,18 +7,18 @@ use Rattle.cost_core.specs.Bridges.{Bridging}
 use Rattle.cost_core.specs.Targets.{targets_of}
 
 -- cue i of a splice; past the last one an empty cue
-abbrev pub cue_at : SpliceContent → ℕ → CueContent
-cue_at splice i = slice_index_or splice.cues i (record { take = 0; start = 0; stop = 0; bridge = 0; target = targets.Fade; title = None })
+abbrev pub splice_cue : SpliceContent → ℕ → CueContent
+splice_cue splice i = slice_index_or splice.cues i (record { take = 0; start = 0; stop = 0; bridge = 0; target = targets.Fade; title = None })
 
 -- the bits of cue i in its take a
 abbrev pub cued : SpliceContent → ℕ → List Bool → List Bool
-cued splice i a = slice_range a (cue_at splice i).start (cue_at splice i).stop
+cued splice i a = slice_range a (splice_cue splice i).start (splice_cue splice i).stop
 
 -- the bridge after cue i, if that cue ends at place `stop` of some bits a, and the next one begins at place `start` of
 -- some bits b: the last bits before it and the first after it that a weight reads, and the targets of its places
 abbrev pub bridging_at : SpliceContent → ℕ → List Bool → ℕ → List Bool → ℕ → Bridging
 bridging_at splice i a stop b start =
-    let cue = cue_at splice i in
+    let cue = splice_cue splice i in
     let width = length splice.weights - 1 in
     record {
       weights = splice.weights;
@@ -30,4 +30,4 @@ bridging_at splice i a stop b start =
 
 -- the bridge after cue i by that cue's target, from its take a to the take b of the next cue
 abbrev pub bridging : SpliceContent → ℕ → List Bool → List Bool → Bridging
-bridging splice i a b = bridging_at splice i a (cue_at splice i).stop b (cue_at splice (i + 1)).start
+bridging splice i a b = bridging_at splice i a (splice_cue splice i).stop b (splice_cue splice (i + 1)).start

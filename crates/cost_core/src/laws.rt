@@ -2,7 +2,7 @@
 
 ghost use Rattle.cost_core.specs.Channels.{FadesJoin, LeastTogether, PlacesAreWindows};
 ghost use Rattle.cost_core.specs.StateCosts.{CostsInBounds, StepsAreCost};
-ghost use Rattle.cost_core.specs.Validity.{CutIsValid, LeastFromValid};
+ghost use Rattle.cost_core.specs.Validity.{CappedIsValid, LeastFromValid};
 
 /// Steps along a bridge's bits and the end that they lead to add up to the sum over the places of its window.
 pub fn steps_are_cost()
@@ -20,8 +20,8 @@ pub fn least_from_valid()
 {}
 
 /// A valid table stays valid if each bound above the cost is replaced by the cost.
-pub fn cut_is_valid()
-    ensures { CutIsValid }
+pub fn capped_is_valid()
+    ensures { CappedIsValid }
 {}
 
 /// No place of a channel reads two bridges, so none is counted twice: the cost of the whole channel is the sum over its

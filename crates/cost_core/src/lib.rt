@@ -40,7 +40,7 @@
 //! What it promises: a window is what `bridging` makes of the splice and the bits, and is refused exactly if there is
 //! no room for it, or memory runs out. Every cost is exactly that of its definition, and none exceeds its type.
 //! Functions that do nothing carry the laws: [`steps_are_cost`], [`costs_in_bounds`], [`least_from_valid`],
-//! [`cut_is_valid`], [`places_are_windows`], [`fades_join`] and [`least_together`].
+//! [`capped_is_valid`], [`places_are_windows`], [`fades_join`] and [`least_together`].
 //!
 //! ```text
 //! // Weights 1, 1; 8 bits of a take of ones, a bridge of 1 bit, then a take of zeros from its bit 2 on.
@@ -56,6 +56,7 @@ mod laws;
 mod line;
 mod room;
 mod rows;
+mod seam;
 mod sink;
 mod sums;
 mod targets;
@@ -63,10 +64,11 @@ mod window;
 
 pub use fault::{RoomFault, WindowFault};
 pub use laws::{
-    costs_in_bounds, cut_is_valid, fades_join, least_from_valid, least_together,
+    capped_is_valid, costs_in_bounds, fades_join, least_from_valid, least_together,
     places_are_windows, steps_are_cost,
 };
 pub use room::{has_room, reach_at};
 pub use rows::{Ways, sums_into};
+pub use seam::Seam;
 pub use sink::{LevelSink, SinkFault};
 pub use window::Window;

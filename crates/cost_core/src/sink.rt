@@ -2,7 +2,7 @@
 
 ghost use Rattle.std.specs.Prelude.{◌≡◌, ℕ, ◌+◌, ◌<◌, Bool, true, false, Option, List, length, IsSome, OnOk, OnErr, MatchResult};
 ghost use Rattle.std.specs.Io.KnownBytes.{Appends};
-ghost use Rattle.cost_core.specs.Sinks.{AppendsPrefix};
+ghost use Rattle.cost_core.specs.Sinks.{GrowsByPrefix};
 
 use thiserror::Error;
 
@@ -47,7 +47,7 @@ pub trait LevelSink {
         ensures kept { kept self.new ≡ kept self.old }
         ensures telling { IsSome (text self.old) → IsSome (text self.new) }
         ensures ok { OnOk result (Appends (text self.old) (text self.new) (spelling (kind self.old) row.now)) }
-        ensures err { OnErr result (AppendsPrefix (text self.old) (text self.new) (spelling (kind self.old) row.now)) }
+        ensures err { OnErr result (GrowsByPrefix (text self.old) (text self.new) (spelling (kind self.old) row.now)) }
         ensures refused { has_refused self.old ≡ false
             → MatchResult result (λ _. has_refused self.new ≡ false) (λ _. has_refused self.new ≡ true) };
 

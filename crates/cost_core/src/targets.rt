@@ -7,30 +7,27 @@ ghost use Rattle.cost_core.specs.Windows.{bridging_at};
 
 use crate::fading::fade_targets;
 use crate::line::line_targets;
-use dsd_bits::Bits;
+use crate::seam::Seam;
 use splice_core::{Splice, Target};
 use std::alloc::{AllocError, Global};
 
-/// The targets of all places of the bridge after cue `cue`. This cue ends at place `stop` of the bits `own`, and the
-/// next one begins at place `start` of the bits `next`. Err is out of memory.
+/// The targets of all places of the bridge after cue `cue`, over its seam. Err is out of memory.
 pub(crate) fn targets_after(
     alloc: Global,
     splice: &Splice,
     cue: usize,
-    own: &Bits,
-    stop: usize,
-    next: &Bits,
-    start: usize,
+    seam: Seam<'_>,
 ) -> Result<Vec<i32>, AllocError>
     requires cues { cue + 1 < length (splice_content splice.now).cues }
-    requires room { CanBridge (splice_content splice.now) cue own.now stop next.now start }
+    requires room { CanBridge (splice_content splice.now) cue seam.own.now seam.stop seam.next.now seam.start }
     ensures { IfOk result (λ made. made.items
-        ≡ (bridging_at (splice_content splice.now) cue own.now stop next.now start).targets) }
+        ≡ (bridging_at (splice_content splice.now) cue seam.entry.own.now seam.entry.stop seam.entry.next.now
+        seam.entry.start).targets) }
 {
     let weights = splice.weights.as_slice();
     let levels = splice.cues[cue].bridge;
     match splice.cues[cue].target {
-        Target::Fade => fade_targets(alloc, weights, own, stop, next, start, levels),
+        Target::Fade => fade_targets(alloc, weights, seam, levels),
         Target::Line { a, b } => line_targets(alloc, a, b, weights.len(), levels),
     }
 }

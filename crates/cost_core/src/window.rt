@@ -5,12 +5,13 @@ ghost use Rattle.splice_core.specs.Splices.{splice_content};
 ghost use Rattle.cost_core.specs.Trellis.{states, cost, IsBounded};
 ghost use Rattle.cost_core.specs.Bridges.{bridge_cost};
 ghost use Rattle.cost_core.specs.StateCosts.{step_of, step_row, tail_row, trellis_of};
-ghost use Rattle.cost_core.specs.Windows.{bridging, bridging_at, cue_at};
+ghost use Rattle.cost_core.specs.Windows.{bridging, bridging_at, splice_cue};
 ghost use Rattle.cost_core.specs.Limits.{IsBridging, greatest_step};
 ghost use Rattle.cost_core.specs.Faults.{HasRoom, CanBridge, missing_room, named_room};
 
 use crate::fault::WindowFault;
 use crate::room::has_room;
+use crate::seam::Seam;
 use crate::sums::{
     add_squared_differences, read_state, scaled_sums, squared_difference, squared_differences,
 };
@@ -60,9 +61,9 @@ impl Window {
         cue: usize,
     ) -> Result<Window, WindowFault>
         requires cues { cue + 1 < length (splice_content splice.now).cues }
-        requires bridge { 1 ≤ (cue_at (splice_content splice.now) cue).bridge }
-        requires before { (cue_at (splice_content splice.now) cue).stop ≤ length own.now }
-        requires after { (cue_at (splice_content splice.now) (cue + 1)).stop ≤ length next.now }
+        requires bridge { 1 ≤ (splice_cue (splice_content splice.now) cue).bridge }
+        requires before { (splice_cue (splice_content splice.now) cue).stop ≤ length own.now }
+        requires after { (splice_cue (splice_content splice.now) (cue + 1)).stop ≤ length next.now }
         ensures ok { IfOk result (λ window. window ≡ bridging (splice_content splice.now) cue own.now next.now) }
 
         // It is made exactly if there is room, unless memory runs out.
@@ -76,32 +77,41 @@ impl Window {
         has_room(splice, cue, own.len())?;
         let stop = splice.cues[cue].stop;
         let start = splice.cues[cue + 1].start;
-        Ok(Window::between(alloc, splice, cue, own, stop, next, start)?)
+        let seam = Seam {
+            own,
+            stop,
+            next,
+            start,
+        };
+        Ok(Window::between(alloc, splice, cue, seam)?)
     }
 
-    /// The same for parts of the takes: cue `cue` ends at place `stop` of the bits `own`, and the next one begins at
-    /// place `start` of the bits `next`. Err is out of memory.
+    /// The same for parts of the takes, as the seam after cue `cue` has them. Err is out of memory.
     pub fn between(
         alloc: Global,
         splice: &Splice,
         cue: usize,
-        own: &Bits,
-        stop: usize,
-        next: &Bits,
-        start: usize,
+        seam: Seam<'_>,
     ) -> Result<Window, AllocError>
         requires cues { cue + 1 < length (splice_content splice.now).cues }
-        requires room { CanBridge (splice_content splice.now) cue own.now stop next.now start }
+        requires room { CanBridge (splice_content splice.now) cue seam.own.now seam.stop seam.next.now seam.start }
         ensures { IfOk result (λ window. window
-            ≡ bridging_at (splice_content splice.now) cue own.now stop next.now start) }
+            ≡ bridging_at (splice_content splice.now) cue seam.entry.own.now seam.entry.stop seam.entry.next.now
+            seam.entry.start) }
     {
+        let Seam {
+            own,
+            stop,
+            next,
+            start,
+        } = seam;
         let weights = splice.weights.as_slice();
         let width = weights.len() - 1;
         let mut preceding = Bits::new(alloc);
         preceding.push_range(own, stop - width, stop)?;
         let mut following = Bits::new(alloc);
         following.push_range(next, start, start + width)?;
-        let targets = targets_after(alloc, splice, cue, own, stop, next, start)?;
+        let targets = targets_after(alloc, splice, cue, seam)?;
         let levels = splice.cues[cue].bridge;
         let scaled = scaled_sums(alloc, weights, levels)?;
         let weights = Vec::from_slice(alloc, weights)?;

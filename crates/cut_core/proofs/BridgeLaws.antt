@@ -5,23 +5,23 @@ use Rattle.std.proofs.lemmas.Bool.{and_from, and_parts, cases_lt, eq-eqb, eqb-tr
 use Rattle.std.proofs.lemmas.List.{get_or-append-add, get_or_append_left, length-append}
 use Rattle.std.proofs.lemmas.List.FromFn.{get_or-map-range_with_len, length-map-range_with_len}
 use Rattle.std.proofs.lemmas.List.Elements.{All-cons, All-nil}
-use Rattle.cut_core.specs.Cuts.{CutContent, channel_number, cue_at}
+use Rattle.cut_core.specs.Cuts.{CutContent, cue_at, take_channels}
 use Rattle.cut_core.specs.declared.bridges.BridgePlace.{BridgePlace}
 use Rattle.cut_core.specs.Bridges.{IsPlace, bridges, places_after}
 
--- the place behind a cue in a channel
+-- the place after a cue in a channel
 abbrev pub place_of : ℕ → ℕ → BridgePlace
 place_of i c = record { cue = i; channel = c }
 
--- behind a cue
+-- after a cue
 module _ (cut : CutContent) (i : ℕ) where
-  pub behind_none : (cue_at cut i).bridge ≡ 0 → places_after cut i ≡ []
-  behind_none e = rw e refl
+  pub after_none : (cue_at cut i).bridge ≡ 0 → places_after cut i ≡ []
+  after_none e = rw e refl
 
-  pub behind_some : ((cue_at cut i).bridge ≡ 0 → ⊥) → places_after cut i ≡ map (place_of i) (range_with_len 0 (channel_number cut))
-  behind_some h = rw (ne_eqb (cue_at cut i).bridge 0 h) refl
+  pub after_some : ((cue_at cut i).bridge ≡ 0 → ⊥) → places_after cut i ≡ map (place_of i) (range_with_len 0 (take_channels cut))
+  after_some h = rw (ne_eqb (cue_at cut i).bridge 0 h) refl
 
-  pub each_place : i + 1 < length cut.splice.cues → ((cue_at cut i).bridge ≡ 0 → ⊥) → (a n : ℕ) → a + n ≤ channel_number cut → All (IsPlace cut) (map (place_of i) (range_with_len a n))
+  pub each_place : i + 1 < length cut.splice.cues → ((cue_at cut i).bridge ≡ 0 → ⊥) → (a n : ℕ) → a + n ≤ take_channels cut → All (IsPlace cut) (map (place_of i) (range_with_len a n))
   each_place lt some a zero le = All-nil (IsPlace cut)
   each_place lt some a (suc n) le =
       All-cons (IsPlace cut) (place_of i a) (map (place_of i) (range_with_len (a + 1) n)) (record { cue_there = lt; channel_there = omega arith; bridged = omega (arith, some) }) (each_place lt some (a + 1) n (omega arith))
@@ -49,14 +49,14 @@ all_in_flat P g (suc n) a i ge lt h = elim (cases_lt a i) [
 ]
 
 -- a place that is not listed has no bridge
-pub no_bridge : (cut : CutContent) (p : BridgePlace) → p.cue + 1 < length cut.splice.cues → p.channel < channel_number cut → All (λ q. q ≡ p → ⊥) (bridges cut) → (cue_at cut p.cue).bridge ≡ 0
+pub no_bridge : (cut : CutContent) (p : BridgePlace) → p.cue + 1 < length cut.splice.cues → p.channel < take_channels cut → All (λ q. q ≡ p → ⊥) (bridges cut) → (cue_at cut p.cue).bridge ≡ 0
 no_bridge cut p cue there others = elim (cases_lt 0 (cue_at cut p.cue).bridge) [
   | inl some ↦ (
       let ne : (cue_at cut p.cue).bridge ≡ 0 → ⊥ = λ e. omega arith in
       let Other : BridgePlace → Type 0 = λ q. q ≡ p → ⊥ in
-      let number = channel_number cut in
-      let behind = all_in_flat Other (places_after cut) (length cut.splice.cues - 1) 0 p.cue (omega arith) (omega arith) others in
-      let all = subst (λ l. All Other l) (behind_some cut p.cue ne) behind in
+      let number = take_channels cut in
+      let after = all_in_flat Other (places_after cut) (length cut.splice.cues - 1) 0 p.cue (omega arith) (omega arith) others in
+      let all = subst (λ l. All Other l) (after_some cut p.cue ne) after in
       absurd (subst Other (get_or-map-range_with_len {X = BridgePlace} (place_of p.cue) 0 number p.channel p.channel p there (omega arith)) (all p.channel p (omega (arith, length-map-range_with_len {X = BridgePlace} (place_of p.cue) 0 number))) refl)
       )
   | inr none ↦ omega arith

@@ -1,6 +1,6 @@
 pub mod BridgeLaws
 pub mod CutLaws
-pub mod HearingLaws
+pub mod ExcerptLaws
 pub mod KeepingLaws
 pub mod OpeningLaws
 pub mod Steps

@@ -13,7 +13,7 @@ use Rattle.cost_core.specs.declared.fault.RoomFault.{RoomFault}
 use Rattle.cost_core.specs.declared.fault.RoomFault.TheVariants as rooms
 use Rattle.form_core.specs.Forms.{HoldsSome}
 use Rattle.form_core.specs.Opening.{opened_of}
-use Rattle.form_core.specs.Steps.{Gives, map_err}
+use Rattle.form_core.specs.Steps.{GivesUnless, map_err}
 use Rattle.form_core.specs.declared.fault.ReadFault.{ReadFault}
 use Rattle.form_core.specs.declared.form.Form.{Form}
 use Rattle.form_core.specs.declared.form.Form.TheVariants as forms
@@ -21,7 +21,7 @@ use Rattle.form_core.specs.declared.opening.Opened.{Opened}
 use Rattle.form_core.proofs.OpeningLaws.{held_is_opened, opened_is_held}
 use Rattle.cut_core.specs.declared.fault.CutFault.{CutFault}
 use Rattle.cut_core.specs.declared.fault.CutFault.TheVariants.{MasterTooLong, Memory, NotWholeBytes, TakeNumber}
-use Rattle.cost_core.specs.Windows.{cue_at}
+use Rattle.cost_core.specs.Windows.{splice_cue}
 use Rattle.cut_core.specs.Cuts.{CutContent, FitTakes, IsAlike, IsInside, count_at, cut_with, master_length, take_at}
 use Rattle.cut_core.specs.Excerpts.{TakeShape, shape_at, shape_of, shape_of_cue}
 use Rattle.cut_core.specs.Laws.{OpensInOrder}
@@ -74,17 +74,17 @@ shape_of_take takes i = elim (cases_lt i (length takes)) [
 
 module _ (splice : SpliceContent) (takes : List Content) (i : ℕ) where
   count_is : (shape_of_cue splice (map shape_of takes) i).count ≡ count_at splice takes i
-  count_is = ap (λ (s : TakeShape). s.count) (shape_of_take takes (cue_at splice i).take)
+  count_is = ap (λ (s : TakeShape). s.count) (shape_of_take takes (splice_cue splice i).take)
 
   room_met : HasRoomAt splice takes i → room_at splice (map shape_of takes) i ≡ Ok tt
-  room_met h = elim (cases_eq (cue_at splice i).bridge 0) [
+  room_met h = elim (cases_eq (splice_cue splice i).bridge 0) [
     | inl none ↦ rw none refl
-    | inr some ↦ (let room = h (omega (arith, some)) in rw (ne_eqb (cue_at splice i).bridge 0 some, count_is, le-ltb _ _ room.before, le-ltb _ _ room.after) refl)
+    | inr some ↦ (let room = h (omega (arith, some)) in rw (ne_eqb (splice_cue splice i).bridge 0 some, count_is, le-ltb _ _ room.before, le-ltb _ _ room.after) refl)
   ]
 
   room_is : room_at splice (map shape_of takes) i ≡ Ok tt → HasRoomAt splice takes i
   room_is e = λ some.
-      let bridged : room_at splice (map shape_of takes) i ≡ wanted i (costs.missing_room splice i (count_at splice takes i)) = rw (ne_eqb (cue_at splice i).bridge 0 (λ none. omega (arith, none, some)), count_is) refl in
+      let bridged : room_at splice (map shape_of takes) i ≡ wanted i (costs.missing_room splice i (count_at splice takes i)) = rw (ne_eqb (splice_cue splice i).bridge 0 (λ none. omega (arith, none, some)), count_is) refl in
       let room = neither _ _ _ _ (wants_none i _ (sym bridged ∙ e)) in
       record { before = ltb-false _ _ room.0; after = ltb-false _ _ room.1 }
 
@@ -102,7 +102,7 @@ module _ (form : Option Form) (splice : SpliceContent) (takes : List Content) wh
       let alike = each_from (alike_at shapes) (length shapes) (λ i lt.
       let a : IsAlike takes (take_at takes i) = fit.alike i _ (omega (arith, long_shapes, lt)) in
       rw (shape_of_take takes i, shape_of_take takes 0, eq-eqb _ _ a.same_rate, eq-eqb _ _ a.as_many_channels) refl) in
-      let inside = each_from (inside_at splice shapes) (length splice.cues) (λ i lt. let a : IsInside takes (cue_at splice i) = fit.inside i _ lt in rw (count_is splice takes i, le-leb _ _ a) refl) in
+      let inside = each_from (inside_at splice shapes) (length splice.cues) (λ i lt. let a : IsInside takes (splice_cue splice i) = fit.inside i _ lt in rw (count_is splice takes i, le-leb _ _ a) refl) in
       let rooms = each_from (room_at splice shapes) (length splice.cues - 1) (λ i lt. room_met splice takes i (room i (omega arith))) in
       rw (alike, inside, le-leb _ _ fit.in_limit, whole_met form splice whole) rooms
 
@@ -120,8 +120,8 @@ module _ (form : Option Form) (splice : SpliceContent) (takes : List Content) wh
               let number : length (take_at takes i).channels ≡ length (take_at takes 0).channels = sym (ap (λ (s : TakeShape). s.channels) here) ∙ eqb-true _ _ parts.1 ∙ ap (λ (s : TakeShape). s.channels) first in
               subst (IsAlike takes) (get_or_default takes i _ d lt) (record { same_rate = rate; as_many_channels = number });
           inside = λ i d lt.
-              let within : (cue_at splice i).stop ≤ (shape_of_cue splice shapes i).count = leb-true _ _ (met _ _ tt (each_at (inside_at splice shapes) (length splice.cues) inside i lt)) in
-              let inside : IsInside takes (cue_at splice i) = omega (arith, count_is splice takes i, within) in
+              let within : (splice_cue splice i).stop ≤ (shape_of_cue splice shapes i).count = leb-true _ _ (met _ _ tt (each_at (inside_at splice shapes) (length splice.cues) inside i lt)) in
+              let inside : IsInside takes (splice_cue splice i) = omega (arith, count_is splice takes i, within) in
               subst (IsInside takes) (get_or_default splice.cues i _ d lt) inside;
           in_limit = leb-true _ _ (met _ _ c in_limit);
         },
@@ -188,7 +188,7 @@ module _ (splice : SpliceContent) (files : List (List ℕ)) where
   unfolding cut_of
   read_on form takes e = rw e refl
 
-  pub gives_opens : (form : Option Form) (answer : Result CutContent CutFault) → Gives Memory (λ cut. cut) answer (cut_of splice files form) → IfOk answer (OpensCut splice files form)
+  pub gives_opens : (form : Option Form) (answer : Result CutContent CutFault) → GivesUnless Memory (λ cut. cut) answer (cut_of splice files form) → IfOk answer (OpensCut splice files form)
   gives_opens form (Ok cut) e = opens_are form cut e
   gives_opens form (Err fault) e = tt
 

@@ -48,21 +48,21 @@ module _ (files : List (List ℕ)) where
 
 -- ---- one file more
 module _ (files : List (List ℕ)) (file : List ℕ) where
-  front : (n : ℕ) → n ≤ length files → takes_before (files ++ file ∷ []) n ≡ takes_before files n
-  front zero le = refl
-  front (suc n) le = rw (front n (omega arith), get_or_append_left files (file ∷ []) [] n (omega arith)) refl
+  prefix : (n : ℕ) → n ≤ length files → takes_before (files ++ file ∷ []) n ≡ takes_before files n
+  prefix zero le = refl
+  prefix (suc n) le = rw (prefix n (omega arith), get_or_append_left files (file ∷ []) [] n (omega arith)) refl
 
   last : get_or (files ++ file ∷ []) (length files) [] ≡ file
   last = get_or-append_seam files file [] []
 
   pub file_more : (takes : List Content) (r : Content) → takes_before files (length files) ≡ Ok takes → take_in (length files) file ≡ Ok r → takes_before (files ++ file ∷ []) (length files + 1) ≡ Ok (takes ++ r ∷ [])
-  file_more takes r before here = takes_more (files ++ file ∷ []) (length files) takes r (front (length files) (omega arith) ∙ before) (rw last here)
+  file_more takes r before here = takes_more (files ++ file ∷ []) (length files) takes r (prefix (length files) (omega arith) ∙ before) (rw last here)
 
   pub file_fails : (takes : List Content) (e : CutFault) → takes_before files (length files) ≡ Ok takes → take_in (length files) file ≡ Err e → takes_before (files ++ file ∷ []) (length files + 1) ≡ Err e
-  file_fails takes e before here = takes_stop (files ++ file ∷ []) (length files + 1) (length files) takes e (omega arith) (front (length files) (omega arith) ∙ before) (rw last here)
+  file_fails takes e before here = takes_stop (files ++ file ∷ []) (length files + 1) (length files) takes e (omega arith) (prefix (length files) (omega arith) ∙ before) (rw last here)
 
   pub failed_before : (e : CutFault) → takes_before files (length files) ≡ Err e → takes_before (files ++ file ∷ []) (length files + 1) ≡ Err e
-  failed_before e before = rw (add-one (length files), front (length files) (omega arith), before) refl
+  failed_before e before = rw (add-one (length files), prefix (length files) (omega arith), before) refl
 
 -- as many takes as files
 pub takes_long : (files : List (List ℕ)) (n : ℕ) (takes : List Content) → takes_before files n ≡ Ok takes → length takes ≡ n

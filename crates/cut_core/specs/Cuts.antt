@@ -9,7 +9,8 @@ use Rattle.splice_core.specs.Splices.{SpliceContent}
 use Rattle.cost_core.specs.Bridges.{Bridging}
 use Rattle.cost_core.specs.Windows as fades
 
--- a splice, the first of its takes without its bits, and by cue and by channel the bits that are cut and the windows of the bridges
+-- a splice, the first of its takes without its bits, and by cue and by channel the bits that are cut and the windows of
+-- the bridges
 pub record CutContent : Type 0 where
   pub splice : SpliceContent
   pub first : Content
@@ -22,7 +23,7 @@ take_at takes i = slice_index_or takes i (record { rate = 0; channels = []; ids 
 
 -- channel c of the take of cue i
 abbrev pub source : SpliceContent → List Content → ℕ → ℕ → List Bool
-source splice takes c i = slice_index_or (take_at takes (fades.cue_at splice i).take).channels c []
+source splice takes c i = slice_index_or (take_at takes (fades.splice_cue splice i).take).channels c []
 
 -- f of each number below n
 abbrev pub each_below : {X : Type 0} → ℕ → (ℕ → X) → List X
@@ -42,11 +43,11 @@ cut_with splice takes =
 
 -- cue i; past the last one an empty cue
 abbrev pub cue_at : CutContent → ℕ → CueContent
-cue_at cut i = fades.cue_at cut.splice i
+cue_at cut i = fades.splice_cue cut.splice i
 
 -- the number of channels of the takes, and so of the master
-abbrev pub channel_number : CutContent → ℕ
-channel_number cut = length cut.first.channels
+abbrev pub take_channels : CutContent → ℕ
+take_channels cut = length cut.first.channels
 
 -- the bits of cue i in channel c
 abbrev pub cue_bits : CutContent → ℕ → ℕ → List Bool
@@ -62,7 +63,7 @@ window cut c i = slice_index_or (slice_index_or cut.windows i []) c no_bridging
 
 -- the number of bits of each channel of the take of cue i
 abbrev pub count_at : SpliceContent → List Content → ℕ → ℕ
-count_at splice takes i = count_of (take_at takes (fades.cue_at splice i).take).channels
+count_at splice takes i = count_of (take_at takes (fades.splice_cue splice i).take).channels
 
 -- the number of bits of a channel that a cue and the bridge after it take
 abbrev pub span : CueContent → ℕ

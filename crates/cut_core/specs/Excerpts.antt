@@ -7,7 +7,7 @@ use Rattle.dsd_bits.specs.Shape.{HasShape}
 use Rattle.dsd_bits.specs.Stretches.{silent, stretches_of}
 use Rattle.splice_core.specs.Splices.{SpliceContent}
 use Rattle.cost_core.specs.Faults.{reach_at}
-use Rattle.cost_core.specs.Windows.{bridging_at, cue_at}
+use Rattle.cost_core.specs.Windows.{bridging_at, splice_cue}
 use Rattle.cut_core.specs.Cuts.{CutContent, each_below, take_at}
 use Rattle.cut_core.specs.declared.excerpts.Excerpts.{Excerpts}
 
@@ -19,15 +19,15 @@ lead_at splice (suc i) = (reach_at splice i).before
 
 -- the first bit that is read for cue i
 abbrev pub excerpt_start : SpliceContent → ℕ → ℕ
-excerpt_start splice i = (cue_at splice i).start - lead_at splice i
+excerpt_start splice i = (splice_cue splice i).start - lead_at splice i
 
 -- the place after the last bit that is read for cue i
 abbrev pub excerpt_stop : SpliceContent → ℕ → ℕ
-excerpt_stop splice i = (cue_at splice i).stop + (reach_at splice i).after
+excerpt_stop splice i = (splice_cue splice i).stop + (reach_at splice i).after
 
 -- the range of bits that is read for cue i from the take of a number; empty if cue i is of another take
 abbrev pub range_of : SpliceContent → ℕ → ℕ → BitRange
-range_of splice number i = if (cue_at splice i).take == number then record { start = excerpt_start splice i; stop = excerpt_stop splice i } else record { start = 0; stop = 0 }
+range_of splice number i = if (splice_cue splice i).take == number then record { start = excerpt_start splice i; stop = excerpt_stop splice i } else record { start = 0; stop = 0 }
 
 -- these ranges, of each cue in turn
 abbrev pub ranges_of : SpliceContent → ℕ → List BitRange
@@ -88,16 +88,16 @@ shape_at shapes i = slice_index_or shapes i (record { rate = 0; channels = 0; co
 
 -- the shape of the take of cue i
 abbrev pub shape_of_cue : SpliceContent → List TakeShape → ℕ → TakeShape
-shape_of_cue splice shapes i = shape_at shapes (cue_at splice i).take
+shape_of_cue splice shapes i = shape_at shapes (splice_cue splice i).take
 
 -- ---- the cut made from what was read
 -- where a cue starts in the bits that are read for it
 abbrev pub start_in : SpliceContent → ℕ → ℕ
-start_in splice i = (cue_at splice i).start - excerpt_start splice i
+start_in splice i = (splice_cue splice i).start - excerpt_start splice i
 
 -- where a cue ends in the bits that are read for it
 abbrev pub stop_in : SpliceContent → ℕ → ℕ
-stop_in splice i = (cue_at splice i).stop - excerpt_start splice i
+stop_in splice i = (splice_cue splice i).stop - excerpt_start splice i
 
 -- what was read of take i; past the last one nothing
 abbrev pub excerpts_at : List ExcerptsContent → ℕ → ExcerptsContent
@@ -105,7 +105,7 @@ excerpts_at hs i = slice_index_or hs i (record { recording = take_at [] 0; count
 
 -- what was read for cue i, by channel
 abbrev pub stretches_at : SpliceContent → List ExcerptsContent → ℕ → List (List Bool)
-stretches_at splice hs i = slice_index_or (excerpts_at hs (cue_at splice i).take).stretches i []
+stretches_at splice hs i = slice_index_or (excerpts_at hs (splice_cue splice i).take).stretches i []
 
 -- what was read for cue i in channel c
 abbrev pub stretch_at : SpliceContent → List ExcerptsContent → ℕ → ℕ → List Bool
@@ -113,7 +113,7 @@ stretch_at splice hs c i = slice_index_or (stretches_at splice hs i) c []
 
 -- something was read for cue i in channel c
 pub record HasStretch (splice : SpliceContent) (hs : List ExcerptsContent) (c i : ℕ) : Type 0 where
-  pub cue_there : i < length (excerpts_at hs (cue_at splice i).take).stretches
+  pub cue_there : i < length (excerpts_at hs (splice_cue splice i).take).stretches
   pub channel_there : c < length (stretches_at splice hs i)
 
 -- the cut made from what was read

@@ -9,12 +9,12 @@ use Rattle.dsd_bits.specs.Shape.{HasShape}
 use Rattle.splice_core.specs.Splices.{SpliceContent}
 use Rattle.form_core.specs.Forms.{HoldsSome}
 use Rattle.form_core.specs.Opening.{opened_of}
-use Rattle.form_core.specs.Steps.{Fails, map_err}
+use Rattle.form_core.specs.Steps.{FailsUnless, map_err}
 use Rattle.form_core.specs.declared.fault.ReadFault.{ReadFault}
 use Rattle.form_core.specs.declared.fault.ReadFault.TheVariants as reads
 use Rattle.form_core.specs.declared.form.Form.{Form}
 use Rattle.form_core.specs.declared.form.Form.TheVariants.{Dsdiff}
-use Rattle.cost_core.specs.Windows.{cue_at}
+use Rattle.cost_core.specs.Windows.{splice_cue}
 use Rattle.cut_core.specs.declared.excerpts.Excerpts.{Excerpts}
 use Rattle.cut_core.specs.Cuts.{CutContent, FitTakes, cut_with, master_length}
 use Rattle.cut_core.specs.Excerpts.{AreExcerpts, TakeShape, excerpts_content, excerpts_of, shape_at, shape_of, shape_of_cue}
@@ -86,7 +86,7 @@ alike_at shapes i = required ((shape_at shapes i).rate == (shape_at shapes 0).ra
 
 -- cue i ends within its take
 abbrev pub inside_at : SpliceContent → List TakeShape → ℕ → Result ⊤ CutFault
-inside_at splice shapes i = required (nat_le (cue_at splice i).stop (shape_of_cue splice shapes i).count) (CueOutside i)
+inside_at splice shapes i = required (nat_le (splice_cue splice i).stop (shape_of_cue splice shapes i).count) (CueOutside i)
 
 -- the channels of a file of the form, if one is given, end with a whole byte
 abbrev pub whole_in : Option Form → SpliceContent → Bool
@@ -114,7 +114,8 @@ takes_of splice files = do
   as_many ← required (length files == length splice.takes) TakeNumber
   takes_before files (length files)
 
--- the cut of a splice and files, or the first fault: number of takes, reading, likeness, cues, the master's length, whole bytes, room by rising cue
+-- the cut of a splice and files, or the first fault: number of takes, reading, likeness, cues, the master's length,
+-- whole bytes, room by rising cue
 unfoldable pub cut_of : SpliceContent → List (List ℕ) → Option Form → Result CutContent CutFault
 cut_of splice files form = do
   takes ← takes_of splice files
@@ -123,7 +124,7 @@ cut_of splice files form = do
 -- a call read what the splice reads of the take that the steps return, unless memory ran out
 abbrev pub ReturnsExcerpts : SpliceContent → ℕ → Result Excerpts CutFault → Result Content CutFault → Type 0
 ReturnsExcerpts splice number (Ok h) steps = (r : Content) × (steps ≡ Ok r) × HasShape r × (excerpts_content h ≡ excerpts_of splice number r)
-ReturnsExcerpts splice number (Err fault) steps = Fails Memory fault steps
+ReturnsExcerpts splice number (Err fault) steps = FailsUnless Memory fault steps
 
 -- what a call read, if anything, is what the splice reads of some recording, the take of a number
 abbrev pub IsOfTake : SpliceContent → ℕ → Result Excerpts CutFault → Type 0
@@ -138,4 +139,4 @@ IsOfTakes splice n (Err fault) = ⊤
 -- a call read what the splice reads of the takes that the steps return, unless memory ran out
 abbrev pub ReturnsAllExcerpts : SpliceContent → Result (Vec Excerpts Global) CutFault → Result (List Content) CutFault → Type 0
 ReturnsAllExcerpts splice (Ok hs) steps = (takes : List Content) × (steps ≡ Ok takes) × AreExcerpts splice takes hs.items
-ReturnsAllExcerpts splice (Err fault) steps = Fails Memory fault steps
+ReturnsAllExcerpts splice (Err fault) steps = FailsUnless Memory fault steps

@@ -23,7 +23,7 @@ pub(crate) fn cue_number(splice: &Splice) -> usize
 /// Cue `i` of a splice.
 pub(crate) fn cue_at(splice: &Splice, number: usize) -> &Cue
     requires { number < length (splice_content splice.now).cues }
-    ensures value { cue_content result.now ≡ fades.cue_at (splice_content splice.now) number }
+    ensures value { cue_content result.now ≡ fades.splice_cue (splice_content splice.now) number }
     ensures fits { IsCueWithin (length (splice_content splice.now).weights) (length (splice_content splice.now).takes)
         (cue_content result.now) }
 {
@@ -33,7 +33,7 @@ pub(crate) fn cue_at(splice: &Splice, number: usize) -> &Cue
 /// How many bits of each channel of the master cue `i` and the bridge after it take.
 pub(crate) fn span_at(splice: &Splice, number: usize) -> usize
     requires { number < length (splice_content splice.now).cues }
-    ensures value { result ≡ span (fades.cue_at (splice_content splice.now) number) }
+    ensures value { result ≡ span (fades.splice_cue (splice_content splice.now) number) }
     ensures bound { result ≤ 2 ^ 36 + 4096 }
 {
     let cue = cue_at(splice, number);
@@ -45,7 +45,7 @@ pub(crate) fn take_of<'a>(splice: &Splice, takes: &'a [Excerpts], cue: usize) ->
     requires cue { cue < length (splice_content splice.now).cues }
     requires takes { length takes.now ≡ length (splice_content splice.now).takes }
     ensures excerpts { excerpts_content result.now
-        ≡ excerpts_at (map excerpts_content takes.now) (fades.cue_at (splice_content splice.now) cue).take }
+        ≡ excerpts_at (map excerpts_content takes.now) (fades.splice_cue (splice_content splice.now) cue).take }
     ensures shape { excerpts_shape (excerpts_content result.now)
         ≡ shape_of_cue (splice_content splice.now) (excerpts_shapes takes.now) cue }
 {

@@ -4,7 +4,7 @@ ghost use Rattle.std.specs.Prelude.{◌≡◌, ◌+◌, ◌-◌, ◌^◌, ◌<�
 ghost use Rattle.dsd_bits.specs.Contents.{Content, mark_content};
 ghost use Rattle.splice_core.specs.Cues.{IsCueWithin, cue_content};
 ghost use Rattle.splice_core.specs.Splices.{splice_content};
-ghost use Rattle.form_core.specs.Steps.{Gives};
+ghost use Rattle.form_core.specs.Steps.{GivesUnless};
 ghost use Rattle.cut_core.specs.Bridges as places;
 ghost use Rattle.cut_core.specs.Bridges.{IsPlace};
 ghost use Rattle.cut_core.specs.Cuts as cuts;
@@ -21,7 +21,7 @@ use crate::fault::CutFault;
 use crate::fitting::{self, fits};
 use crate::takes::excerpts_of_files;
 use crate::titles::title_marks;
-use cost_core::{Window, fades_join};
+use cost_core::{Seam, Window, fades_join};
 use dsd_bits::{Bits, Mark, Recording};
 use form_core::Form;
 use splice_core::{Cue, Splice};
@@ -78,7 +78,7 @@ impl Cut {
         // What is returned is the cut of takes that the files hold, and can be cut.
         ensures found { IfOk result (OpensCut (splice_content splice) (file_bytes files.now) form) }
         // The result or refusal is that of reading in order, unless memory runs out.
-        ensures exact { Gives CutFault.Memory (λ cut. cut) result
+        ensures exact { GivesUnless CutFault.Memory (λ cut. cut) result
             (cut_of (splice_content splice) (file_bytes files.now) form) }
     {
         let takes = excerpts_of_files(alloc, &splice, files)?;
@@ -93,7 +93,7 @@ impl Cut {
         requires { AreOfTakes (splice_content splice) takes.items }
         // Whichever takes it was read from, the result or refusal is that of reading them in order.
         ensures exact { (whole : List Content) → AreExcerpts (splice_content splice) whole takes.items
-            → Gives CutFault.Memory (λ cut. cut) result (cut_from form (splice_content splice) whole) }
+            → GivesUnless CutFault.Memory (λ cut. cut) result (cut_from form (splice_content splice) whole) }
     {
         fits(&splice, &takes, form)?;
         Ok(Cut { splice, takes })
@@ -161,7 +161,7 @@ impl Cut {
 
     /// How many channels the takes have, and so the master has: 1 to 6.
     pub fn channel_number(&self) -> usize
-        ensures value { result ≡ cuts.channel_number self.now }
+        ensures value { result ≡ cuts.take_channels self.now }
         ensures few { result ≤ 6 }
     {
         self.first().channels().len()
@@ -169,7 +169,7 @@ impl Cut {
 
     /// Where the bits of a cue in a channel are.
     pub fn cued(&self, channel: usize, cue: usize) -> CuedBits<'_>
-        requires channel { channel < cuts.channel_number self.now }
+        requires channel { channel < cuts.take_channels self.now }
         requires cue { cue < length self.now.splice.cues }
         ensures bits { slice_range result.bits.now result.start result.stop ≡ cue_bits self.now channel cue }
         ensures in_order { result.start ≤ result.stop }
@@ -188,7 +188,7 @@ impl Cut {
 
     /// Appends the bits of a cue in a channel. Err is out of memory.
     pub fn push_cue(&self, out: &mut Bits, channel: usize, cue: usize) -> Result<(), AllocError>
-        requires channel { channel < cuts.channel_number self.now }
+        requires channel { channel < cuts.take_channels self.now }
         requires cue { cue < length self.now.splice.cues }
         requires in_limit { length out.old + ((cue_at self.now cue).stop - (cue_at self.now cue).start) ≤ 2 ^ 36 }
         ensures appended { OnOk result (out.new ≡ out.old ++ cue_bits self.now channel cue) }
@@ -220,7 +220,13 @@ impl Cut {
         let next = cues::stretch(&self.splice, &self.takes, channel, cue + 1);
         let start = cues::cue_at(&self.splice, cue + 1).start
             - excerpt_start(&self.splice, cue + 1);
-        Window::between(alloc, &self.splice, cue, own, stop, next, start)
+        let seam = Seam {
+            own,
+            stop,
+            next,
+            start,
+        };
+        Window::between(alloc, &self.splice, cue, seam)
     }
 
     /// The marks of the titles: for each cue with a title, one at its first bit in the master. Err is out of memory.

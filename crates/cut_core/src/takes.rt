@@ -3,7 +3,7 @@
 ghost use Rattle.std.specs.Prelude.{◌≡◌, ℕ, ◌+◌, ◌<◌, ◌++◌, ◌∷◌, [], IfOk, List, length};
 ghost use Rattle.dsd_bits.specs.Shape.{HasShape};
 ghost use Rattle.splice_core.specs.Splices.{SpliceContent, splice_content};
-ghost use Rattle.form_core.specs.Steps.{Gives};
+ghost use Rattle.form_core.specs.Steps.{GivesUnless};
 ghost use Rattle.cut_core.specs.Opening as specs;
 ghost use Rattle.cut_core.specs.Opening.{ReturnsExcerpts, ReturnsAllExcerpts, IsOfTake, IsOfTakes, fault_of_take, file_bytes, take_from, take_in, takes_before};
 
@@ -95,7 +95,7 @@ pub fn push_excerpts(
 
 // The recording of a file, the take of a number.
 fn read_take(alloc: Global, number: usize, file: &[u8]) -> Result<Recording, CutFault>
-    ensures exact { Gives CutFault.Memory (λ r. r) result (take_in number file.now) }
+    ensures exact { GivesUnless CutFault.Memory (λ r. r) result (take_in number file.now) }
     ensures shape { IfOk result HasShape }
 {
     match read_any(alloc, file) {

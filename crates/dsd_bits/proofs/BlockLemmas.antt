@@ -15,27 +15,27 @@ use Rattle.dsd_bits.specs.declared.blocks.BitOrder.TheVariants.{LeastFirst, Most
 use Rattle.dsd_bits.specs.Packing.{unpacked, packed_byte, packed, bit_worth}
 use Rattle.dsd_bits.specs.Blocks.{ordered, block_place, bit_number, block_bit, blocks_size, unblocked, unblocked_all, block_byte, blocked, AreBlocks}
 use Rattle.dsd_bits.specs.Channels.{IsLevel, count_of}
-use Rattle.dsd_bits.specs.Turning.{turned, IsTurned}
+use Rattle.dsd_bits.specs.Reversing.{reversed, IsReversed}
 use Rattle.dsd_bits.proofs.LacingLemmas.{map_range_same}
 use Rattle.dsd_bits.proofs.RoundTrip.{bit_of_byte}
 use Rattle.dsd_bits.proofs.ShiftingLemmas.{written_back}
-use Rattle.dsd_bits.proofs.TurningLemmas.{is_turned}
+use Rattle.dsd_bits.proofs.ReversingLemmas.{is_reversed}
 
 -- ---- a byte in the other order
 
-turned_bits : (b : ℕ) → IsTurned b (turned b)
-turned_bits b = is_turned b (turned b) refl
+reversed_bits : (b : ℕ) → IsReversed b (reversed b)
+reversed_bits b = is_reversed b (reversed b) refl
 
 -- the bit of a byte in an order, and the bit of the byte with the most significant bit first
 bit_to_order : (order : BitOrder) (b i : ℕ) → bit_at (ordered order b) (bit_number order i) ≡ bit_at b (7 - i % 8)
 bit_to_order MostFirst b i = refl
-bit_to_order LeastFirst b i = (turned_bits b).at (i % 8) (omega arith)
+bit_to_order LeastFirst b i = (reversed_bits b).at (i % 8) (omega arith)
 
 bit_from_order : (order : BitOrder) (b i : ℕ) → bit_at (ordered order b) (7 - i % 8) ≡ bit_at b (bit_number order i)
 bit_from_order MostFirst b i = refl
 bit_from_order LeastFirst b i =
     let back : 7 - (7 - i % 8) ≡ i % 8 = omega arith in
-    (turned_bits b).at (7 - i % 8) (omega arith) ∙ ap (bit_at b) back
+    (reversed_bits b).at (7 - i % 8) (omega arith) ∙ ap (bit_at b) back
 
 -- ---- lists by a function of the place
 
@@ -69,7 +69,7 @@ part_is bytes a w h =
     let low : k < w = omega (arith, q, r) in
     get_or-take w (drop a bytes) k 0 low ∙ get_or-drop a bytes k 0 ∙ sym (get_or-map-range_with_len (slice_index bytes) a w k (a + k) 0 low refl))
 
--- a part of the bytes with zeros behind their end
+-- a part of the bytes, with zeros after their end
 pub filled : (bytes part : List ℕ) (a w m : ℕ) → a ≤ length bytes → w ≡ min (length bytes - a) m → part ≡ take w (drop a bytes) → part ++ replicate (m - length part) 0 ≡ map (slice_index bytes) (range_with_len a m)
 filled bytes part a w m h we pe =
     let size : length part ≡ w = ap length pe ∙ omega (arith, length-take w (drop a bytes), length-drop a bytes, we) in
@@ -83,7 +83,7 @@ filled bytes part a w m h we pe =
       | inr high ↦ get_or-append_right part (replicate (m - length part) 0) w k 0 size high ∙ zero_at (m - length part) (k - w) ∙ sym (get_or_past bytes (a + k) 0 (omega (arith, we)))
     ] ∙ sym (get_or-map-range_with_len (slice_index bytes) a m k (a + k) 0 in_m refl))
 
--- behind the bytes that are there
+-- after the bytes that are there
 pub grown : (out part all block : List ℕ) (size gap fill : ℕ) → all ≡ out ++ part → length all ≤ size → gap ≡ fill → part ++ replicate fill 0 ≡ block → take size all ++ replicate gap 0 ≡ out ++ block
 grown out part all block size gap fill e h g f =
     rw (take_all size all h, e, g) (append_assoc out part (replicate fill 0) ∙ ap (λ (bs : List ℕ). out ++ bs) f)
@@ -94,13 +94,13 @@ room_for_more out old f len old_len block blocks room e n m h enough =
     let size : len ≡ old_len + 4096 * block = n ∙ ap length e ∙ length-append old (map f (range_with_len 0 (4096 * block))) ∙ omega (arith, m, length-map-range_with_len f 0 (4096 * block)) in
     omega (arith, size, h, enough)
 
--- bytes of which those behind the first are changed
-pub tail_changed : (all old block front back new rest : List ℕ) (f : ℕ → ℕ) (kept len : ℕ) → all ≡ old ++ block → kept ≡ length old → front ≡ take kept all → back ≡ drop kept all → new ≡ map f back → length all ≡ len
-    → take len (front ++ new ++ rest) ≡ old ++ map f block
-tail_changed all old block front back new rest f kept len e k fe be ne n =
-    let front_is : front ≡ old = fe ∙ ap (λ (xs : List ℕ). take kept xs) e ∙ ap (λ m. take m (old ++ block)) k ∙ take-append_seam old block in
+-- bytes of which those after the first are changed
+pub tail_changed : (all old block prefix back new rest : List ℕ) (f : ℕ → ℕ) (kept len : ℕ) → all ≡ old ++ block → kept ≡ length old → prefix ≡ take kept all → back ≡ drop kept all → new ≡ map f back → length all ≡ len
+    → take len (prefix ++ new ++ rest) ≡ old ++ map f block
+tail_changed all old block prefix back new rest f kept len e k fe be ne n =
+    let prefix_is : prefix ≡ old = fe ∙ ap (λ (xs : List ℕ). take kept xs) e ∙ ap (λ m. take m (old ++ block)) k ∙ take-append_seam old block in
     let new_is : new ≡ map f block = ne ∙ ap (map f) (be ∙ ap (λ (xs : List ℕ). drop kept xs) e ∙ ap (λ m. drop m (old ++ block)) k ∙ drop-append_seam old block) in
-    let both : front ++ new ≡ old ++ map f block = ap (λ (xs : List ℕ). xs ++ new) front_is ∙ ap (λ (xs : List ℕ). old ++ xs) new_is in
+    let both : prefix ++ new ≡ old ++ map f block = ap (λ (xs : List ℕ). xs ++ new) prefix_is ∙ ap (λ (xs : List ℕ). old ++ xs) new_is in
     let size : length (old ++ map f block) ≡ len = length-append old (map f block) ∙ ap (λ m. length old + m) (length-map block f) ∙ sym (length-append old block) ∙ sym (ap length e) ∙ n in
     ap (λ (xs : List ℕ). take len (xs ++ rest)) both ∙ written_back (old ++ map f block) rest len size
 
@@ -117,7 +117,7 @@ place_below groups n g c w hg hc hw =
     let row = row_below groups n g c hg hc in
     omega (arith, row)
 
--- all of that block stands in the bytes
+-- all of that block is in the bytes
 pub block_inside : (channels c count g w size : ℕ) → c < channels → g < div_ceil count 32768 → w ≤ 4096 → blocks_size channels count ≤ size → (g * channels + c) * 4096 + w ≤ size
 block_inside channels c count g w size hc hg hw enough =
     let row = row_below (div_ceil count 32768) channels g c hg hc in
@@ -125,7 +125,7 @@ block_inside channels c count g w size hc hg hw enough =
 
 -- ---- reading
 
--- the bytes of one channel, as they stand
+-- the bytes of one channel, as they are
 abbrev pub block_source : List ℕ → ℕ → ℕ → ℕ → ℕ
 block_source bytes channels c j = slice_index bytes ((j / 4096 * channels + c) * 4096 + j % 4096)
 
@@ -249,7 +249,7 @@ module _ (order : BitOrder) (channels : List (List Bool)) (some : 1 ≤ length c
     at = λ c i in_list below. ap (λ b. eqb (bit_at b (bit_number order i)) 1) (byte_at c i in_list below) ∙ ap (λ (b : ℕ). eqb b 1) (bit_to_order order (packed_byte (get_or channels c []) (i / 8)) i) ∙ bit_of_byte (get_or channels c []) i;
   }
 
-  -- a bit is the same where more bytes stand behind
+  -- a bit is the same if more bytes follow
   pub bit_before : (more : List ℕ) (c i : ℕ) → c < length channels → i < 32768 * div_ceil (count_of channels) 32768 → block_bit order (blocked order channels ++ more) (length channels) c i ≡ get_or (get_or channels c []) i false
   bit_before more c i in_list below =
       let n = length channels in

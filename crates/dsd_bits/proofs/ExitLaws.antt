@@ -6,7 +6,7 @@ pub no_ok : {X E : Type 0} (P : E → Type 0) (Q : Type 0) (r : Result X E) → 
 no_ok P Q (Ok x) h = absurd h
 no_ok P Q (Err e) h = tt
 
--- nor of a value
+-- nor a value
 pub no_value : {X E : Type 0} (P : E → Type 0) (Q : X → Type 0) (r : Result X E) → IsErrAnd r P → IfOk r Q
 no_value P Q (Ok x) h = absurd h
 no_value P Q (Err e) h = tt

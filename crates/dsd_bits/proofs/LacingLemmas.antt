@@ -149,7 +149,7 @@ module _ (channels : List (List Bool)) (level : IsLevel channels) (whole : count
       let read = get_or-map-range_with_len (laced_byte channels) 0 (frame_number channels * n) (i / 8 * n + c) (i / 8 * n + c) 0 place (omega arith) in
       ap (λ b. eqb (bit_at b (7 - i % 8)) 1) (read ∙ ap (λ p. packed_byte (get_or channels p []) ((i / 8 * n + c) / n)) (mod-mul-add (i / 8) n c in_list) ∙ ap (packed_byte (get_or channels c [])) (div-mul-add (i / 8) n c in_list)) ∙ bit_of_byte (get_or channels c []) i
 
-  -- each bit stands at its place
+  -- each bit is at its place
   pub are_laced : AreLaced channels (laced channels)
   are_laced = record {
     size =

@@ -1,8 +1,8 @@
--- The usual layout of so many channels.
+-- The usual layout of n channels.
 use Rattle.std.proofs.Common.{◌≡◌, ℕ, zero, suc, ◌≤◌, refl, arith}
 use Rattle.dsd_bits.specs.Layouts.{layout_channels, usual_layout}
 
--- it has so many channels
+-- it has n channels
 pub usual_layout_fits : (n : ℕ) → n ≤ 6 → layout_channels (usual_layout n) ≡ n
 usual_layout_fits zero h = refl
 usual_layout_fits (suc zero) h = refl

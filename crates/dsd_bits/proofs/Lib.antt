@@ -11,4 +11,4 @@ pub mod RoundTrip
 pub mod ShiftingLemmas
 pub mod SoundLemmas
 pub mod SumLaws
-pub mod TurningLemmas
+pub mod ReversingLemmas

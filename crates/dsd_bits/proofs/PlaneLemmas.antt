@@ -33,14 +33,14 @@ module _ (bytes : List ℕ) (at : ℕ) (long : at + 36 ≤ length bytes) where
 -- eight bytes and eight more
 pub sixteen_fifths : (bytes first second : List ℕ) (at k : ℕ) → length first ≡ 8 → ((j : ℕ) → j < 8 → slice_index first j ≡ slice_index bytes (at + 5 * j)) → ((j : ℕ) → j < 8 → slice_index second j ≡ slice_index bytes (at + 40 + 5 * j)) → k < 16
     → slice_index (first ++ second) k ≡ slice_index bytes (at + 5 * k)
-sixteen_fifths bytes first second at k size front back below = elim (cases_lt k 8) [
-  | inl low ↦ get_or_append_left first second 0 k (omega (arith, size, low)) ∙ front k low
+sixteen_fifths bytes first second at k size prefix back below = elim (cases_lt k 8) [
+  | inl low ↦ get_or_append_left first second 0 k (omega (arith, size, low)) ∙ prefix k low
   | inr high ↦
       let place : at + 40 + 5 * (k - 8) ≡ at + 5 * k = omega (arith, high) in
       get_or-append_right first second 8 k 0 size high ∙ back (k - 8) (omega (arith, below, high)) ∙ ap (slice_index bytes) place
 ]
 
--- 16 bytes more of a plane that begins at a place
+-- 16 more bytes of a plane that begins at a place
 module _ (planes lanes : List ℕ) (base n : ℕ) (size : length lanes ≡ 16) (room : base + n + 16 ≤ length planes) where
   pub plane_more : (frames : List ℕ) (c : ℕ) → ((j : ℕ) → j < n → slice_index planes (base + j) ≡ slice_index frames (j * 5 + c)) → ((j : ℕ) → j < 16 → slice_index lanes j ≡ slice_index frames ((n + j) * 5 + c))
       → (j : ℕ) → j < n + 16 → slice_index (put_chunk (base + n) planes lanes) (base + j) ≡ slice_index frames (j * 5 + c)

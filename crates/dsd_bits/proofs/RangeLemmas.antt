@@ -6,7 +6,7 @@ use Rattle.std.specs.Int.{div_ceil}
 use Rattle.dsd_bits.specs.Packing.{packed_bit, unpacked, IsTight}
 use Rattle.dsd_bits.specs.Shifting.{bytes_from}
 use Rattle.dsd_bits.proofs.PackingLemmas.{length-unpacked, get_or-unpacked, at_tight, length-slice_range}
-use Rattle.dsd_bits.proofs.ShiftingLemmas.{packed_bit-bytes_from, packed_bit-append_before, packed_bit-append_behind}
+use Rattle.dsd_bits.proofs.ShiftingLemmas.{packed_bit-bytes_from, packed_bit-append_before, packed_bit-append_after}
 
 -- the bytes of the list xs, then the bytes that were appended, then the last of the first was filled
 module _ (bytes : List ℕ) (n : ℕ) (tight : IsTight bytes n) (xs : List Bool) (xs_is : unpacked bytes n ≡ xs)
@@ -15,7 +15,7 @@ module _ (bytes : List ℕ) (n : ℕ) (tight : IsTight bytes n) (xs : List Bool)
     (filled : List ℕ)
     (before : (i : ℕ) → i < n → packed_bit filled i ≡ packed_bit (bytes ++ bytes_from source (start + (8 * length bytes - n)) added) i)
     (in_byte : (i : ℕ) → n ≤ i → i < 8 * div_ceil n 8 → packed_bit filled i ≡ packed_bit source (start + (i - n)))
-    (behind : (i : ℕ) → 8 * div_ceil n 8 ≤ i → packed_bit filled i ≡ packed_bit (bytes ++ bytes_from source (start + (8 * length bytes - n)) added) i) where
+    (after : (i : ℕ) → 8 * div_ceil n 8 ≤ i → packed_bit filled i ≡ packed_bit (bytes ++ bytes_from source (start + (8 * length bytes - n)) added) i) where
   length_old : length xs ≡ n
   length_old = ap length (sym xs_is) ∙ length-unpacked bytes n
 
@@ -31,7 +31,7 @@ module _ (bytes : List ℕ) (n : ℕ) (tight : IsTight bytes n) (xs : List Bool)
         let whole : 8 * length bytes ≤ i = omega (arith, tight.no_more, tight.enough) in
         let in_rest : i - 8 * length bytes < 8 * added = omega (arith, size) in
         let place : start + (8 * length bytes - n) + (i - 8 * length bytes) ≡ start + (i - n) = omega (arith, tight.enough) in
-        behind i rest ∙ packed_bit-append_behind bytes _ i whole ∙ packed_bit-bytes_from source small _ added (i - 8 * length bytes) in_rest ∙ ap (packed_bit source) place
+        after i rest ∙ packed_bit-append_after bytes _ i whole ∙ packed_bit-bytes_from source small _ added (i - 8 * length bytes) in_rest ∙ ap (packed_bit source) place
   ]
 
   new_bit : (i : ℕ) → n ≤ i → i < n + (stop - start) → packed_bit filled i ≡ get_or (xs ++ slice_range src start stop) i false

@@ -50,7 +50,7 @@ module _ (xs : List Bool) (j : ℕ) where
   unfolding at
   digits k h = ap (λ b. bit_at b (7 - k)) sum_of_worths ∙ digit at (λ k. value_lt (get_or xs (8 * j + k) false)) k h
 
--- bit i of the byte where it stands
+-- bit i of the byte that contains it
 pub bit_of_byte : (xs : List Bool) (i : ℕ) → eqb (bit_at (packed_byte xs (i / 8)) (7 - i % 8)) 1 ≡ get_or xs i false
 bit_of_byte xs i =
     let e : 8 * (i / 8) + i % 8 ≡ i = omega arith in

@@ -73,8 +73,8 @@ module _ (bytes : List ℕ) (small : (j : ℕ) → slice_index bytes j < 256) wh
 pub packed_bit-append_before : (xs ys : List ℕ) (i : ℕ) → i < 8 * length xs → packed_bit (xs ++ ys) i ≡ packed_bit xs i
 packed_bit-append_before xs ys i h = ap (λ b. eqb (bit_at b (7 - i % 8)) 1) (get_or_append_left xs ys 0 (i / 8) (omega arith))
 
-pub packed_bit-append_behind : (xs ys : List ℕ) (i : ℕ) → 8 * length xs ≤ i → packed_bit (xs ++ ys) i ≡ packed_bit ys (i - 8 * length xs)
-packed_bit-append_behind xs ys i h =
+pub packed_bit-append_after : (xs ys : List ℕ) (i : ℕ) → 8 * length xs ≤ i → packed_bit (xs ++ ys) i ≡ packed_bit ys (i - 8 * length xs)
+packed_bit-append_after xs ys i h =
     let q : (i - 8 * length xs) / 8 ≡ i / 8 - length xs = omega arith in
     let r : (i - 8 * length xs) % 8 ≡ i % 8 = omega arith in
     rw (q, r) (ap (λ b. eqb (bit_at b (7 - i % 8)) 1) (get_or-append_right xs ys (length xs) (i / 8) 0 refl (omega arith)))
@@ -85,17 +85,17 @@ written_back to rest n e =
     let size : length (take n (to ++ rest)) ≡ n = length-take-le n (to ++ rest) (omega (arith, length-append to rest)) in
     same_number_lists _ _ (size ∙ sym e) (λ k h. get_or-take n (to ++ rest) k 0 (omega arith) ∙ get_or_append_left to rest 0 k (omega arith))
 
--- a slice behind the old bytes that was written
-pub written_behind : (old pad all front new rest : List ℕ) (kept n len : ℕ) → kept ≡ length old → kept ≤ n → all ≡ take n old ++ pad → front ≡ take kept all → length (front ++ new) ≡ len
-    → take len ((front ++ new) ++ rest) ≡ old ++ new
-written_behind old pad all front new rest kept n len k h all_is front_is size =
+-- a slice that was written after the old bytes
+pub written_after : (old pad all prefix new rest : List ℕ) (kept n len : ℕ) → kept ≡ length old → kept ≤ n → all ≡ take n old ++ pad → prefix ≡ take kept all → length (prefix ++ new) ≡ len
+    → take len ((prefix ++ new) ++ rest) ≡ old ++ new
+written_after old pad all prefix new rest kept n len k h all_is prefix_is size =
     let whole = all_is ∙ ap (λ xs. xs ++ pad) (take_all n old (omega arith)) in
-    written_back (front ++ new) rest len size ∙ ap (λ xs. xs ++ new) (front_is ∙ ap (take kept) whole ∙ ap (λ m. take m (old ++ pad)) k ∙ take-append_seam old pad)
+    written_back (prefix ++ new) rest len size ∙ ap (λ xs. xs ++ new) (prefix_is ∙ ap (take kept) whole ∙ ap (λ m. take m (old ++ pad)) k ∙ take-append_seam old pad)
 
 -- bytes that are appended one by one
 pub appended : (old to source : List ℕ) (at size : ℕ) → length to ≡ length old + size → ((j : ℕ) → j < length old → slice_index to j ≡ slice_index old j)
     → ((j : ℕ) → j < size → slice_index to (length old + j) ≡ byte_from source (at + 8 * j)) → to ≡ old ++ bytes_from source at size
-appended old to source at size n before behind =
+appended old to source at size n before after =
     let f : ℕ → ℕ = λ k. byte_from source (at + 8 * k) in
     let all : length (old ++ bytes_from source at size) ≡ length old + size = length-append old (bytes_from source at size) ∙ ap (λ m. length old + m) (length-map-range_with_len f 0 size) in
     same_number_lists _ _ (n ∙ sym all) (λ k h. elim (cases_lt k (length old)) [
@@ -103,7 +103,7 @@ appended old to source at size n before behind =
       | inr high ↦
           let e : length old + (k - length old) ≡ k = omega arith in
           let below : k - length old < size = omega arith in
-          ap (slice_index to) (sym e) ∙ behind (k - length old) below ∙ sym (get_or-append_right old (bytes_from source at size) (length old) k 0 refl high ∙ get_or-map-range_with_len f 0 size (k - length old) (k - length old) 0 below (omega arith))
+          ap (slice_index to) (sym e) ∙ after (k - length old) below ∙ sym (get_or-append_right old (bytes_from source at size) (length old) k 0 refl high ∙ get_or-map-range_with_len f 0 size (k - length old) (k - length old) 0 below (omega arith))
     ])
 
 -- a bit that is not one
@@ -128,8 +128,8 @@ module _ (bytes : List ℕ) (at b : ℕ) (byte : b < 256) (room : at / 8 < lengt
     | inr ne ↦ rw (ne_eqb _ _ ne) refl
   ]
 
-  pub filled_behind : (i : ℕ) → at ≤ i → i / 8 ≡ at / 8 → packed_bit bytes i ≡ false → packed_bit filled i ≡ eqb (bit_at b (7 - (i - at))) 1
-  filled_behind i h e spare =
+  pub filled_after : (i : ℕ) → at ≤ i → i / 8 ≡ at / 8 → packed_bit bytes i ≡ false → packed_bit filled i ≡ eqb (bit_at b (7 - (i - at))) 1
+  filled_after i h e spare =
       let old : bit_at (slice_index bytes (at / 8)) (7 - i % 8) ≡ 0 = ap (λ j. bit_at (slice_index bytes j) (7 - i % 8)) (sym e) ∙ not_one _ (bit_at-lt _ _) spare in
       let place : at % 8 + (7 - i % 8) ≡ 7 - (i - at) = omega arith in
       let bit = bit_filled (7 - i % 8) ∙ ap (λ m. max m (bit_at b (at % 8 + (7 - i % 8)))) old ∙ zero-max _ ∙ ap (bit_at b) place in

@@ -1,4 +1,5 @@
--- Sound bytes of several channels in blocks: for every 32768 bits a block of 4096 bytes of each channel in turn (DSF 1.01, data chunk; the two orders of the bits are this project's profile).
+-- Sound bytes of several channels in blocks: for every 32768 bits a block of 4096 bytes of each channel in turn (DSF
+-- 1.01, data chunk; the two orders of the bits are this project's profile).
 use Rattle.std.specs.Prelude.{◌≡◌, ℕ, ◌+◌, ◌-◌, ◌*◌, ◌/◌, ◌%◌, ◌<◌, ◌≤◌, Bool, false, ◌==◌, List, [], ◌++◌, map, length, slice_index, slice_index_or}
 use Rattle.std.specs.List.{range_with_len}
 use Rattle.std.specs.Int.{bit_at, div_ceil}
@@ -7,7 +8,7 @@ use Rattle.dsd_bits.specs.declared.blocks.BitOrder.TheVariants.{LeastFirst, Most
 use Rattle.dsd_bits.specs.Channels.{IsLevel, count_of}
 use Rattle.dsd_bits.specs.Limits.{block_bits, block_bytes}
 use Rattle.dsd_bits.specs.Packing.{packed_byte}
-use Rattle.dsd_bits.specs.Turning.{turned}
+use Rattle.dsd_bits.specs.Reversing.{reversed}
 
 -- the sound byte that holds bit i of channel c: (i / 32768 * channels + c) * 4096 + i % 32768 / 8
 abbrev pub block_place : ℕ → ℕ → ℕ → ℕ
@@ -36,7 +37,7 @@ unblocked_all order bytes channels count = map (unblocked order bytes channels c
 
 -- a byte of this order with its most significant bit first
 abbrev pub ordered : BitOrder → ℕ → ℕ
-ordered LeastFirst b = turned b
+ordered LeastFirst b = reversed b
 ordered MostFirst b = b
 
 -- the sound byte at a place; past a channel's end it is zero

@@ -13,4 +13,4 @@ pub mod Shifting
 pub mod Sounds
 pub mod Stretches
 pub mod Sums
-pub mod Turning
+pub mod Reversing

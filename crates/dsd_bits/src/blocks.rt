@@ -9,7 +9,7 @@ ghost use Rattle.dsd_bits.specs.Limits.{block_bytes, most_bits};
 use crate::bits::Bits;
 use crate::fault::LaceFault;
 use crate::limits::{BLOCK_BITS, BLOCK_BYTES};
-use crate::turning::turn;
+use crate::reversing::reverse;
 use std::alloc::{AllocError, Global};
 
 /// Which bit of a sound byte of DSF 1.01 is the earliest.
@@ -156,7 +156,7 @@ pub fn put_in_order(bytes: &mut [u8], order: BitOrder)
     ensures { bytes.new ≡ map (ordered order) bytes.old }
 {
     match order {
-        BitOrder::LeastFirst => turn(bytes),
+        BitOrder::LeastFirst => reverse(bytes),
         BitOrder::MostFirst => {}
     }
 }

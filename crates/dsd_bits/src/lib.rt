@@ -2,7 +2,7 @@
 //!
 //! In contracts, a [`Bits`] is a list of truth values: a stored 1 is `true`. In memory it is packed eight bits to a
 //! byte, the earliest bit the most significant, as DSDIFF 1.5 stores a channel. The unused bits of the last byte are
-//! zero. A range of one list is added to another by whole bytes, wherever it begins. [`turn`] changes between this
+//! zero. A range of one list is added to another by whole bytes, wherever it begins. [`reverse`] changes between this
 //! order of the bits of a byte and that of DSF 1.01.
 //!
 //! [`unlace_bytes`] takes the interleaved sound bytes of DSDIFF apart into channels, and [`lace_bytes`] interleaves
@@ -32,7 +32,7 @@
 //! - `block_bit order bytes channels c i` is bit `i` of channel `c` among sound bytes in blocks, `unblocked_all` the
 //!   first bits of all channels, `blocks_size` how many sound bytes these take, and `blocked` the sound bytes of
 //!   channels. `AreBlocks` says where each bit is.
-//! - `IsTurned old new` says that bit `i` of one byte is bit `7 - i` of the other.
+//! - `IsReversed old new` says that bit `i` of one byte is bit `7 - i` of the other.
 //! - `IsLevel channels` says that all channels have the same length, `count_of` is that length.
 //! - `Content` is what a recording holds. `HasShape` names the rules that it obeys, and `layout_channels` is the table
 //!   of layouts.
@@ -68,11 +68,11 @@ mod packing;
 mod planes;
 mod ranges;
 mod recording;
+mod reversing;
 mod room;
 mod room_lacing;
 mod sound;
 mod stretches;
-mod turning;
 
 pub use bits::Bits;
 pub use blocks::{
@@ -89,8 +89,8 @@ pub use marks::{Mark, Other, Place};
 pub use packing::byte_from;
 pub use planes::{frames_to_planes, planes_to_frames};
 pub use recording::Recording;
+pub use reversing::{reverse, reverse_byte};
 pub use room::BitRoom;
 pub use room_lacing::{push_blocked_rooms, push_laced_rooms};
 pub use sound::{Sound, SoundAt};
 pub use stretches::{BitRange, silent_channels, stretches_of};
-pub use turning::{turn, turn_byte};

@@ -42,7 +42,7 @@ pub(crate) fn fill_byte(bytes: &mut Vec<u8>, at: usize, source: &[u8], from: usi
     ensures before { (i : ℕ) → i < at → packed_bit bytes.new.items i ≡ packed_bit bytes.old.items i }
     ensures filled { (i : ℕ) → at ≤ i → i < 8 * div_ceil at 8 →
         packed_bit bytes.new.items i ≡ packed_bit source.now (from + (i - at)) }
-    ensures behind { (i : ℕ) → 8 * div_ceil at 8 ≤ i →
+    ensures after { (i : ℕ) → 8 * div_ceil at 8 ≤ i →
         packed_bit bytes.new.items i ≡ packed_bit bytes.old.items i }
 {
     let used = at % 8;
@@ -84,7 +84,7 @@ fn shift_into(to: &mut [u8], kept: usize, source: &[u8], at: usize)
     requires some { kept < length to.old }
     requires in_source { at / 8 + (length to.old - kept) ≤ length source.now }
     ensures before { (j : ℕ) → j < kept → slice_index to.new j ≡ slice_index to.old j }
-    ensures behind { (j : ℕ) → j < length to.old - kept →
+    ensures after { (j : ℕ) → j < length to.old - kept →
         slice_index to.new (kept + j) ≡ byte_from source.now (at + 8 * j) }
 {
     let first = at / 8;

@@ -6,11 +6,11 @@ use Rattle.player_core.specs.PartView.{part_rest}
 use Rattle.player_core.specs.declared.parts.PartPlayer.{PartPlayer}
 use Rattle.player_core.specs.declared.pausing.PausedPart.{PausedPart}
 use Rattle.dsdarc_c.specs.Playing.{PlaysOn}
-use Rattle.dsdarc_c.specs.Pushing.{IsPlayed, IsPlaying}
+use Rattle.dsdarc_c.specs.Pushing.{IsPausedIn, IsPausedOrDone}
 
--- after these bytes so many fewer are left
+-- after these bytes n fewer are left
 pub played_on : (d : Decimator) (s : Sound) (start : ℕ) (before bytes given old new : List ℕ) (p : PartPlayer) (o : Option PausedPart) (left : ℕ)
-    → PlaysOn d s start before bytes given old new p o → length before + left ≡ (part_rest p).size → length bytes ≤ left → IsPlayed d s o (left - length bytes)
+    → PlaysOn d s start before bytes given old new p o → length before + left ≡ (part_rest p).size → length bytes ≤ left → IsPausedOrDone d s o (left - length bytes)
 played_on d s start before bytes given old new p None left on all few = omega (arith, on.2, all, few, length-append before bytes)
 played_on d s start before bytes given old new p (Some q) left on all few = record {
   start = start;

@@ -1,3 +1,4 @@
 pub mod HandleSteps
 pub mod PlayLaws
 pub mod KeepLaws
+pub mod WholeLaws

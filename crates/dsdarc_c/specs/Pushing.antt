@@ -7,23 +7,23 @@ use Rattle.fir_core.specs.Decimator.{Decimator}
 use Rattle.player_core.specs.PartView.{part_rest}
 use Rattle.player_core.specs.declared.parts.PartPlayer.{PartPlayer}
 use Rattle.player_core.specs.declared.pausing.PausedPart.{PausedPart}
-use Rattle.sound_core.specs.Files.{EndsAt}
+use Rattle.sound_core.specs.Files.{IsHeaderOf}
 use Rattle.dsdarc_c.specs.Playing.{HasPlayed}
 use Rattle.dsdarc_c.specs.declared.pushing.Pushing.{Pushing}
 use Rattle.dsdarc_c.specs.declared.pushing.Rest.{Rest}
 use Rattle.dsdarc_c.specs.declared.pushing.Stage.{Stage}
 use Rattle.dsdarc_c.specs.declared.pushing.Stage.TheVariants as stages
 
--- these bytes stand before this sound, and tell of it
-pub record IsFront (front : List ℕ) (s : Sound) : Type 0 where
-  pub ends : EndsAt front s
+-- these bytes are a file's header: they end where this sound starts, and state it
+pub record IsPushedHeader (header : List ℕ) (s : Sound) : Type 0 where
+  pub ends : IsHeaderOf header s
   pub is_sound : IsSound s
   pub whole : s.interleaving ≡ Bytes → s.count % 8 ≡ 0
   pub start_low : s.start ≤ 2 ^ 61
   pub size_low : s.size ≤ 2 ^ 61
 
--- a player that pauses plays this sound, and so many of its bytes are left
-pub record IsPlaying (d : Decimator) (s : Sound) (q : PausedPart) (left : ℕ) : Type 0 where
+-- a player that pauses plays this sound, and `left` bytes of it are to come
+pub record IsPausedIn (d : Decimator) (s : Sound) (q : PausedPart) (left : ℕ) : Type 0 where
   pub start : ℕ
   pub before : List ℕ
   pub given : List ℕ
@@ -31,36 +31,36 @@ pub record IsPlaying (d : Decimator) (s : Sound) (q : PausedPart) (left : ℕ) :
   pub played : HasPlayed d s start before given player q
   pub long : length before + left ≡ (part_rest player).size
 
--- a player that pauses, or none where nothing is left
-abbrev pub IsPlayed : Decimator → Sound → Option PausedPart → ℕ → Type 0
-IsPlayed d s None left = left ≡ 0
-IsPlayed d s (Some q) left = IsPlaying d s q left
+-- the same of a player that pauses; there is none if nothing is to come
+abbrev pub IsPausedOrDone : Decimator → Sound → Option PausedPart → ℕ → Type 0
+IsPausedOrDone d s None left = left ≡ 0
+IsPausedOrDone d s (Some q) left = IsPausedIn d s q left
 
--- the same of what is left of a sound
+-- the same of a player, its sound and the bytes to come, kept as one value
 pub record IsRest (d : Decimator) (rest : Rest) : Type 0 where
-  pub playing : IsPlaying d rest.sound rest.paused rest.left
+  pub playing : IsPausedIn d rest.sound rest.paused rest.left
   pub few : rest.left ≤ rest.sound.size
 
--- so many bytes of this sound are left, and the next byte is the first of them
-pub record KeepsSound (d : Decimator) (head : List ℕ) (place : ℕ) (s : Sound) (q : PausedPart) (left : ℕ) : Type 0 where
-  pub front : IsFront head s
-  pub playing : IsPlaying d s q left
+-- the next byte of the file is in this sound, `left` bytes before its end
+pub record IsWithinSound (d : Decimator) (head : List ℕ) (place : ℕ) (s : Sound) (q : PausedPart) (left : ℕ) : Type 0 where
+  pub header : IsPushedHeader head s
+  pub playing : IsPausedIn d s q left
   pub place_is : place + left ≡ s.start + s.size
 
--- the next byte stands behind this sound
-pub record KeepsBehind (head : List ℕ) (place : ℕ) (s : Sound) : Type 0 where
-  pub front : IsFront head s
-  pub behind : s.start + s.size ≤ place
+-- the next byte of the file comes after this sound
+pub record IsAfterSound (head : List ℕ) (place : ℕ) (s : Sound) : Type 0 where
+  pub header : IsPushedHeader head s
+  pub after : s.start + s.size ≤ place
 
--- what each stage keeps to
-abbrev pub KeepsStage : Decimator → List ℕ → ℕ → Stage → Type 0
-KeepsStage d front place stages.Front = length front ≡ place
-KeepsStage d front place (stages.Sound s q left) = KeepsSound d front place s q left
-KeepsStage d front place (stages.Behind s back) = KeepsBehind front place s
-KeepsStage d front place stages.Failed = ⊤
+-- what holds in each stage
+abbrev pub IsAtStage : Decimator → List ℕ → ℕ → Stage → Type 0
+IsAtStage d header place stages.Header = length header ≡ place
+IsAtStage d header place (stages.Sound s q left) = IsWithinSound d header place s q left
+IsAtStage d header place (stages.After s back) = IsAfterSound header place s
+IsAtStage d header place stages.Failed = ⊤
 
--- what each player whose file is pushed keeps to
-pub record Keeps (p : Pushing) : Type 0 where
+-- what holds of every player whose file is pushed
+pub record IsPushing (p : Pushing) : Type 0 where
   pub pulled : p.pulled ≤ length p.pending.items
-  pub told : IfSome p.told IsSound
-  pub stage : KeepsStage p.taps p.front.items p.place p.stage
+  pub stated : IfSome p.stated IsSound
+  pub stage : IsAtStage p.taps p.header.items p.place p.stage

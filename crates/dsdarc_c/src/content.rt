@@ -10,22 +10,22 @@ pub struct PushPlayer {
 }
 
 impl Model for PushPlayer {
-    ghost use Rattle.dsdarc_c.specs.Pushing.{Keeps};
+    ghost use Rattle.dsdarc_c.specs.Pushing.{IsPushing};
     ghost use Rattle.dsdarc_c.specs.declared.pushing.Pushing.{Pushing};
 
     ghost Value = { Pushing };
 
     ghost view = { λ a. a.pushing };
 
-    ghost invariant = { λ a. Keeps a.pushing };
+    ghost invariant = { λ a. IsPushing a.pushing };
 }
 
 impl PushPlayer {
-    ghost use Rattle.dsdarc_c.specs.Pushing.{Keeps};
+    ghost use Rattle.dsdarc_c.specs.Pushing.{IsPushing};
 
     /// What a player keeps to, it keeps to here.
     pub(crate) fn of(pushing: Pushing) -> PushPlayer
-        requires { Keeps pushing }
+        requires { IsPushing pushing }
     {
         PushPlayer { pushing }
     }

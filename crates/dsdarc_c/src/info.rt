@@ -1,6 +1,6 @@
 //! What is played, as C reads it.
 
-ghost use Rattle.dsdarc_c.specs.Pushing.{Keeps};
+ghost use Rattle.dsdarc_c.specs.Pushing.{IsPushing};
 
 use crate::pushing::Pushing;
 
@@ -22,9 +22,9 @@ pub struct Info {
 
 /// What is played, once it is known.
 pub(crate) fn info_of(p: &Pushing) -> Option<Info>
-    requires { Keeps p.now }
+    requires { IsPushing p.now }
 {
-    let sound = p.told?;
+    let sound = p.stated?;
     let factor = p.taps.factor();
     Some(Info {
         frames: sound.count.div_ceil(factor as usize) as u64,

@@ -7,8 +7,8 @@
 mod content;
 mod ending;
 mod fault;
-mod fronts;
 mod handle;
+mod headers;
 mod info;
 mod playing;
 mod pushing;
@@ -104,11 +104,11 @@ pub extern "C" fn dsdarc_c_end(alloc: Global, handle: Handle) -> u32 {
 #[unsafe(no_mangle)]
 pub extern "C" fn dsdarc_c_info(handle: Handle, info: &mut Info) -> u32 {
     let player = into_box(handle);
-    let told = info_of(&player.pushing);
+    let stated = info_of(&player.pushing);
     forget(player);
-    match told {
-        Some(told) => {
-            *info = told;
+    match stated {
+        Some(stated) => {
+            *info = stated;
             done()
         }
         None => status_of(PlayFault::NotYet),

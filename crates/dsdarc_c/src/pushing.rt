@@ -1,14 +1,15 @@
 //! A player whose file is pushed piece by piece, and whose frames are pulled.
 
-ghost use Rattle.std.specs.Prelude.{◌≡◌, ◌+◌, ◌%◌, ◌≤◌, ◌^◌, List, ℕ, IfOk, IfSome, length};
+ghost use Rattle.std.specs.Prelude.{◌≡◌, ◌+◌, ◌-◌, ◌%◌, ◌<◌, ◌≤◌, ◌^◌, ◌++◌, ◌⊎◌, [], Err, Ok, List, ℕ, true, IfErr, IfOk, IfSome, MatchOption, MatchResult, OnOk, drop, length, take};
 ghost use Rattle.fir_core.specs.Decimator.{Decimator};
 ghost use Rattle.player_core.specs.Laws.{total_frames};
 ghost use Rattle.dsd_bits.specs.Sounds.{IsSound};
-ghost use Rattle.dsdarc_c.specs.Pushing.{IsFront, IsPlayed, IsRest, Keeps, KeepsBehind, KeepsSound, KeepsStage};
+ghost use Rattle.dsdarc_c.specs.Pushing.{IsAfterSound, IsAtStage, IsPausedOrDone, IsPushedHeader, IsPushing, IsRest, IsWithinSound};
+ghost use Rattle.dsdarc_c.specs.Whole.{AreAllFrames, BeginsWith, EndsFile, HasAt, IsBehind, IsPrefixOfFrames, PlaysPushedFile, PlaysRestOf, PlaysSoundOf, PlaysStageOf, waiting};
 
 use crate::ending::closes;
 use crate::fault::PlayFault;
-use crate::fronts::told_by;
+use crate::headers::stated_by;
 use crate::playing::play_on;
 use dsd_bits::{Interleaving, Sound, SoundAt};
 use fir_core::Taps;
@@ -32,7 +33,7 @@ pub(crate) struct Pushing {
     /// Where in the file the next byte stands.
     pub(crate) place: usize,
     /// What stands before the sound.
-    pub(crate) front: Vec<u8>,
+    pub(crate) header: Vec<u8>,
     /// How far the file has come.
     pub(crate) stage: Stage,
     /// The bytes of frames that are due.
@@ -40,18 +41,18 @@ pub(crate) struct Pushing {
     /// How many of them were pulled.
     pub(crate) pulled: usize,
     /// What is played, once it is known.
-    pub(crate) told: Option<Sound>,
+    pub(crate) stated: Option<Sound>,
 }
 
 /// How far a file has come.
 #[derive(Drop)]
 pub(crate) enum Stage {
-    /// Its front doesn't tell of its sound yet.
-    Front,
+    /// Its prefix doesn't state its sound yet.
+    Header,
     /// So many bytes of this sound are left to be played.
     Sound(Sound, PausedPart, usize),
     /// This sound is played; these bytes are kept of what stands behind it.
-    Behind(Sound, Vec<u8>),
+    After(Sound, Vec<u8>),
     /// A call was refused.
     Failed,
 }
@@ -59,16 +60,19 @@ pub(crate) enum Stage {
 impl Pushing {
     /// A player before the first byte of a file.
     pub(crate) fn new(alloc: Global, taps: Taps) -> Pushing
-        ensures { Keeps result }
+        ensures keeps { IsPushing result }
+        // Nothing of any file was pushed yet.
+        ensures plays { (file : List ℕ) → PlaysPushedFile file 0 [] result }
+        ensures place { result.place ≡ 0 }
     {
         Pushing {
             taps,
             place: 0,
-            front: Vec::new(alloc),
-            stage: Stage::Front,
+            header: Vec::new(alloc),
+            stage: Stage::Header,
             pending: Vec::new(alloc),
             pulled: 0,
-            told: None,
+            stated: None,
         }
     }
 }
@@ -76,9 +80,16 @@ impl Pushing {
 /// Takes bytes of the file, from the place on where the next one stands: how many, at most 65,536. None are taken while
 /// frames wait to be pulled.
 pub(crate) fn push(alloc: Global, p: &mut Pushing, bytes: &[u8]) -> Result<usize, PlayFault>
-    requires { Keeps p.old }
-    ensures keeps { Keeps p.new }
+    requires { IsPushing p.old }
+    ensures keeps { IsPushing p.new }
     ensures taken { IfOk result (λ n. n ≤ length bytes.now) }
+    // It goes on with whichever file has these bytes at this place.
+    ensures plays { (file : List ℕ) (start : ℕ) (pulled : List ℕ) → PlaysPushedFile file start pulled p.old
+        → HasAt file p.old.place bytes.now → PlaysPushedFile file start pulled p.new }
+    ensures place { IfOk result (λ n. p.new.place ≡ p.old.place + n) }
+    // Nothing is taken while frames wait.
+    ensures waits { p.old.pulled < length p.old.pending.items → (p.new ≡ p.old) × (result ≡ Ok 0) }
+    ensures taps { p.new.taps ≡ p.old.taps }
 {
     if p.pulled < p.pending.len() {
         return Ok(0);
@@ -88,7 +99,7 @@ pub(crate) fn push(alloc: Global, p: &mut Pushing, bytes: &[u8]) -> Result<usize
     }
     let (piece, _) = bytes.split_at(bytes.len().min(BLOCK));
     match mem::replace(&mut p.stage, Stage::Failed) {
-        Stage::Front => push_front(alloc, p, piece),
+        Stage::Header => push_header(alloc, p, piece),
         Stage::Sound(sound, paused, left) => {
             let rest = Rest {
                 sound,
@@ -97,28 +108,32 @@ pub(crate) fn push(alloc: Global, p: &mut Pushing, bytes: &[u8]) -> Result<usize
             };
             push_sound(alloc, p, rest, piece)
         }
-        Stage::Behind(sound, back) => push_behind(p, sound, back, piece),
+        Stage::After(sound, back) => push_after(p, sound, back, piece),
         Stage::Failed => Err(PlayFault::AfterFault),
     }
 }
 
-// Takes bytes of the front of a file, up to its sound.
-fn push_front(alloc: Global, p: &mut Pushing, piece: &[u8]) -> Result<usize, PlayFault>
+// Takes bytes of the prefix of a file, up to its sound.
+fn push_header(alloc: Global, p: &mut Pushing, piece: &[u8]) -> Result<usize, PlayFault>
     requires pulled { p.old.pulled ≤ length p.old.pending.items }
-    requires told { IfSome p.old.told IsSound }
+    requires stated { IfSome p.old.stated IsSound }
     requires failed { p.old.stage ≡ Stage.Failed }
-    requires place { length p.old.front.items ≡ p.old.place }
+    requires place { length p.old.header.items ≡ p.old.place }
     requires low { p.old.place ≤ 2 ^ 62 }
     requires few { length piece.now ≤ 65536 }
-    ensures keeps { Keeps p.new }
+    ensures keeps { IsPushing p.new }
     ensures taken { IfOk result (λ n. n ≤ length piece.now) }
+    ensures plays { (file : List ℕ) → BeginsWith file p.old.header.items → waiting p.old ≡ []
+        → HasAt file p.old.place piece.now → PlaysPushedFile file 0 [] p.new }
+    ensures place { IfOk result (λ n. p.new.place ≡ p.old.place + n) }
+    ensures taps { p.new.taps ≡ p.old.taps }
 {
-    let before = p.front.len();
-    p.front.extend_from_slice(piece)?;
-    match told_by(alloc, p.front.as_slice())? {
+    let before = p.header.len();
+    p.header.extend_from_slice(piece)?;
+    match stated_by(alloc, p.header.as_slice())? {
         SoundAt::More => {
             p.place += piece.len();
-            p.stage = Stage::Front;
+            p.stage = Stage::Header;
             Ok(piece.len())
         }
         SoundAt::Found(sound) if before <= sound.start => {
@@ -128,8 +143,8 @@ fn push_front(alloc: Global, p: &mut Pushing, piece: &[u8]) -> Result<usize, Pla
             if sound.start > MOST_HALF || sound.size > MOST_HALF {
                 return Err(PlayFault::TooLong);
             }
-            p.front.truncate(sound.start);
-            p.told = Some(sound);
+            p.header.truncate(sound.start);
+            p.stated = Some(sound);
             seek_in(alloc, p, sound, 0)?;
             Ok(sound.start - before)
         }
@@ -150,7 +165,10 @@ fn rest_from(alloc: Global, taps: &Taps, sound: Sound, frame: usize) -> Result<R
     requires is_sound { IsSound sound }
     requires whole { sound.interleaving ≡ Interleaving.Bytes → sound.count % 8 ≡ 0 }
     requires frame { frame ≤ total_frames taps.now sound }
-    ensures { IfOk result (λ rest. (rest.sound ≡ sound) × IsRest taps.now rest) }
+    ensures rest { IfOk result (λ rest. (rest.sound ≡ sound) × IsRest taps.now rest) }
+    ensures plays { (file header : List ℕ) → BeginsWith file header → IfOk result (λ rest. PlaysSoundOf taps.now file
+        frame [] header (sound.start + (sound.size - rest.left)) rest.sound rest.paused rest.left) }
+    ensures first { frame ≡ 0 → IfOk result (λ rest. rest.left ≡ sound.size) }
 {
     let total = sound.count.div_ceil(taps.factor() as usize);
     let player = PartPlayer::new(alloc, taps, sound, frame, total)?;
@@ -164,12 +182,19 @@ fn rest_from(alloc: Global, taps: &Taps, sound: Sound, frame: usize) -> Result<R
 
 // Takes bytes of the sound, and plays them.
 fn push_sound(alloc: Global, p: &mut Pushing, rest: Rest, piece: &[u8]) -> Result<usize, PlayFault>
-    requires told { IfSome p.old.told IsSound }
+    requires stated { IfSome p.old.stated IsSound }
     requires failed { p.old.stage ≡ Stage.Failed }
-    requires sound { KeepsSound p.old.taps p.old.front.items p.old.place rest.sound rest.paused rest.left }
+    requires sound { IsWithinSound p.old.taps p.old.header.items p.old.place rest.sound rest.paused rest.left }
     requires few { length piece.now ≤ 65536 }
-    ensures keeps { Keeps p.new }
+    ensures keeps { IsPushing p.new }
     ensures taken { IfOk result (λ n. n ≤ length piece.now) }
+    ensures plays { (file : List ℕ) (start : ℕ) (pulled : List ℕ) → PlaysSoundOf p.old.taps file start pulled
+        p.old.header.items p.old.place rest.sound rest.paused rest.left → HasAt file p.old.place piece.now
+        → PlaysPushedFile file start pulled p.new }
+    ensures place { IfOk result (λ n. p.new.place ≡ p.old.place + n) }
+    ensures failed { IfErr result (λ _. (p.new.stage ≡ Stage.Failed) × (waiting p.new ≡ [])) }
+    ensures memory { IfErr result (λ fault. fault ≡ PlayFault.Memory) }
+    ensures taps { p.new.taps ≡ p.old.taps }
 {
     let Rest {
         sound,
@@ -179,54 +204,73 @@ fn push_sound(alloc: Global, p: &mut Pushing, rest: Rest, piece: &[u8]) -> Resul
     let (bytes, _) = piece.split_at(piece.len().min(left));
     p.pending.clear();
     p.pulled = 0;
-    let played = play_on(&p.taps, paused, bytes, left, &mut p.pending)?;
-    p.place += bytes.len();
-    p.stage = next_stage(alloc, sound, played, left - bytes.len());
-    Ok(bytes.len())
+    match play_on(&p.taps, paused, bytes, left, &mut p.pending) {
+        Ok(played) => {
+            p.place += bytes.len();
+            p.stage = next_stage(alloc, sound, played, left - bytes.len());
+            Ok(bytes.len())
+        }
+        Err(_) => {
+            p.pending.clear();
+            Err(PlayFault::Memory)
+        }
+    }
 }
 
-// The stage where so many bytes of a sound are left to be played, or all of it was.
+// The stage after a piece of a sound: the player that goes on with the `left` bytes that remain, or the sound's end.
 fn next_stage(alloc: Global, sound: Sound, played: Option<PausedPart>, left: usize) -> Stage
-    ensures { (d : Decimator) (front : List ℕ) (place : ℕ) → IsFront front sound → IsPlayed d sound played left
-        → place + left ≡ sound.start + sound.size → KeepsStage d front place result }
+    ensures keeps { (d : Decimator) (header : List ℕ) (place : ℕ) → IsPushedHeader header sound → IsPausedOrDone d sound played left
+        → place + left ≡ sound.start + sound.size → IsAtStage d header place result }
+    ensures plays { (d : Decimator) (file : List ℕ) (start : ℕ) (out header : List ℕ) (place : ℕ)
+        → PlaysRestOf d file start out header place sound played left → PlaysStageOf d file start out header place result }
 {
     match played {
         Some(paused) => Stage::Sound(sound, paused, left),
-        None => Stage::Behind(sound, Vec::new(alloc)),
+        None => Stage::After(sound, Vec::new(alloc)),
     }
 }
 
 // Takes bytes behind the sound: those of a DSDIFF form are kept.
-fn push_behind(
+fn push_after(
     p: &mut Pushing,
     sound: Sound,
     back: Vec<u8>,
     piece: &[u8],
 ) -> Result<usize, PlayFault>
     requires pulled { p.old.pulled ≤ length p.old.pending.items }
-    requires told { IfSome p.old.told IsSound }
+    requires stated { IfSome p.old.stated IsSound }
     requires failed { p.old.stage ≡ Stage.Failed }
-    requires behind { KeepsBehind p.old.front.items p.old.place sound }
+    requires after { IsAfterSound p.old.header.items p.old.place sound }
     requires low { p.old.place ≤ 2 ^ 62 }
     requires few { length piece.now ≤ 65536 }
-    ensures keeps { Keeps p.new }
+    ensures keeps { IsPushing p.new }
     ensures taken { IfOk result (λ n. n ≤ length piece.now) }
+    ensures plays { (file : List ℕ) (start : ℕ) (pulled : List ℕ) → BeginsWith file p.old.header.items
+        → AreAllFrames p.old.taps sound file start (pulled ++ waiting p.old) → PlaysPushedFile file start pulled p.new }
+    ensures place { IfOk result (λ n. p.new.place ≡ p.old.place + n) }
+    ensures taps { p.new.taps ≡ p.old.taps }
 {
     let mut back = back;
     if !sound.interleaving.has_blocks() {
-        let wanted = dsdiff_core::bytes_behind(p.front.as_slice()) as usize;
+        let wanted = dsdiff_core::bytes_after_sound(p.header.as_slice()) as usize;
         let (kept, _) = piece.split_at(piece.len().min(wanted.saturating_sub(back.len())));
         back.extend_from_slice(kept)?;
     }
     p.place += piece.len();
-    p.stage = Stage::Behind(sound, back);
+    p.stage = Stage::After(sound, back);
     Ok(piece.len())
 }
 
 /// Says that no bytes come any more: whether the file holds a recording.
 pub(crate) fn end(alloc: Global, p: &mut Pushing) -> Result<(), PlayFault>
-    requires { Keeps p.old }
-    ensures keeps { Keeps p.new }
+    requires { IsPushing p.old }
+    ensures keeps { IsPushing p.new }
+    ensures plays { (file : List ℕ) (start : ℕ) (pulled : List ℕ) → PlaysPushedFile file start pulled p.old
+        → PlaysPushedFile file start pulled p.new }
+    // Of a file that ends here all frames were made.
+    ensures ends { (file : List ℕ) (start : ℕ) (pulled : List ℕ) → PlaysPushedFile file start pulled p.old
+        → length file ≡ p.old.place → OnOk result (EndsFile file start pulled p.new) }
+    ensures taps { p.new.taps ≡ p.old.taps }
 {
     match is_closed(alloc, p) {
         Ok(true) => Ok(()),
@@ -237,12 +281,13 @@ pub(crate) fn end(alloc: Global, p: &mut Pushing) -> Result<(), PlayFault>
 
 // Whether a file that ends here holds a recording.
 fn is_closed(alloc: Global, p: &Pushing) -> Result<bool, PlayFault>
-    requires { Keeps p.now }
+    requires { IsPushing p.now }
+    ensures { IfOk result (λ closed. closed ≡ true → IsBehind p.now.stage) }
 {
     match &p.stage {
-        Stage::Behind(sound, back) => {
-            let (front, total) = (p.front.as_slice(), p.place as u64);
-            Ok(closes(alloc, sound, front, back.as_slice(), total)?)
+        Stage::After(sound, back) => {
+            let (header, total) = (p.header.as_slice(), p.place as u64);
+            Ok(closes(alloc, sound, header, back.as_slice(), total)?)
         }
         Stage::Failed => Err(PlayFault::AfterFault),
         _ => Ok(false),
@@ -251,8 +296,12 @@ fn is_closed(alloc: Global, p: &Pushing) -> Result<bool, PlayFault>
 
 // The player is of no further use.
 fn fail(p: &mut Pushing, fault: PlayFault) -> Result<(), PlayFault>
-    requires { Keeps p.old }
-    ensures keeps { Keeps p.new }
+    requires { IsPushing p.old }
+    ensures keeps { IsPushing p.new }
+    ensures plays { (file : List ℕ) (start : ℕ) (pulled : List ℕ) → PlaysPushedFile file start pulled p.old
+        → PlaysPushedFile file start pulled p.new }
+    ensures refused { result ≡ Err fault }
+    ensures taps { p.new.taps ≡ p.old.taps }
 {
     p.stage = Stage::Failed;
     Err(fault)
@@ -260,9 +309,20 @@ fn fail(p: &mut Pushing, fault: PlayFault) -> Result<(), PlayFault>
 
 /// Takes the next bytes of frames that are due: how many, as many as there are and as fit.
 pub(crate) fn pull(p: &mut Pushing, out: &mut [u8]) -> usize
-    requires { Keeps p.old }
-    ensures keeps { Keeps p.new }
+    requires { IsPushing p.old }
+    ensures keeps { IsPushing p.new }
     ensures few { result ≤ length out.old }
+    // They are the next of the file's frames.
+    ensures plays { (file : List ℕ) (start : ℕ) (pulled : List ℕ) → PlaysPushedFile file start pulled p.old
+        → PlaysPushedFile file start (pulled ++ take result out.new) p.new }
+    // All that was pulled since a frame was sought comes first among the file's frames from there on.
+    ensures prefix { (file : List ℕ) (start : ℕ) (pulled : List ℕ) → PlaysPushedFile file start pulled p.old
+        → IsPrefixOfFrames p.old.taps file start (pulled ++ take result out.new) }
+    // Fewer than fit are taken only if no more wait.
+    ensures all { (result ≡ length out.old) ⊎ (waiting p.new ≡ []) }
+    ensures others { drop result out.new ≡ drop result out.old }
+    ensures place { p.new.place ≡ p.old.place }
+    ensures taps { p.new.taps ≡ p.old.taps }
 {
     let (_, left) = p.pending.split_at(p.pulled);
     let count = left.len().min(out.len());
@@ -275,8 +335,16 @@ pub(crate) fn pull(p: &mut Pushing, out: &mut [u8]) -> usize
 
 /// Goes to a frame: the byte of the file from which on it is pushed then.
 pub(crate) fn seek(alloc: Global, p: &mut Pushing, frame: u64) -> Result<u64, PlayFault>
-    requires { Keeps p.old }
-    ensures keeps { Keeps p.new }
+    requires { IsPushing p.old }
+    ensures keeps { IsPushing p.new }
+    // From there on it plays the same file; after a refusal, what was pulled before is still of its frames.
+    ensures plays { (file : List ℕ) (start : ℕ) (pulled : List ℕ) → PlaysPushedFile file start pulled p.old
+        → MatchResult result (λ _. PlaysPushedFile file frame [] p.new) (λ _. PlaysPushedFile file start pulled p.new) }
+    ensures place { IfOk result (λ place. p.new.place ≡ place) }
+    // There is no such frame if that is what it says.
+    ensures refused { result ≡ Err PlayFault.BehindEnd → (s : Sound) × IsPushedHeader p.old.header.items s
+        × (total_frames p.old.taps s < frame) }
+    ensures taps { p.new.taps ≡ p.old.taps }
 {
     let sound = sound_with_head(p)?;
     if frame > sound.count.div_ceil(p.taps.factor() as usize) as u64 {
@@ -285,25 +353,35 @@ pub(crate) fn seek(alloc: Global, p: &mut Pushing, frame: u64) -> Result<u64, Pl
     seek_in(alloc, p, sound, frame as usize)
 }
 
-// The sound that stands behind the front of a file.
+// The sound that stands behind the prefix of a file.
 fn sound_with_head(p: &Pushing) -> Result<Sound, PlayFault>
-    requires { Keeps p.now }
-    ensures { IfOk result (IsFront p.now.front.items) }
+    requires { IsPushing p.now }
+    ensures header { IfOk result (IsPushedHeader p.now.header.items) }
+    ensures begins { (file : List ℕ) (start : ℕ) (pulled : List ℕ) → PlaysPushedFile file start pulled p.now
+        → IfOk result (λ _. BeginsWith file p.now.header.items) }
+    ensures refused { result ≡ Err PlayFault.BehindEnd → ⊥ }
 {
     match &p.stage {
         Stage::Sound(sound, _, _) => Ok(*sound),
-        Stage::Behind(sound, _) => Ok(*sound),
-        Stage::Front => Err(PlayFault::NotYet),
+        Stage::After(sound, _) => Ok(*sound),
+        Stage::Header => Err(PlayFault::NotYet),
         Stage::Failed => Err(PlayFault::AfterFault),
     }
 }
 
 // Goes to a frame of the sound.
 fn seek_in(alloc: Global, p: &mut Pushing, sound: Sound, frame: usize) -> Result<u64, PlayFault>
-    requires told { IfSome p.old.told IsSound }
-    requires front { IsFront p.old.front.items sound }
+    requires stated { IfSome p.old.stated IsSound }
+    requires header { IsPushedHeader p.old.header.items sound }
     requires frame { frame ≤ total_frames p.old.taps sound }
-    ensures keeps { Keeps p.new }
+    ensures keeps { IsPushing p.new }
+    ensures plays { (file : List ℕ) → BeginsWith file p.old.header.items
+        → IfOk result (λ _. PlaysPushedFile file frame [] p.new) }
+    ensures failed { IfErr result (λ _. (p.new.stage ≡ Stage.Failed) × (waiting p.new ≡ [])) }
+    ensures memory { IfErr result (λ fault. fault ≡ PlayFault.Memory) }
+    ensures place { IfOk result (λ place. p.new.place ≡ place) }
+    ensures first { frame ≡ 0 → IfOk result (λ place. place ≡ sound.start) }
+    ensures taps { p.new.taps ≡ p.old.taps }
 {
     p.stage = Stage::Failed;
     p.pending.clear();

@@ -1,14 +1,14 @@
 //! Samples as numbers.
 
 ghost use Rattle.std.specs.Prelude.{◌≡◌, ◌+◌, ◌≤◌, ◌⊎◌, length};
-ghost use Rattle.dsdarc_c.specs.Pushing.{Keeps};
+ghost use Rattle.dsdarc_c.specs.Pushing.{IsPushing};
 
 use crate::pushing::Pushing;
 
 /// Takes the samples of frames that are due, as numbers: how many, as many as there are and as fit.
 pub(crate) fn pull_numbers(p: &mut Pushing, out: &mut [i32]) -> usize
-    requires { Keeps p.old }
-    ensures keeps { Keeps p.new }
+    requires { IsPushing p.old }
+    ensures keeps { IsPushing p.new }
     ensures few { result ≤ length out.old }
 {
     let size = if p.taps.width() == 16 { 2 } else { 3 };

@@ -17,12 +17,12 @@ use Rattle.dsdiff_core.specs.Forms.{known_version}
 use Rattle.dsdiff_core.specs.Kinds.{has_id, is_property}
 use Rattle.dsdiff_core.specs.Masters.{has_no_cut_mark, chunks_of_master, masters_of}
 use Rattle.dsdiff_core.specs.Others.{kept, other_in}
-use Rattle.dsdiff_core.specs.Properties.{Told, fields_of, property_of}
+use Rattle.dsdiff_core.specs.Properties.{PropertyFields, fields_of, property_of}
 use Rattle.dsdiff_core.specs.Sounds.{sound_leads}
 use Rattle.dsdiff_core.specs.Spans.{data_with, holds_property, once_each, property_kinds, span_has, top_kinds}
 use Rattle.dsdiff_core.specs.Steps.{some_or, walked}
-use Rattle.dsdiff_core.proofs.FileLaws.{behind_type}
-use Rattle.dsdiff_core.proofs.FrontEnds.{Same, firsts, same_data, same_spans}
+use Rattle.dsdiff_core.proofs.FileLaws.{after_type}
+use Rattle.dsdiff_core.proofs.HeaderEnds.{Same, firsts, same_data, same_spans}
 use Rattle.dsdiff_core.proofs.KindLaws.{bool_cases, no_property, not_both}
 use Rattle.dsdiff_core.proofs.MasterLaws.{whole_range}
 use Rattle.dsdiff_core.proofs.PropertyLaws.{property_ok}
@@ -67,7 +67,7 @@ module _ (F G : List ℕ) where
   find_alike [] a = refl
   find_alike (s ∷ ss) a = rw (property_alike s a.0, find_alike ss a.1) refl
 
-  -- ---- the version, and kinds that stand once
+  -- ---- the version, and kinds that occur once
   no_version : (H : List ℕ) (s : Span) (cs : List Chunk) → span_has DSD s ≡ true → known_version (span_chunk H s ∷ cs) ≡ Err faults.NoVersion
   no_version H s cs y = rw (not_both DSD FVER (span_chunk H s) refl y) refl
 
@@ -99,9 +99,9 @@ module _ (F G : List ℕ) where
   fields_alike : (parts : List Span) → Same F G parts → fields_of (data_with F FS parts) (data_with F CHNL parts) (data_with F CMPR parts) ≡ fields_of (data_with G FS parts) (data_with G CHNL parts) (data_with G CMPR parts)
   fields_alike parts e = rw (same_data F G FS parts e, same_data F G CHNL parts e, same_data F G CMPR parts e) refl
 
-  -- the range behind the type of a chunk that is the same
+  -- the range after the type of a chunk that is the same
   parts_range : (p : Span) → span_chunk F p ≡ span_chunk G p → slice_range F (p.start + 4) (p.start + p.size) ≡ slice_range G (p.start + 4) (p.start + p.size)
-  parts_range p e = behind_type F p ∙ ap (λ (c : Chunk). drop 4 c.content) e ∙ sym (behind_type G p)
+  parts_range p e = after_type F p ∙ ap (λ (c : Chunk). drop 4 c.content) e ∙ sym (after_type G p)
 
   pub property_same : (ss : List Span) → Alike ss → property_of F ss ≡ property_of G ss
   unfolding property_of
@@ -113,10 +113,10 @@ module _ (F G : List ℕ) where
       ap (λ (r : Result (ℕ × List (List ℕ)) DsdiffFault). once_each property_kinds [] parts >>= λ once. r >>= λ fields. Ok (record { rate = fields.0; ids = fields.1; parts = parts })) (fields_alike parts same)))
 
   -- the parts of a property that was read hold the same chunks
-  pub parts_same : (ss : List Span) (told : Told) → Alike ss → property_of G ss ≡ Ok told → Same F G told.parts
-  parts_same ss told a e =
-      let p = property_ok G ss told e in
-      (same_spans F G (p.property.start + 4) (p.property.start + p.property.size) told.parts (parts_range p.property (found_same ss p.property a p.found)) p.spans).1
+  pub parts_same : (ss : List Span) (stated : PropertyFields) → Alike ss → property_of G ss ≡ Ok stated → Same F G stated.parts
+  parts_same ss stated a e =
+      let p = property_ok G ss stated e in
+      (same_spans F G (p.property.start + 4) (p.property.start + p.property.size) stated.parts (parts_range p.property (found_same ss p.property a p.found)) p.spans).1
 
   -- ---- the edited masters
   master_range : (s : Span) → span_chunk F s ≡ span_chunk G s → slice_range F s.start (s.start + s.size) ≡ slice_range G s.start (s.start + s.size)

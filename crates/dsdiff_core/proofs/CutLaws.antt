@@ -1,4 +1,4 @@
--- Files that are cut inside a chunk of the form, and bytes behind the form.
+-- Files that are cut inside a chunk of the form, and bytes after the form.
 use Rattle.std.proofs.Common.{◌≡◌, ℕ, ◌+◌, ◌-◌, ◌≤◌, ◌<◌, inl, inr, min, true, false, cond, ltb, eqb, not, List, [], ◌∷◌, ◌++◌, length, map, take, drop, Option, Result, Ok, Err, refl, sym, ap, subst, ◌∙◌, arith}
 use Rattle.std.specs.Prelude.{filter, slice_range}
 use Rattle.std.proofs.lemmas.Bool.{cases_lt, lt-ltb, le-ltb}
@@ -24,21 +24,21 @@ use Rattle.dsdiff_core.specs.declared.fault.DsdiffFault.TheVariants as faults
 use Rattle.dsdiff_core.specs.Cuts.{CutIsRefused, EndsAtChunk, FormIsRead, cut_fault, last_size}
 use Rattle.dsdiff_core.specs.Fields.{form_end, form_size}
 use Rattle.dsdiff_core.specs.Forms.{form_end_in, top_of, known_version}
-use Rattle.dsdiff_core.specs.Fronts.{place_after, size_at}
+use Rattle.dsdiff_core.specs.Headers.{place_after, size_at}
 use Rattle.dsdiff_core.specs.Kinds.{FRM8, has_id}
 use Rattle.dsdiff_core.specs.Located.{EndsAtHead}
 use Rattle.dsdiff_core.specs.Marks.{mark_in}
 use Rattle.dsdiff_core.specs.Masters.{masters_of}
 use Rattle.dsdiff_core.specs.Others.{kept}
-use Rattle.dsdiff_core.specs.Properties.{Told, property_of}
+use Rattle.dsdiff_core.specs.Properties.{PropertyFields, property_of}
 use Rattle.dsdiff_core.specs.Reading.{marks_of, kept_others, recording_of}
 use Rattle.dsdiff_core.specs.Sounds.{sound_leads, bytes_of_sound}
 use Rattle.dsdiff_core.specs.Spans.{data_with, once_each, top_kinds}
 use Rattle.dsdiff_core.specs.Steps.{walked}
 use Rattle.dsdiff_core.proofs.Alike.{bind_same, inner_same, masters_same, once_alike, parts_same, property_same, same_alike, spans_same, version_alike}
 use Rattle.dsdiff_core.proofs.FormLaws.{IsForm, end_again, end_ok, form_cut, same_again, top_ok}
-use Rattle.dsdiff_core.proofs.FrontEnds.{Same, same_data, same_spans}
-use Rattle.dsdiff_core.proofs.LeadLaws.{behind_on, number_front, part_front}
+use Rattle.dsdiff_core.proofs.HeaderEnds.{Same, same_data, same_spans}
+use Rattle.dsdiff_core.proofs.LeadLaws.{after_on, number_prefix, part_header}
 use Rattle.dsdiff_core.proofs.LocatedLaws.{end_is_read}
 use Rattle.dsdiff_core.proofs.Steps.{walked_ok}
 use Rattle.dsdiff_core.proofs.WalkLaws.{after, walk_over}
@@ -61,31 +61,31 @@ top_fails : (file : List ℕ) (e : ChunkFault) (stop : ℕ) → form_end_in file
 unfolding recording_of top_of
 top_fails file e stop end spans = rw (end, spans) refl
 
-module _ (front rest : List ℕ) (h : EndsAtChunk front) where
+module _ (prefix rest : List ℕ) (h : EndsAtChunk prefix) where
   abbrev file : List ℕ
-  file = front ++ rest
+  file = prefix ++ rest
 
-  long : 28 ≤ length front
-  long = omega (arith, behind_on 16 h.before, h.no_gap, h.ends)
+  long : 28 ≤ length prefix
+  long = omega (arith, after_on 16 h.before, h.no_gap, h.ends)
 
-  size : form_size file ≡ form_size front
-  size = number_front 8 4 front rest (omega (arith, long))
+  size : form_size file ≡ form_size prefix
+  size = number_prefix 8 4 prefix rest (omega (arith, long))
 
-  total : length file ≡ length front + length rest
-  total = length-append front rest
+  total : length file ≡ length prefix + length rest
+  total = length-append prefix rest
 
-  here : length front - 12 ≡ h.at
+  here : length prefix - 12 ≡ h.at
   here = omega (arith, h.ends)
 
-  not_form : (take 4 file ≡ take 4 front) × (take 4 (drop 12 file) ≡ take 4 (drop 12 front))
-  not_form = (part_front 4 0 front rest (omega (arith, long)), part_front 4 12 front rest (omega (arith, long)))
+  not_form : (take 4 file ≡ take 4 prefix) × (take 4 (drop 12 file) ≡ take 4 (drop 12 prefix))
+  not_form = (part_header 4 0 prefix rest (omega (arith, long)), part_header 4 12 prefix rest (omega (arith, long)))
 
   -- the form ends in the file
-  ended : 12 + form_size file ≤ length file + 1 → form_end file < length front + last_size front → recording_of file ≡ Err (faults.Chunk (DataCut (length front - 12)))
+  ended : 12 + form_size file ≤ length file + 1 → form_end file < length prefix + last_size prefix → recording_of file ≡ Err (faults.Chunk (DataCut (length prefix - 12)))
   ended fits short =
-      let last : size_at file h.at ≡ last_size front = number_front 8 (h.at + 4) front rest (omega (arith, h.ends)) ∙ ap (size_at front) (sym here) in
-      let low : 16 ≤ h.at = omega (arith, behind_on 16 h.before, h.no_gap) in
-      let range : slice_range file 16 h.at ≡ slice_range front 16 h.at = part_front (h.at - 16) 16 front rest (omega (arith, low, h.ends)) in
+      let last : size_at file h.at ≡ last_size prefix = number_prefix 8 (h.at + 4) prefix rest (omega (arith, h.ends)) ∙ ap (size_at prefix) (sym here) in
+      let low : 16 ≤ h.at = omega (arith, after_on 16 h.before, h.no_gap) in
+      let range : slice_range file 16 h.at ≡ slice_range prefix 16 h.at = part_header (h.at - 16) 16 prefix rest (omega (arith, low, h.ends)) in
       let head : h.at + 12 ≤ form_end file = omega (arith, h.ends, h.head_in_form, size, total) in
       let form : IsForm file = record {
         long = omega (arith, long, total);
@@ -99,20 +99,20 @@ module _ (front rest : List ℕ) (h : EndsAtChunk front) where
       ∙ ap (after (places 16 h.before)) (spans_cut file h.at (form_end file) head (omega arith) (omega (arith, short, last, h.ends))) in
       top_fails file (DataCut h.at) (form_end file) (end_again file form) spans ∙ ap (λ (n : ℕ). let r : Result Content DsdiffFault = Err (faults.Chunk (DataCut n)) in r) (sym here)
 
-  cut_is : form_end file < length front + last_size front → recording_of file ≡ Err (cut_fault front (length file))
-  cut_is short = elim (cases_lt (length file + 1) (12 + form_size front)) [
+  cut_is : form_end file < length prefix + last_size prefix → recording_of file ≡ Err (cut_fault prefix (length file))
+  cut_is short = elim (cases_lt (length file + 1) (12 + form_size prefix)) [
     | inl less ↦
-        rw (lt-ltb (length file + 1) (12 + form_size front) less)
+        rw (lt-ltb (length file + 1) (12 + form_size prefix) less)
         (end_is_read file faults.FormCut (form_cut file (omega (arith, long, total)) (same_again (take 4 file) FRM8 refl (not_form.0 ∙ h.form)) (same_again (take 4 (drop 12 file)) DSD refl (not_form.1 ∙ h.kind)) (inr (omega (arith, less, size)))))
-    | inr enough ↦ rw (le-ltb (length file + 1) (12 + form_size front) enough) (ended (omega (arith, enough, size)) short)
+    | inr enough ↦ rw (le-ltb (length file + 1) (12 + form_size prefix) enough) (ended (omega (arith, enough, size)) short)
   ]
 
 pub cut_is_refused : CutIsRefused
-cut_is_refused front rest h short = cut_is front rest h short
+cut_is_refused prefix rest h short = cut_is prefix rest h short
 
--- a front that ends with the head of its sound
-pub head_is_chunk : (front : List ℕ) → EndsAtHead front → EndsAtChunk front
-head_is_chunk front h = record {
+-- a prefix that ends with the head of its sound
+pub head_is_chunk : (prefix : List ℕ) → EndsAtHead prefix → EndsAtChunk prefix
+head_is_chunk prefix h = record {
   form = h.form;
   kind = h.kind;
   at = h.head.at;
@@ -123,13 +123,13 @@ head_is_chunk front h = record {
   head_in_form = omega (arith, h.ends, h.in_form);
 }
 
--- ---- bytes behind the form
+-- ---- bytes after the form
 module _ (file rest : List ℕ) (long : 16 ≤ length file) (whole : 12 + form_size file ≤ length file) where
   abbrev F : List ℕ
   F = file ++ rest
 
   size_same : form_size F ≡ form_size file
-  size_same = number_front 8 4 file rest (omega (arith, long))
+  size_same = number_prefix 8 4 file rest (omega (arith, long))
 
   mins : min (12 + form_size file) (length F) ≡ min (12 + form_size file) (length file)
   mins = omega (arith, whole, length-append file rest)
@@ -140,8 +140,8 @@ module _ (file rest : List ℕ) (long : 16 ≤ length file) (whole : 12 + form_s
       rw (
         le-ltb (length F) 16 (omega (arith, long, length-append file rest)),
         le-ltb (length file) 16 long,
-        part_front 4 0 file rest (omega (arith, long)),
-        part_front 4 12 file rest (omega (arith, long)),
+        part_header 4 0 file rest (omega (arith, long)),
+        part_header 4 12 file rest (omega (arith, long)),
         size_same,
         le-ltb (length F + 1) (12 + form_size file) (omega (arith, whole, length-append file rest)),
         le-ltb (length file + 1) (12 + form_size file) (omega (arith, whole)),
@@ -149,7 +149,7 @@ module _ (file rest : List ℕ) (long : 16 ≤ length file) (whole : 12 + form_s
       (ap (λ (n : ℕ). let r : Result ℕ DsdiffFault = cond (not (same_id (take 4 file) FRM8)) (Err faults.NotDsdiff) (cond (not (same_id (take 4 (drop 12 file)) DSD)) (Err faults.NotDsdiff) (cond (ltb (form_size file) 4) (Err faults.FormCut) (Ok n))) in r) mins)
 
   range_same : (stop : ℕ) → stop ≤ length file → slice_range F 16 stop ≡ slice_range file 16 stop
-  range_same stop le = part_front (stop - 16) 16 file rest (omega (arith, le, long))
+  range_same stop le = part_header (stop - 16) 16 file rest (omega (arith, le, long))
 
   top_same : (top : List Span) → top_of file ≡ Ok top → Same F file top
   top_same top e =
@@ -168,29 +168,29 @@ module _ (file rest : List ℕ) (long : 16 ≤ length file) (whole : 12 + form_s
       let a = same_alike F file top (same_spans F file 16 stop top range (walked_ok _ top e2)).1 in
       rw (version_alike F file top a, once_alike F file [] top tt a) refl))
 
-  abbrev made : List ℕ → List Span → Told → List ℕ → List Span → Result Content DsdiffFault
-  made G top told sound inner = Ok (record {
-    rate = told.rate;
-    channels = unlaced_all sound (length told.ids);
-    ids = told.ids;
-    layout = usual_layout (length told.ids);
+  abbrev made : List ℕ → List Span → PropertyFields → List ℕ → List Span → Result Content DsdiffFault
+  made G top stated sound inner = Ok (record {
+    rate = stated.rate;
+    channels = unlaced_all sound (length stated.ids);
+    ids = stated.ids;
+    layout = usual_layout (length stated.ids);
     marks = marks_of G inner;
-    others = kept_others G told.parts inner top;
+    others = kept_others G stated.parts inner top;
     tag = [];
   })
 
-  made_same : (top inner : List Span) (told : Told) (sound : List ℕ) → Same F file top → property_of file top ≡ Ok told → masters_of file top ≡ Ok inner → made F top told sound inner ≡ made file top told sound inner
-  made_same top inner told sound same e2 e3 =
+  made_same : (top inner : List Span) (stated : PropertyFields) (sound : List ℕ) → Same F file top → property_of file top ≡ Ok stated → masters_of file top ≡ Ok inner → made F top stated sound inner ≡ made file top stated sound inner
+  made_same top inner stated sound same e2 e3 =
       let a = same_alike F file top same in
       let own = inner_same F file top inner a e3 in
       let marks : marks_of F inner ≡ marks_of file inner = ap (λ (cs : List Chunk). map mark_in (filter (has_id MARK) cs)) own in
-      let others : kept_others F told.parts inner top ≡ kept_others file told.parts inner top =
-      λ i. kept Property (parts_same F file top told a e2 i) ++ (kept Master (own i) ++ kept Form (same i)) in
+      let others : kept_others F stated.parts inner top ≡ kept_others file stated.parts inner top =
+      λ i. kept Property (parts_same F file top stated a e2 i) ++ (kept Master (own i) ++ kept Form (same i)) in
       λ i. Ok (record {
-        rate = told.rate;
-        channels = unlaced_all sound (length told.ids);
-        ids = told.ids;
-        layout = usual_layout (length told.ids);
+        rate = stated.rate;
+        channels = unlaced_all sound (length stated.ids);
+        ids = stated.ids;
+        layout = usual_layout (length stated.ids);
         marks = marks i;
         others = others i;
         tag = [];
@@ -202,9 +202,9 @@ module _ (file rest : List ℕ) (long : 16 ≤ length file) (whole : 12 + form_s
       bind_same (top_of F) (top_of file) _ _ tops_alike (λ top e1.
       let same = top_same top e1 in
       let a = same_alike F file top same in
-      bind_same (property_of F top) (property_of file top) _ _ (property_same F file top a) (λ told e2.
-      bind_same (bytes_of_sound (sound_leads (map (span_chunk F) top)) (data_with F DSD top) (length told.ids)) (bytes_of_sound (sound_leads (map (span_chunk file) top)) (data_with file DSD top) (length told.ids)) _ _ (rw (same, same_data F file DSD top same) refl) (λ sound e3.
-      bind_same (masters_of F top) (masters_of file top) _ _ (masters_same F file top a) (λ inner e4. made_same top inner told sound same e2 e4))))
+      bind_same (property_of F top) (property_of file top) _ _ (property_same F file top a) (λ stated e2.
+      bind_same (bytes_of_sound (sound_leads (map (span_chunk F) top)) (data_with F DSD top) (length stated.ids)) (bytes_of_sound (sound_leads (map (span_chunk file) top)) (data_with file DSD top) (length stated.ids)) _ _ (rw (same, same_data F file DSD top same) refl) (λ sound e3.
+      bind_same (masters_of F top) (masters_of file top) _ _ (masters_same F file top a) (λ inner e4. made_same top inner stated sound same e2 e4))))
 
 pub form_is_read : FormIsRead
 form_is_read file rest long whole = read_same file rest long whole

@@ -1,4 +1,4 @@
--- What a file tells beside its bits, step by step, and the recording of it.
+-- What a file states besides its bits, step by step, and its recording.
 use Rattle.std.proofs.Common.{◌≡◌, ℕ, ◌+◌, ◌*◌, ◌/◌, ◌%◌, ◌^◌, ◌≤◌, ◌<◌, ◌-◌, inl, inr, List, [], ◌++◌, length, map, take, drop, replicate, Option, Some, Result, Ok, Err, refl, sym, ap, ap₂, subst, ◌∙◌, arith}
 use Rattle.std.proofs.lemmas.List.{append-nil, length-append, length-drop, length-replicate, length-take-le, nil_from_length, take-append-drop}
 use Rattle.std.proofs.lemmas.List.FromFn.{length-map-range_with_len}
@@ -7,7 +7,6 @@ use Rattle.chunk_core.specs.declared.layout.Span.{Span}
 use Rattle.chunk_core.specs.Places.{span_chunk}
 use Rattle.chunk_core.specs.Steps.{◌>>=◌}
 use Rattle.chunk_core.proofs.Steps.{bind_then}
-use Rattle.dsdiff_core.specs.Steps.{Fails}
 use Rattle.dsd_bits.specs.Channels.{count_of}
 use Rattle.dsd_bits.specs.Contents.{Content, Described, described, with_channels}
 use Rattle.dsd_bits.specs.Ids.{DSD}
@@ -15,78 +14,77 @@ use Rattle.dsd_bits.specs.Lacing.{unlaced, unlaced_all}
 use Rattle.dsd_bits.specs.Layouts.{usual_layout}
 use Rattle.dsd_bits.specs.Shape.{AreDescribed}
 use Rattle.dsdiff_core.specs.declared.fault.DsdiffFault.{DsdiffFault}
-use Rattle.dsdiff_core.specs.declared.fault.DsdiffFault.TheVariants as faults
 use Rattle.dsdiff_core.specs.declared.held.Held.{Held}
 use Rattle.dsdiff_core.specs.Forms.{top_of}
-use Rattle.dsdiff_core.specs.Fronts.{IsAccepted, form_of, located, seek, size_at}
+use Rattle.dsdiff_core.specs.Headers.{IsAccepted, form_of, seek, size_at, sound_head_place}
 use Rattle.dsdiff_core.specs.Held.{IsHeld, IsParted, held}
 use Rattle.dsdiff_core.specs.Located.{EndsAtHead, stated_size}
 use Rattle.dsdiff_core.specs.Masters.{masters_of}
-use Rattle.dsdiff_core.specs.Properties.{Told, property_of}
+use Rattle.dsdiff_core.specs.Properties.{PropertyFields, property_of}
 use Rattle.dsdiff_core.specs.Reading.{marks_of, kept_others, recording_of}
 use Rattle.dsdiff_core.specs.SoundBytes.{description_of, read_with_sound}
 use Rattle.dsdiff_core.specs.Sounds.{stated_count, sound_leads, bytes_of_sound}
 use Rattle.dsdiff_core.specs.Spans.{data_with}
 use Rattle.dsdiff_core.proofs.AnySound.{sound_fits, sound_is_free}
 use Rattle.dsdiff_core.proofs.FileLaws.{is_dsdiff, parts_again, parts_from, parts_ok}
-use Rattle.dsdiff_core.proofs.FrontLaws.{found_leads, sound_is_at}
-use Rattle.dsdiff_core.proofs.FrontSteps.{long_front}
+use Rattle.dsdiff_core.proofs.HeaderLaws.{found_leads, sound_is_at}
+use Rattle.dsdiff_core.proofs.HeaderSteps.{long_prefix}
 use Rattle.dsdiff_core.proofs.HeadLaws.{head_cut}
-use Rattle.dsdiff_core.proofs.HeldLaws.{held_front, held_long}
-use Rattle.dsdiff_core.proofs.LeadLaws.{number_front}
+use Rattle.dsdiff_core.proofs.HeldLaws.{held_long, held_prefix}
+use Rattle.dsdiff_core.proofs.LeadLaws.{number_prefix}
 use Rattle.dsdiff_core.proofs.PropertyLaws.{property_ok}
 use Rattle.dsdiff_core.proofs.ShapeLaws.{count_is, level_is}
-use Rattle.dsdiff_core.proofs.ToldLaws.{found_is_told, sound_is_told}
+use Rattle.dsdiff_core.proofs.StatedLaws.{found_is_stated, sound_is_stated}
 
--- what the steps tell
-abbrev pub told_so : List ℕ → List Span → Told → ℕ → List Span → Described
-told_so file top told count inner = record {
-  rate = told.rate;
+-- what the steps state
+abbrev pub stated_so : List ℕ → List Span → PropertyFields → ℕ → List Span → Described
+stated_so file top stated count inner = record {
+  rate = stated.rate;
   count = count;
-  ids = told.ids;
-  layout = usual_layout (length told.ids);
+  ids = stated.ids;
+  layout = usual_layout (length stated.ids);
   marks = marks_of file inner;
-  others = kept_others file told.parts inner top;
+  others = kept_others file stated.parts inner top;
   tag = [];
 }
 
 abbrev pub steps_of : List ℕ → Result Described DsdiffFault
-steps_of file = top_of file >>= λ top. property_of file top >>= λ told. stated_count file top (length told.ids) >>= λ count. masters_of file top >>= λ inner. Ok (told_so file top told count inner)
+steps_of file = top_of file >>= λ top. property_of file top >>= λ stated. stated_count file top (length stated.ids) >>= λ count. masters_of file top >>= λ inner. Ok (stated_so file top stated count inner)
 
--- steps behind a step
+-- steps after a step
 then_same : {A B C : Type 0} (r : Result A DsdiffFault) (f : A → Result B DsdiffFault) (h : B → Result C DsdiffFault) (g : A → Result C DsdiffFault) → ((x : A) → r ≡ Ok x → (f x >>= h) ≡ g x) → ((r >>= f) >>= h) ≡ (r >>= g)
 then_same (Ok x) f h g k = k x refl
 then_same (Err e) f h g k = refl
 
-some_channel : (file : List ℕ) (top : List Span) (told : Told) → property_of file top ≡ Ok told → 1 ≤ length told.ids
-some_channel file top told e =
-    let p = property_ok file top told e in
-    let number : length told.ids ≡ big_number 2 p.names = ap length p.is_told.ids ∙ length-map-range_with_len (λ k. take 4 (drop (4 * k) (drop 2 p.names))) 0 (big_number 2 p.names) in
-    omega (arith, number, p.is_told.some_channel)
+some_channel : (file : List ℕ) (top : List Span) (stated : PropertyFields) → property_of file top ≡ Ok stated → 1 ≤ length stated.ids
+some_channel file top stated e =
+    let p = property_ok file top stated e in
+    let number : length stated.ids ≡ big_number 2 p.names = ap length p.is_stated.ids ∙ length-map-range_with_len (λ k. take 4 (drop (4 * k) (drop 2 p.names))) 0 (big_number 2 p.names) in
+    omega (arith, number, p.is_stated.some_channel)
 
 pub described_steps : (file : List ℕ) → description_of file ≡ steps_of file
 unfolding recording_of
 described_steps file =
     then_same (top_of file) _ _ _ (λ top e1.
-    then_same (property_of file top) _ _ _ (λ told e2. by top told (some_channel file top told e2) (bytes_of_sound (sound_leads (map (span_chunk file) top)) (data_with file DSD top) (length told.ids))))
+    then_same (property_of file top) _ _ _ (λ stated e2. by top stated (some_channel file top stated e2) (bytes_of_sound (sound_leads (map (span_chunk file) top)) (data_with file DSD top) (length stated.ids))))
   where
-    made : List Span → Told → List ℕ → List Span → Content
-    made top told sound inner = record {
-      rate = told.rate;
-      channels = unlaced_all sound (length told.ids);
-      ids = told.ids;
-      layout = usual_layout (length told.ids);
+    made : List Span → PropertyFields → List ℕ → List Span → Content
+    made top stated sound inner = record {
+      rate = stated.rate;
+      channels = unlaced_all sound (length stated.ids);
+      ids = stated.ids;
+      layout = usual_layout (length stated.ids);
       marks = marks_of file inner;
-      others = kept_others file told.parts inner top;
+      others = kept_others file stated.parts inner top;
       tag = [];
     }
 
     described_done : Content → Result Described DsdiffFault
     described_done r = Ok (described r)
 
-    by : (top : List Span) (told : Told) → 1 ≤ length told.ids → (r : Result (List ℕ) DsdiffFault) → ((r >>= λ sound. masters_of file top >>= λ inner. Ok (made top told sound inner)) >>= described_done) ≡ ((r >>= λ (sound : List ℕ). Ok (8 * (length sound / length told.ids))) >>= λ count. masters_of file top >>= λ inner. Ok (told_so file top told count inner))
-    by top told some (Err e) = refl
-    by top told some (Ok sound) = then_same (masters_of file top) _ _ _ (λ inner e. ap (λ (n : ℕ). let r : Result Described DsdiffFault = Ok (told_so file top told n inner) in r) (count_is sound (length told.ids) some))
+    by : (top : List Span) (stated : PropertyFields) → 1 ≤ length stated.ids → (r : Result (List ℕ) DsdiffFault) → ((r >>= λ sound. masters_of file top >>= λ inner. Ok (made top stated sound inner)) >>= described_done) ≡ ((r >>= λ (sound : List ℕ). Ok (8 * (length sound / length stated.ids))) >>= λ count. masters_of file top >>= λ inner. Ok (stated_so file top stated count inner))
+    by top stated some (Err e) = refl
+    by top stated some (Ok sound) = then_same (masters_of file top) _ _ _ (λ inner e. ap (λ (n : ℕ). let r : Result Described DsdiffFault = Ok (stated_so file top stated n inner) in r) (count_is sound (length stated.ids) some))
 
 -- a file that is described is accepted, and one that isn't is refused
 pub read_of : (file : List ℕ) (d : Described) → description_of file ≡ Ok d → (r : Content) × (recording_of file ≡ Ok r) × (described r ≡ d)
@@ -114,26 +112,26 @@ fault_of file f e = by (recording_of file) e
 abbrev pub with_bits : List ℕ → Described → Result Content DsdiffFault
 with_bits sound d = Ok (with_channels d (unlaced_all sound (length d.ids)))
 
-abbrev tells : Content → Result Described DsdiffFault
-tells r = Ok (described r)
+abbrev states : Content → Result Described DsdiffFault
+states r = Ok (described r)
 
 same_content : (x y : Content) → (let r : Result Content DsdiffFault = Ok x in r) ≡ Ok y → x ≡ y
 same_content x y e = cc
 
-module _ (front sound back : List ℕ) (h : EndsAtHead front) (size : length sound ≡ stated_size front) where
+module _ (prefix sound back : List ℕ) (h : EndsAtHead prefix) (size : length sound ≡ stated_size prefix) where
   -- a recording that was read has the sound as its channels
-  own_channels : (r : Content) → recording_of (front ++ (sound ++ back)) ≡ Ok r → unlaced_all sound (length r.ids) ≡ r.channels
-  own_channels r e = ap (λ (x : Content). x.channels) (same_content (record r { channels = unlaced_all sound (length r.ids) }) r (sym (ap (read_with_sound sound) e) ∙ sym (sound_is_free front sound sound back h size size) ∙ e))
+  own_channels : (r : Content) → recording_of (prefix ++ (sound ++ back)) ≡ Ok r → unlaced_all sound (length r.ids) ≡ r.channels
+  own_channels r e = ap (λ (x : Content). x.channels) (same_content (record r { channels = unlaced_all sound (length r.ids) }) r (sym (ap (read_with_sound sound) e) ∙ sym (sound_is_free prefix sound sound back h size size) ∙ e))
 
-  some_ids : (r : Content) → recording_of (front ++ (sound ++ back)) ≡ Ok r → 1 ≤ length r.ids
+  some_ids : (r : Content) → recording_of (prefix ++ (sound ++ back)) ≡ Ok r → 1 ≤ length r.ids
   some_ids r e =
-      let p = parts_ok (front ++ (sound ++ back)) r e in
-      subst (λ (n : ℕ). 1 ≤ n) (ap (λ (x : Content). length x.ids) p.made) (some_channel (front ++ (sound ++ back)) p.top p.told p.at_told)
+      let p = parts_ok (prefix ++ (sound ++ back)) r e in
+      subst (λ (n : ℕ). 1 ≤ n) (ap (λ (x : Content). length x.ids) p.made) (some_channel (prefix ++ (sound ++ back)) p.top p.stated p.at_stated)
 
-  pub described_alike : (other : List ℕ) → length other ≡ stated_size front → description_of (front ++ (other ++ back)) ≡ description_of (front ++ (sound ++ back))
-  described_alike other size_o = ap (λ (r : Result Content DsdiffFault). r >>= tells) (sound_is_free front sound other back h size size_o) ∙ by (recording_of (front ++ (sound ++ back))) refl
+  pub described_alike : (other : List ℕ) → length other ≡ stated_size prefix → description_of (prefix ++ (other ++ back)) ≡ description_of (prefix ++ (sound ++ back))
+  described_alike other size_o = ap (λ (r : Result Content DsdiffFault). r >>= states) (sound_is_free prefix sound other back h size size_o) ∙ by (recording_of (prefix ++ (sound ++ back))) refl
     where
-      by : (r : Result Content DsdiffFault) → recording_of (front ++ (sound ++ back)) ≡ r → (read_with_sound other r >>= tells) ≡ (r >>= tells)
+      by : (r : Result Content DsdiffFault) → recording_of (prefix ++ (sound ++ back)) ≡ r → (read_with_sound other r >>= states) ≡ (r >>= states)
       by (Err f) e = refl
       by (Ok r) e =
           let some = some_ids r e in
@@ -141,10 +139,10 @@ module _ (front sound back : List ℕ) (h : EndsAtHead front) (size : length sou
           let count : count_of (unlaced_all other (length r.ids)) ≡ count_of r.channels = count_is other (length r.ids) some ∙ long ∙ sym (count_is sound (length r.ids) some) ∙ ap count_of (own_channels r e) in
           ap (λ (n : ℕ). let x : Result Described DsdiffFault = Ok (record (described r) { count = n }) in x) count
 
-  pub read_by : (other : List ℕ) → length other ≡ stated_size front → recording_of (front ++ (other ++ back)) ≡ (description_of (front ++ (sound ++ back)) >>= with_bits other)
-  read_by other size_o = sound_is_free front sound other back h size size_o ∙ by (recording_of (front ++ (sound ++ back)))
+  pub read_by : (other : List ℕ) → length other ≡ stated_size prefix → recording_of (prefix ++ (other ++ back)) ≡ (description_of (prefix ++ (sound ++ back)) >>= with_bits other)
+  read_by other size_o = sound_is_free prefix sound other back h size size_o ∙ by (recording_of (prefix ++ (sound ++ back)))
     where
-      by : (r : Result Content DsdiffFault) → read_with_sound other r ≡ ((r >>= tells) >>= with_bits other)
+      by : (r : Result Content DsdiffFault) → read_with_sound other r ≡ ((r >>= states) >>= with_bits other)
       by (Ok r) = refl
       by (Err f) = refl
 
@@ -160,10 +158,10 @@ module _ (file : List ℕ) (f : Held) (sound : List ℕ) (p : IsParted file f so
   whole_is : f.hole ≡ 0 → f.back.now ≡ [] → file ≡ held f
   whole_is none end =
       let silent : sound ≡ [] = nil_from_length sound (p.long ∙ none) in
-      p.is ∙ rw (silent, end) (append-nil f.front.now) ∙ sym (held_front f none end)
+      p.is ∙ rw (silent, end) (append-nil f.prefix.now) ∙ sym (held_prefix f none end)
 
-  at_head : EndsAtHead f.front.now × (f.hole ≡ stated_size f.front.now) → recording_of file ≡ (description_of (held f) >>= with_bits sound)
-  at_head a = ap recording_of p.is ∙ read_by f.front.now zeros f.back.now a.0 (long_zeros ∙ a.1) sound (p.long ∙ a.1)
+  at_head : EndsAtHead f.prefix.now × (f.hole ≡ stated_size f.prefix.now) → recording_of file ≡ (description_of (held f) >>= with_bits sound)
+  at_head a = ap recording_of p.is ∙ read_by f.prefix.now zeros f.back.now a.0 (long_zeros ∙ a.1) sound (p.long ∙ a.1)
 
   pub read_parted : recording_of file ≡ (description_of (held f) >>= with_bits sound)
   read_parted = elim p.is_held [
@@ -174,7 +172,7 @@ module _ (file : List ℕ) (f : Held) (sound : List ℕ) (p : IsParted file f so
       by : (f.hole ≡ 0) × (f.back.now ≡ []) → (r : Result Content DsdiffFault) → recording_of file ≡ r → recording_of file ≡ (description_of (held f) >>= with_bits sound)
       by whole (Ok r) e = at_head (p.located (r, is_dsdiff file r (parts_ok file r e)))
       by whole (Err g) e =
-          let refused : description_of (held f) ≡ Err g = ap (λ (xs : List ℕ). recording_of xs >>= tells) (sym (whole_is whole.0 whole.1)) ∙ ap (λ (r : Result Content DsdiffFault). r >>= tells) e in
+          let refused : description_of (held f) ≡ Err g = ap (λ (xs : List ℕ). recording_of xs >>= states) (sym (whole_is whole.0 whole.1)) ∙ ap (λ (r : Result Content DsdiffFault). r >>= states) e in
           e ∙ sym (ap (λ (r : Result Described DsdiffFault). r >>= with_bits sound) refused)
 
   -- the sound of a file that is described
@@ -182,65 +180,61 @@ module _ (file : List ℕ) (f : Held) (sound : List ℕ) (p : IsParted file f so
     read_is : recording_of file ≡ Ok (with_channels d (unlaced_all sound (length d.ids)))
     read_is = read_parted ∙ ap (λ (r : Result Described DsdiffFault). r >>= with_bits sound) e
 
-    head_is : EndsAtHead f.front.now × (f.hole ≡ stated_size f.front.now)
+    head_is : EndsAtHead f.prefix.now × (f.hole ≡ stated_size f.prefix.now)
     head_is = p.located (with_channels d (unlaced_all sound (length d.ids)), is_dsdiff file _ (parts_ok file _ read_is))
 
-    in_file : recording_of (f.front.now ++ (sound ++ f.back.now)) ≡ Ok (with_channels d (unlaced_all sound (length d.ids)))
+    in_file : recording_of (f.prefix.now ++ (sound ++ f.back.now)) ≡ Ok (with_channels d (unlaced_all sound (length d.ids)))
     in_file = ap recording_of (sym p.is) ∙ read_is
 
     pub fits : (length sound % length d.ids ≡ 0) × (8 * (length sound / length d.ids) ≤ 2 ^ 36)
-    fits = sound_fits f.front.now f.back.now head_is.0 sound sound (p.long ∙ head_is.1) (p.long ∙ head_is.1) (with_channels d (unlaced_all sound (length d.ids))) in_file
+    fits = sound_fits f.prefix.now f.back.now head_is.0 sound sound (p.long ∙ head_is.1) (p.long ∙ head_is.1) (with_channels d (unlaced_all sound (length d.ids))) in_file
 
     pub are_described : AreDescribed d (unlaced_all sound (length d.ids))
     are_described =
-        let some : 1 ≤ length d.ids = some_ids f.front.now sound f.back.now head_is.0 (p.long ∙ head_is.1) (with_channels d (unlaced_all sound (length d.ids))) in_file in
-        let alike = described_alike f.front.now zeros f.back.now head_is.0 (long_zeros ∙ head_is.1) sound (p.long ∙ head_is.1) ∙ e in
-        let told : tells (with_channels d (unlaced_all sound (length d.ids))) ≡ Ok d = sym (ap (λ (r : Result Content DsdiffFault). r >>= tells) in_file) ∙ alike in
-        let same : described (with_channels d (unlaced_all sound (length d.ids))) ≡ d = cc (told) in
+        let some : 1 ≤ length d.ids = some_ids f.prefix.now sound f.back.now head_is.0 (p.long ∙ head_is.1) (with_channels d (unlaced_all sound (length d.ids))) in_file in
+        let alike = described_alike f.prefix.now zeros f.back.now head_is.0 (long_zeros ∙ head_is.1) sound (p.long ∙ head_is.1) ∙ e in
+        let stated : states (with_channels d (unlaced_all sound (length d.ids))) ≡ Ok d = sym (ap (λ (r : Result Content DsdiffFault). r >>= states) in_file) ∙ alike in
+        let same : described (with_channels d (unlaced_all sound (length d.ids))) ≡ d = cc (stated) in
         record {
           number = length-map-range_with_len (unlaced sound (length d.ids)) 0 (length d.ids);
           level = level_is sound (length d.ids) some;
           count = ap (λ (x : Described). x.count) same;
         }
 
--- ---- where the sound of an accepted file stands
-pub accepted_located : (file : List ℕ) → IsAccepted file → (at : ℕ) × (located file ≡ Ok (Some at)) × (at + 12 + size_at file at ≤ length file)
+-- ---- where the sound of an accepted file is
+pub accepted_located : (file : List ℕ) → IsAccepted file → (at : ℕ) × (sound_head_place file ≡ Ok (Some at)) × (at + 12 + size_at file at ≤ length file)
 accepted_located file accepted =
-    let told = sound_is_told file accepted.0 accepted.1 in
-    let l = found_leads file told.0 ((found_is_told file told.0).1 told.1) in
-    let place = sound_is_at file l.at told.0 l.is in
-    (l.at, long_front file l.long ∙ rw (l.form, l.sought) refl, omega (arith, place.0, place.1, told.2.in_file))
+    let stated = sound_is_stated file accepted.0 accepted.1 in
+    let l = found_leads file stated.0 ((found_is_stated file stated.0).1 stated.1) in
+    let place = sound_is_at file l.at stated.0 l.is in
+    (l.at, long_prefix file l.long ∙ rw (l.form, l.sought) refl, omega (arith, place.0, place.1, stated.2.in_file))
 
-pub located_ok : (file : List ℕ) (at : ℕ) → 16 ≤ length file → located file ≡ Ok (Some at) → (form_of file ≡ Ok tt) × (seek file ≡ Ok (Some at))
-located_ok file at long e = bind_then (form_of file) (λ form. seek file) (Some at) (sym (long_front file long) ∙ e) (λ u e1 h. (e1, h))
+pub located_ok : (file : List ℕ) (at : ℕ) → 16 ≤ length file → sound_head_place file ≡ Ok (Some at) → (form_of file ≡ Ok tt) × (seek file ≡ Ok (Some at))
+located_ok file at long e = bind_then (form_of file) (λ form. seek file) (Some at) (sym (long_prefix file long) ∙ e) (λ u e1 h. (e1, h))
 
 -- a file that is held whole, where no sound is found
-pub unlocated : (file : List ℕ) (f : Held) → held f ≡ file → IsHeld f → f.front.now ≡ file → (IsAccepted file → ⊥) → IsParted file f []
-unlocated file f is h front none =
-    let long : length f.front.now + f.hole + length f.back.now ≡ length f.front.now = sym (held_long f) ∙ ap length (is ∙ sym front) in
+pub unlocated : (file : List ℕ) (f : Held) → held f ≡ file → IsHeld f → f.prefix.now ≡ file → (IsAccepted file → ⊥) → IsParted file f []
+unlocated file f is h prefix none =
+    let long : length f.prefix.now + f.hole + length f.back.now ≡ length f.prefix.now = sym (held_long f) ∙ ap length (is ∙ sym prefix) in
     let end : f.back.now ≡ [] = nil_from_length f.back.now (omega (arith, long)) in
-    record { is_held = h; is = sym front ∙ sym (rw end (append-nil f.front.now)); long = omega (arith, long); located = λ accepted. absurd (none accepted) }
+    record { is_held = h; is = sym prefix ∙ sym (rw end (append-nil f.prefix.now)); long = omega (arith, long); located = λ accepted. absurd (none accepted) }
 
 -- a file whose sound isn't found, or isn't whole, is not accepted
-pub not_located : (file : List ℕ) (r : Result (Option ℕ) DsdiffFault) → located file ≡ r → ((at : ℕ) → r ≡ Ok (Some at) → at + 12 + size_at file at ≤ length file → ⊥) → IsAccepted file → ⊥
+pub not_located : (file : List ℕ) (r : Result (Option ℕ) DsdiffFault) → sound_head_place file ≡ r → ((at : ℕ) → r ≡ Ok (Some at) → at + 12 + size_at file at ≤ length file → ⊥) → IsAccepted file → ⊥
 not_located file r is never accepted = let l = accepted_located file accepted in never l.0 (sym is ∙ l.1) l.2
 
 -- a file around the sound that is found
-pub parted_at : (file : List ℕ) (at : ℕ) (f : Held) (rest sound : List ℕ) → located file ≡ Ok (Some at) → 16 ≤ at → at + 12 ≤ length file → length file < 2 ^ 64 → f.hole ≡ size_at file at → at + 12 + f.hole ≤ length file
-    → f.front.now ≡ take (at + 12) file → rest ≡ drop (at + 12) file → sound ≡ take f.hole rest → f.back.now ≡ drop f.hole rest → IsParted file f sound
-parted_at file at f rest sound found low high few hole inside front rest_is sound_is back =
+pub parted_at : (file : List ℕ) (at : ℕ) (f : Held) (rest sound : List ℕ) → sound_head_place file ≡ Ok (Some at) → 16 ≤ at → at + 12 ≤ length file → length file < 2 ^ 64 → f.hole ≡ size_at file at → at + 12 + f.hole ≤ length file
+    → f.prefix.now ≡ take (at + 12) file → rest ≡ drop (at + 12) file → sound ≡ take f.hole rest → f.back.now ≡ drop f.hole rest → IsParted file f sound
+parted_at file at f rest sound found low high few hole inside prefix rest_is sound_is back =
     let l = located_ok file at (omega (arith, low, high)) found in
-    let head : EndsAtHead f.front.now = subst EndsAtHead (sym front) (head_cut file at l.0 l.1) in
-    let front_long : length f.front.now ≡ at + 12 = ap length front ∙ length-take-le (at + 12) file high in
-    let whole : file ≡ f.front.now ++ rest = sym (take-append-drop (at + 12) file) ∙ ap₂ (λ (xs ys : List ℕ). xs ++ ys) (sym front) (sym rest_is) in
+    let head : EndsAtHead f.prefix.now = subst EndsAtHead (sym prefix) (head_cut file at l.0 l.1) in
+    let prefix_long : length f.prefix.now ≡ at + 12 = ap length prefix ∙ length-take-le (at + 12) file high in
+    let whole : file ≡ f.prefix.now ++ rest = sym (take-append-drop (at + 12) file) ∙ ap₂ (λ (xs ys : List ℕ). xs ++ ys) (sym prefix) (sym rest_is) in
     let split : rest ≡ sound ++ f.back.now = sym (take-append-drop f.hole rest) ∙ ap₂ (λ (xs ys : List ℕ). xs ++ ys) (sym sound_is) (sym back) in
     let rest_long : length rest ≡ length file - (at + 12) = ap length rest_is ∙ length-drop (at + 12) file in
     let long : length sound ≡ f.hole = ap length sound_is ∙ length-take-le f.hole rest (omega (arith, rest_long, inside)) in
-    let place : length f.front.now - 12 ≡ at = omega (arith, front_long) in
-    let size : f.hole ≡ stated_size f.front.now = hole ∙ (ap (λ (xs : List ℕ). size_at xs at) whole ∙ number_front 8 (at + 4) f.front.now rest (omega (arith, front_long)) ∙ ap (size_at f.front.now) (sym place)) in
-    let total : length f.front.now + f.hole + length f.back.now < 2 ^ 64 = omega (arith, front_long, inside, few, rest_long, ap length split, length-append sound f.back.now, long) in
-    record { is_held = inr (head, size, total); is = whole ∙ ap (λ xs. f.front.now ++ xs) split; long = long; located = λ accepted. (head, size) }
-
-pub fails_of : (file : List ℕ) (f : DsdiffFault) → Fails f (description_of file) → Fails f (recording_of file)
-fails_of file faults.Memory h = tt
-fails_of file f h = fault_of file f h
+    let place : length f.prefix.now - 12 ≡ at = omega (arith, prefix_long) in
+    let size : f.hole ≡ stated_size f.prefix.now = hole ∙ (ap (λ (xs : List ℕ). size_at xs at) whole ∙ number_prefix 8 (at + 4) f.prefix.now rest (omega (arith, prefix_long)) ∙ ap (size_at f.prefix.now) (sym place)) in
+    let total : length f.prefix.now + f.hole + length f.back.now < 2 ^ 64 = omega (arith, prefix_long, inside, few, rest_long, ap length split, length-append sound f.back.now, long) in
+    record { is_held = inr (head, size, total); is = whole ∙ ap (λ xs. f.prefix.now ++ xs) split; long = long; located = λ accepted. (head, size) }

@@ -8,7 +8,7 @@ pub fault_at : {X Y : Type 0} (view : X → Y) (e : DsdiffFault) (r : Result X D
 fault_at view e (Ok x) reading h k = absurd h
 fault_at view e (Err f) reading h k = rw h k
 
--- the same where memory can't be wanted
+-- the same if memory can't run out
 pub exact_at : {X : Type 0} (e : DsdiffFault) (r reading : Result X DsdiffFault) → IsErrAnd r (λ f. f ≡ e) → reading ≡ Err e → reading ≡ r
 exact_at e (Ok x) reading h k = absurd h
 exact_at e (Err f) reading h k = rw h k

@@ -22,7 +22,7 @@ use Rattle.dsdiff_core.specs.Kinds.{has_id, is_property}
 use Rattle.dsdiff_core.specs.Marks.{IsWholeMark, mark_in}
 use Rattle.dsdiff_core.specs.Masters.{masters_of}
 use Rattle.dsdiff_core.specs.Others.{kept}
-use Rattle.dsdiff_core.specs.Properties.{Told, property_of}
+use Rattle.dsdiff_core.specs.Properties.{PropertyFields, property_of}
 use Rattle.dsdiff_core.specs.Reading.{marks_of, kept_others, recording_of}
 use Rattle.dsdiff_core.specs.Sounds.{sound_leads, bytes_of_sound}
 use Rattle.dsdiff_core.specs.Spans.{data_with, holds_property, span_has}
@@ -31,18 +31,18 @@ use Rattle.dsdiff_core.proofs.KindLaws.{filter_chunks, leads_again, order_again,
 use Rattle.dsdiff_core.proofs.MarkLaws.{none_cut_again, whole_marks}
 use Rattle.dsdiff_core.proofs.MasterLaws.{masters_again, masters_ok}
 use Rattle.dsdiff_core.proofs.OnceLaws.{AtMostOne, is_found, only_one}
-use Rattle.dsdiff_core.proofs.PropertyLaws.{IsProperty, IsTold, data_ok, property_again, property_ok, told_by}
+use Rattle.dsdiff_core.proofs.PropertyLaws.{IsProperty, IsStatedAt, data_ok, property_again, property_ok, stated_by}
 use Rattle.dsdiff_core.proofs.SoundLaws.{IsSound, sound_again, sound_ok}
 
 -- the recording that the four parts of reading make
-abbrev made_of : List ℕ → List Span → Told → List ℕ → List Span → Content
-made_of file top told sound inner = record {
-  rate = told.rate;
-  channels = unlaced_all sound (length told.ids);
-  ids = told.ids;
-  layout = usual_layout (length told.ids);
+abbrev made_of : List ℕ → List Span → PropertyFields → List ℕ → List Span → Content
+made_of file top stated sound inner = record {
+  rate = stated.rate;
+  channels = unlaced_all sound (length stated.ids);
+  ids = stated.ids;
+  layout = usual_layout (length stated.ids);
   marks = marks_of file inner;
-  others = kept_others file told.parts inner top;
+  others = kept_others file stated.parts inner top;
   tag = [];
 }
 
@@ -50,13 +50,13 @@ made_of file top told sound inner = record {
 pub record Parts (file : List ℕ) (r : Content) : Type 0 where
   pub top : List Span
   pub at_top : top_of file ≡ Ok top
-  pub told : Told
-  pub at_told : property_of file top ≡ Ok told
+  pub stated : PropertyFields
+  pub at_stated : property_of file top ≡ Ok stated
   pub sound : List ℕ
-  pub at_sound : bytes_of_sound (sound_leads (map (span_chunk file) top)) (data_with file DSD top) (length told.ids) ≡ Ok sound
+  pub at_sound : bytes_of_sound (sound_leads (map (span_chunk file) top)) (data_with file DSD top) (length stated.ids) ≡ Ok sound
   pub inner : List Span
   pub at_inner : masters_of file top ≡ Ok inner
-  pub made : made_of file top told sound inner ≡ r
+  pub made : made_of file top stated sound inner ≡ r
 
 abbrev done : Content → Result Content DsdiffFault
 done r = Ok r
@@ -68,26 +68,26 @@ pub parts_ok : (file : List ℕ) (r : Content) → recording_of file ≡ Ok r �
 unfolding recording_of
 parts_ok file r e =
     bind_then (top_of file) _ r e (λ top e1 h1.
-    bind_then (property_of file top) _ r h1 (λ told e2 h2.
-    bind_then (bytes_of_sound (sound_leads (map (span_chunk file) top)) (data_with file DSD top) (length told.ids)) _ r h2 (λ sound e3 h3.
+    bind_then (property_of file top) _ r h1 (λ stated e2 h2.
+    bind_then (bytes_of_sound (sound_leads (map (span_chunk file) top)) (data_with file DSD top) (length stated.ids)) _ r h2 (λ sound e3 h3.
     bind_then (masters_of file top) _ r h3 (λ inner e4 h4.
     record {
       top = top;
       at_top = e1;
-      told = told;
-      at_told = e2;
+      stated = stated;
+      at_stated = e2;
       sound = sound;
       at_sound = e3;
       inner = inner;
       at_inner = e4;
-      made = same_content (made_of file top told sound inner) r h4;
+      made = same_content (made_of file top stated sound inner) r h4;
     }))))
 
 pub parts_again : (file : List ℕ) (r : Content) → Parts file r → recording_of file ≡ Ok r
 unfolding recording_of
-parts_again file r p = rw (p.at_top, p.at_told, p.at_sound, p.at_inner) (ap done p.made)
+parts_again file r p = rw (p.at_top, p.at_stated, p.at_sound, p.at_inner) (ap done p.made)
 
--- ---- chunks that stand once
+-- ---- chunks that occur once
 
 pub one_chunk : (file : List ℕ) (test : Chunk → Bool) (ss : List Span) (s : Span) → AtMostOne ss (λ x. test (span_chunk file x)) → find (λ x. test (span_chunk file x)) ss ≡ Some s → filter test (map (span_chunk file) ss) ≡ span_chunk file s ∷ []
 one_chunk file test ss s once found = filter_chunks file test ss ∙ ap (map (span_chunk file)) (only_one (λ x. test (span_chunk file x)) ss s once found)
@@ -97,7 +97,7 @@ one_of file [] c e = absurd cc
 one_of file (s ∷ []) c e = (s, refl, cc (e))
 one_of file (s ∷ t ∷ xs) c e = absurd cc
 
--- the span of a chunk that stands once
+-- the span of a chunk that occurs once
 pub record Stands (file : List ℕ) (test : Chunk → Bool) (ss : List Span) (c : Chunk) : Type 0 where
   pub span : Span
   pub found : find (λ x. test (span_chunk file x)) ss ≡ Some span
@@ -121,65 +121,65 @@ version_alone file (s ∷ ss) c later once e h =
 
 -- ---- the property's range
 
-pub behind_type : (file : List ℕ) (s : Span) → slice_range file (s.start + 4) (s.start + s.size) ≡ drop 4 (span_chunk file s).content
-behind_type file s =
+pub after_type : (file : List ℕ) (s : Span) → slice_range file (s.start + 4) (s.start + s.size) ≡ drop 4 (span_chunk file s).content
+after_type file s =
     let whole : s.start + s.size - s.start ≡ s.size = omega arith in
     sym (range_after file s.start (s.start + s.size) 4) ∙ ap (λ (k : ℕ). drop 4 (take k (drop s.start file))) whole
 
--- what was read of a sound property is what it tells
-pub record ToldProperty (file : List ℕ) (property : Span) (told : Told) : Type 0 where
-  pub tells : StatesProperty (span_chunk file property) told.rate (length told.ids)
-  pub ids : told.ids ≡ ids_in (length told.ids) (drop 2 tells.names.content)
-  pub parts : tells.parts ≡ map (span_chunk file) told.parts
+-- what was read of a sound property is what it states
+pub record ArePropertyFields (file : List ℕ) (property : Span) (stated : PropertyFields) : Type 0 where
+  pub states : StatesProperty (span_chunk file property) stated.rate (length stated.ids)
+  pub ids : stated.ids ≡ ids_in (length stated.ids) (drop 2 states.names.content)
+  pub parts : states.parts ≡ map (span_chunk file) stated.parts
 
-pub told_property : (file : List ℕ) (top : List Span) (told : Told) (p : IsProperty file top told) → ToldProperty file p.property told
-told_property file top told p =
-    let parts : List Chunk = map (span_chunk file) told.parts in
-    let in_parts = spans_found file (p.property.start + 4) (p.property.start + p.property.size) told.parts p.spans in
-    let rates = data_ok file FS told.parts p.rates p.at_rates in
-    let names = data_ok file CHNL told.parts p.names p.at_names in
-    let kinds = data_ok file CMPR told.parts p.kinds p.at_kinds in
-    let tells : IsTold (span_chunk file rates.0).content (span_chunk file names.0).content (span_chunk file kinds.0).content told.rate told.ids = rw (rates.2, names.2, kinds.2) p.is_told in
+pub stated_property : (file : List ℕ) (top : List Span) (stated : PropertyFields) (p : IsProperty file top stated) → ArePropertyFields file p.property stated
+stated_property file top stated p =
+    let parts : List Chunk = map (span_chunk file) stated.parts in
+    let in_parts = spans_found file (p.property.start + 4) (p.property.start + p.property.size) stated.parts p.spans in
+    let rates = data_ok file FS stated.parts p.rates p.at_rates in
+    let names = data_ok file CHNL stated.parts p.names p.at_names in
+    let kinds = data_ok file CMPR stated.parts p.kinds p.at_kinds in
+    let states : IsStatedAt (span_chunk file rates.0).content (span_chunk file names.0).content (span_chunk file kinds.0).content stated.rate stated.ids = rw (rates.2, names.2, kinds.2) p.is_stated in
     let n : ℕ = big_number 2 (span_chunk file names.0).content in
-    let number : length told.ids ≡ n = ap length tells.ids ∙ length-map-range_with_len (λ k. take 4 (drop (4 * k) (drop 2 (span_chunk file names.0).content))) 0 n in
-    let told_so : StatesProperty (span_chunk file p.property) told.rate (length told.ids) = record {
+    let number : length stated.ids ≡ n = ap length states.ids ∙ length-map-range_with_len (λ k. take 4 (drop (4 * k) (drop 2 (span_chunk file names.0).content))) 0 n in
+    let stated_so : StatesProperty (span_chunk file p.property) stated.rate (length stated.ids) = record {
       parts = parts;
-      are_parts = subst (λ (bs : List ℕ). chunks bs parts) (behind_type file p.property) in_parts.0;
+      are_parts = subst (λ (bs : List ℕ). chunks bs parts) (after_type file p.property) in_parts.0;
       rates = span_chunk file rates.0;
       names = span_chunk file names.0;
       kinds = span_chunk file kinds.0;
-      one_rate = one_chunk file (has_id FS) told.parts rates.0 p.once.0 rates.1;
-      one_names = one_chunk file (has_id CHNL) told.parts names.0 p.once.1.0 names.1;
-      one_kind = one_chunk file (has_id CMPR) told.parts kinds.0 p.once.1.1.0 kinds.1;
-      rate_long = tells.rate_long;
-      rate_is = tells.rate;
-      rate_low = tells.rate_low;
-      rate_high = tells.rate_high;
+      one_rate = one_chunk file (has_id FS) stated.parts rates.0 p.once.0 rates.1;
+      one_names = one_chunk file (has_id CHNL) stated.parts names.0 p.once.1.0 names.1;
+      one_kind = one_chunk file (has_id CMPR) stated.parts kinds.0 p.once.1.1.0 kinds.1;
+      rate_long = states.rate_long;
+      rate_is = states.rate;
+      rate_low = states.rate_low;
+      rate_high = states.rate_high;
       number_is = number;
-      some_channel = omega (arith, number, tells.some_channel);
-      six_channels = omega (arith, number, tells.six_channels);
-      names_long = omega (arith, number, tells.names_long);
-      raw = tells.raw;
+      some_channel = omega (arith, number, states.some_channel);
+      six_channels = omega (arith, number, states.six_channels);
+      names_long = omega (arith, number, states.names_long);
+      raw = states.raw;
     } in
     record {
-      tells = told_so;
-      ids = tells.ids ∙ ap (λ (k : ℕ). ids_in k (drop 2 (span_chunk file names.0).content)) (sym number);
+      states = stated_so;
+      ids = states.ids ∙ ap (λ (k : ℕ). ids_in k (drop 2 (span_chunk file names.0).content)) (sym number);
       parts = refl;
     }
 
-is_made : (file : List ℕ) (r : Content) (g : Parts file r) → IsDsdiff file (made_of file g.top g.told g.sound g.inner)
+is_made : (file : List ℕ) (r : Content) (g : Parts file r) → IsDsdiff file (made_of file g.top g.stated g.sound g.inner)
 is_made file r g =
     let top : List Chunk = map (span_chunk file) g.top in
     let t = top_ok file g.top g.at_top in
     let in_top = spans_found file 16 (form_end file) g.top t.spans in
-    let p = property_ok file g.top g.told g.at_told in
+    let p = property_ok file g.top g.stated g.at_stated in
     let property : Chunk = span_chunk file p.property in
-    let property_is_told = told_property file g.top g.told p in
-    let sounds = sound_ok (sound_leads top) (data_with file DSD g.top) (length g.told.ids) g.sound g.at_sound in
+    let property_is_stated = stated_property file g.top g.stated p in
+    let sounds = sound_ok (sound_leads top) (data_with file DSD g.top) (length g.stated.ids) g.sound g.at_sound in
     let sound = data_ok file DSD g.top g.sound sounds.0 in
     let once : filter is_property top ≡ property ∷ [] = one_chunk file is_property g.top p.property t.once.1.0 p.found in
     let sound_once : filter (has_id DSD) top ≡ span_chunk file sound.0 ∷ [] = one_chunk file (has_id DSD) g.top sound.0 t.once.1.1.0 sound.1 in
-    let is_sound : IsSound (sound_leads top) (span_chunk file sound.0).content (length g.told.ids) = subst (λ (bs : List ℕ). IsSound (sound_leads top) bs (length g.told.ids)) (sym sound.2) sounds.1 in
+    let is_sound : IsSound (sound_leads top) (span_chunk file sound.0).content (length g.stated.ids) = subst (λ (bs : List ℕ). IsSound (sound_leads top) bs (length g.stated.ids)) (sym sound.2) sounds.1 in
     let m = masters_ok file g.top g.inner g.at_inner in
     record {
       long = t.form.long;
@@ -197,20 +197,20 @@ is_made file r g =
       version_main = t.version.main;
       property = property;
       sound = span_chunk file sound.0;
-      property_then_sound = order_ok top property (span_chunk file sound.0) is_sound.behind once sound_once;
+      property_then_sound = order_ok top property (span_chunk file sound.0) is_sound.after once sound_once;
       property_is = passes is_property top property [] once;
       sound_is = passes (has_id DSD) top (span_chunk file sound.0) [] sound_once;
-      number = length g.told.ids;
-      tells = property_is_told.tells;
-      ids = property_is_told.ids;
+      number = length g.stated.ids;
+      states = property_is_stated.states;
+      ids = property_is_stated.ids;
       whole = is_sound.whole;
       not_long = is_sound.not_long;
-      channels = ap (λ (bs : List ℕ). unlaced_all bs (length g.told.ids)) (sym sound.2);
+      channels = ap (λ (bs : List ℕ). unlaced_all bs (length g.stated.ids)) (sym sound.2);
       masters = m.masters;
       are_masters = m.each;
       whole_marks = subst (λ (cs : List Chunk). All IsWholeMark (filter (has_id MARK) cs)) (sym m.inner) (whole_marks (map (span_chunk file) g.inner) m.none_is_cut);
       marks = ap (λ (cs : List Chunk). map mark_in (filter (has_id MARK) cs)) (sym m.inner);
-      others = ap (λ (cs : List Chunk). kept Property cs ++ (kept Master (map (span_chunk file) g.inner) ++ kept Form top)) (sym property_is_told.parts) ∙ ap (λ (cs : List Chunk). kept Property property_is_told.tells.parts ++ (kept Master cs ++ kept Form top)) (sym m.inner);
+      others = ap (λ (cs : List Chunk). kept Property cs ++ (kept Master (map (span_chunk file) g.inner) ++ kept Form top)) (sym property_is_stated.parts) ∙ ap (λ (cs : List Chunk). kept Property property_is_stated.states.parts ++ (kept Master cs ++ kept Form top)) (sym m.inner);
       layout = refl;
       tag = refl;
     }
@@ -239,11 +239,11 @@ is_top file r h top e back =
 content_at : (file id : List ℕ) (ss : List Span) (c : Chunk) → Stands file (has_id id) ss c → data_with file id ss ≡ Some c.content
 content_at file id ss c s = rw s.found (ap (λ (x : Chunk). Some x.content) s.is)
 
--- a chunk that tells rate and channels is read so
-pub property_told : (file : List ℕ) (top parts : List Span) (span : Span) (property : Chunk) (rate number : ℕ) (t : StatesProperty property rate number) → find (holds_property file) top ≡ Some span → span_chunk file span ≡ property → parts ≡ places (span.start + 4) t.parts
-    → IsProperty file top (told_by rate (ids_in number (drop 2 t.names.content)) parts)
-property_told file top parts span property rate number t found same e =
-    let range : slice_range file (span.start + 4) (span.start + span.size) ≡ drop 4 property.content = behind_type file span ∙ ap (λ (c : Chunk). drop 4 c.content) same in
+-- a chunk that states rate and channels is read as that
+pub property_stated : (file : List ℕ) (top parts : List Span) (span : Span) (property : Chunk) (rate number : ℕ) (t : StatesProperty property rate number) → find (holds_property file) top ≡ Some span → span_chunk file span ≡ property → parts ≡ places (span.start + 4) t.parts
+    → IsProperty file top (stated_by rate (ids_in number (drop 2 t.names.content)) parts)
+property_stated file top parts span property rate number t found same e =
+    let range : slice_range file (span.start + 4) (span.start + span.size) ≡ drop 4 property.content = after_type file span ∙ ap (λ (c : Chunk). drop 4 c.content) same in
     let inner = spans_again file (span.start + 4) (span.start + span.size) t.parts (subst (λ (bs : List ℕ). chunks bs t.parts) (sym range) t.are_parts) in
     let back : map (span_chunk file) parts ≡ t.parts = ap (map (span_chunk file)) e ∙ inner.1 in
     let rs = stands file (has_id FS) parts t.parts t.rates back t.one_rate in
@@ -260,7 +260,7 @@ property_told file top parts span property rate number t found same e =
       at_rates = content_at file FS parts t.rates rs;
       at_names = content_at file CHNL parts t.names ns;
       at_kinds = content_at file CMPR parts t.kinds ks;
-      is_told = record {
+      is_stated = record {
         rate_long = t.rate_long;
         rate = t.rate_is;
         rate_low = t.rate_low;
@@ -273,12 +273,12 @@ property_told file top parts span property rate number t found same e =
       };
     }
 
-pub is_property_of : (whole : List ℕ) (r : Content) (h : IsDsdiff whole r) (file : List ℕ) (top parts : List Span) (span : Span) → find (holds_property file) top ≡ Some span → span_chunk file span ≡ h.property → parts ≡ places (span.start + 4) h.tells.parts
-    → IsProperty file top (told_by r.rate r.ids parts)
+pub is_property_of : (whole : List ℕ) (r : Content) (h : IsDsdiff whole r) (file : List ℕ) (top parts : List Span) (span : Span) → find (holds_property file) top ≡ Some span → span_chunk file span ≡ h.property → parts ≡ places (span.start + 4) h.states.parts
+    → IsProperty file top (stated_by r.rate r.ids parts)
 is_property_of whole r h file top parts span found same e =
-    subst (λ (ids : List (List ℕ)). IsProperty file top (told_by r.rate ids parts)) (sym h.ids) (property_told file top parts span h.property r.rate h.number h.tells found same e)
+    subst (λ (ids : List (List ℕ)). IsProperty file top (stated_by r.rate ids parts)) (sym h.ids) (property_stated file top parts span h.property r.rate h.number h.states found same e)
 
--- what the file is is read
+-- what the file is, is what is read
 pub parts_from : (file : List ℕ) (r : Content) → IsDsdiff file r → Parts file r
 parts_from file r h =
     let top : List Span = places 16 h.top in
@@ -286,13 +286,13 @@ parts_from file r h =
     let order = order_again h.top h.property h.sound h.property_then_sound h.property_is h.sound_is in
     let p = stands file is_property top h.top h.property back order.0 in
     let s = stands file (has_id DSD) top h.top h.sound back order.1 in
-    let parts : List Span = places (p.span.start + 4) h.tells.parts in
-    let told : Told = told_by r.rate r.ids parts in
-    let range : slice_range file (p.span.start + 4) (p.span.start + p.span.size) ≡ drop 4 h.property.content = behind_type file p.span ∙ ap (λ (c : Chunk). drop 4 c.content) p.is in
-    let parts_back : map (span_chunk file) parts ≡ h.tells.parts = (spans_again file (p.span.start + 4) (p.span.start + p.span.size) h.tells.parts (subst (λ (bs : List ℕ). chunks bs h.tells.parts) (sym range) h.tells.are_parts)).1 in
-    let number : length r.ids ≡ h.number = ap length h.ids ∙ length-map-range_with_len (λ k. take 4 (drop (4 * k) (drop 2 h.tells.names.content))) 0 h.number in
+    let parts : List Span = places (p.span.start + 4) h.states.parts in
+    let stated : PropertyFields = stated_by r.rate r.ids parts in
+    let range : slice_range file (p.span.start + 4) (p.span.start + p.span.size) ≡ drop 4 h.property.content = after_type file p.span ∙ ap (λ (c : Chunk). drop 4 c.content) p.is in
+    let parts_back : map (span_chunk file) parts ≡ h.states.parts = (spans_again file (p.span.start + 4) (p.span.start + p.span.size) h.states.parts (subst (λ (bs : List ℕ). chunks bs h.states.parts) (sym range) h.states.are_parts)).1 in
+    let number : length r.ids ≡ h.number = ap length h.ids ∙ length-map-range_with_len (λ k. take 4 (drop (4 * k) (drop 2 h.states.names.content))) 0 h.number in
     let sounds : IsSound (sound_leads (map (span_chunk file) top)) h.sound.content (length r.ids) = record {
-      behind = ap sound_leads back ∙ leads_again h.top h.property (h.sound ∷ []) h.property_then_sound h.property_is;
+      after = ap sound_leads back ∙ leads_again h.top h.property (h.sound ∷ []) h.property_then_sound h.property_is;
       whole = ap (λ (n : ℕ). length h.sound.content % n) number ∙ h.whole;
       not_long = subst (λ (n : ℕ). 8 * (length h.sound.content / n) ≤ 2 ^ 36) (sym number) h.not_long;
     } in
@@ -301,8 +301,8 @@ parts_from file r h =
     record {
       top = top;
       at_top = top_again file top (is_top file r h top refl back);
-      told = told;
-      at_told = property_again file top told (is_property_of file r h file top parts p.span p.found p.is refl);
+      stated = stated;
+      at_stated = property_again file top stated (is_property_of file r h file top parts p.span p.found p.is refl);
       sound = h.sound.content;
       at_sound = rw (content_at file DSD top h.sound s) (sound_again (sound_leads (map (span_chunk file) top)) h.sound.content (length r.ids) sounds);
       inner = m.0;

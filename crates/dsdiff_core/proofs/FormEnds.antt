@@ -1,4 +1,4 @@
--- A file and bytes behind its form.
+-- A file and bytes after its form.
 use Rattle.std.proofs.Common.{◌≡◌, ℕ, ◌+◌, ◌-◌, ◌≤◌, List, ◌++◌, length, take, drop, sym, ap, subst, ◌∙◌, arith}
 use Rattle.std.specs.Prelude.{slice_range}
 use Rattle.std.proofs.lemmas.List.{length-append}
@@ -7,7 +7,7 @@ use Rattle.dsd_bits.specs.Contents.{Content}
 use Rattle.dsdiff_core.specs.Fields.{form_end, form_size}
 use Rattle.dsdiff_core.specs.Files.{IsDsdiff}
 use Rattle.dsdiff_core.specs.Laws.{FormEnds}
-use Rattle.dsdiff_core.proofs.LeadLaws.{number_front, part_front}
+use Rattle.dsdiff_core.proofs.LeadLaws.{number_prefix, part_header}
 
 -- the forms of two files are the same
 record SameForm (file made : List ℕ) : Type 0 where
@@ -37,7 +37,7 @@ same_held file made r same whole h = record {
   property_is = h.property_is;
   sound_is = h.sound_is;
   number = h.number;
-  tells = h.tells;
+  states = h.states;
   ids = h.ids;
   whole = h.whole;
   not_long = h.not_long;
@@ -56,18 +56,18 @@ same_back file made s = record { form = sym s.form; kind = sym s.kind; size = sy
 
 same_form : (file rest : List ℕ) → 16 ≤ length file → 12 + form_size file ≤ length file → SameForm file (file ++ rest)
 same_form file rest long whole =
-    let size : form_size (file ++ rest) ≡ form_size file = number_front 8 4 file rest (omega arith) in
+    let size : form_size (file ++ rest) ≡ form_size file = number_prefix 8 4 file rest (omega arith) in
     let end : form_end (file ++ rest) ≡ form_end file = omega (arith, size, length-append file rest) in
     record {
-      form = part_front 4 0 file rest (omega arith);
-      kind = part_front 4 12 file rest (omega arith);
+      form = part_header 4 0 file rest (omega arith);
+      kind = part_header 4 12 file rest (omega arith);
       size = size;
-      range = ap (slice_range (file ++ rest) 16) end ∙ part_front (form_end file - 16) 16 file rest (omega arith);
+      range = ap (slice_range (file ++ rest) 16) end ∙ part_header (form_end file - 16) 16 file rest (omega arith);
     }
 
 pub form_ends : FormEnds
 form_ends file rest r whole =
-    let size : form_size (file ++ rest) ≡ form_size file = number_front 8 4 file rest (omega arith) in (
+    let size : form_size (file ++ rest) ≡ form_size file = number_prefix 8 4 file rest (omega arith) in (
       λ h. same_held file (file ++ rest) r (same_form file rest h.long whole) (omega (arith, size, length-append file rest)) h,
       λ h. same_held (file ++ rest) file r (same_back file (file ++ rest) (same_form file rest (omega (arith, size, h.holds_type)) whole)) whole h,
     )

@@ -117,6 +117,6 @@ form_cut file long id kind (inr cut) =
       | inr enough ↦ rw (le-ltb (length file) 16 long, id, kind, enough, lt-ltb (length file + 1) (12 + form_size file) cut) refl
     ]
 
--- the bytes behind the form's size are fewer than it names
+-- the bytes after the form's size are fewer than it names
 pub cut_by : (file : List ℕ) (size : ℕ) → 16 ≤ length file → length file - 11 < size → size ≡ form_size file → length file + 1 < 12 + form_size file
 cut_by file size long few e = omega (arith, e)

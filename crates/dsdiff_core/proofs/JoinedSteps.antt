@@ -6,11 +6,11 @@ use Rattle.chunk_core.specs.Steps.{◌>>=◌, Fails as WalkFails}
 use Rattle.dsdiff_core.specs.declared.fault.DsdiffFault.{DsdiffFault}
 use Rattle.dsdiff_core.specs.Steps.{Fails, chunk_fault, walked}
 
--- what comes behind a step that went well
+-- what comes after a step that succeeded
 pub step_then : {A B : Type 0} (r : Result A DsdiffFault) (x : A) (f : A → Result B DsdiffFault) (z : Result B DsdiffFault) → r ≡ Ok x → f x ≡ z → (r >>= f) ≡ z
 step_then r x f z h k = rw h k
 
--- a fault behind a step that went well
+-- a fault after a step that succeeded
 pub fails_then : {A B : Type 0} (e : DsdiffFault) (r : Result A DsdiffFault) (x : A) (f : A → Result B DsdiffFault) → r ≡ Ok x → Fails e (f x) → Fails e (r >>= f)
 fails_then e r x f h k = rw h k
 

@@ -48,7 +48,7 @@ filter_chunks file test (s ∷ ss) =
     rw (filter_chunks file test ss) (
     elim (test (span_chunk file s)) as (λ b. cond b (span_chunk file s ∷ map (span_chunk file) (filter (λ s. test (span_chunk file s)) ss)) (map (span_chunk file) (filter (λ s. test (span_chunk file s)) ss)) ≡ map (span_chunk file) (cond b (s ∷ filter (λ s. test (span_chunk file s)) ss) (filter (λ s. test (span_chunk file s)) ss))) [ true ↦ refl | false ↦ refl ])
 
--- what passes a filter passes its test
+-- an item that passes a filter passes its test
 pub passes : (test : Chunk → Bool) (cs : List Chunk) (c : Chunk) (r : List Chunk) → filter test cs ≡ c ∷ r → test c ≡ true
 passes test [] c r e = absurd cc
 passes test (x ∷ cs) c r e =

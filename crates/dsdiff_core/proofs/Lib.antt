@@ -1,7 +1,7 @@
 pub mod LeadLaws
-pub mod FrontLaws
-pub mod FrontEnds
-pub mod ToldLaws
+pub mod HeaderLaws
+pub mod HeaderEnds
+pub mod StatedLaws
 pub mod FormEnds
 pub mod OtherSound
 pub mod WalkLaws
@@ -9,12 +9,13 @@ pub mod Alike
 pub mod AnySound
 pub mod HeadLaws
 pub mod LocatedLaws
+pub mod PastLaws
 pub mod CutLaws
 pub mod HeldLaws
 pub mod DescribedLaws
 pub mod ClosingLaws
 pub mod SeekLoop
-pub mod FrontSteps
+pub mod HeaderSteps
 pub mod RefuseLoop
 pub mod Steps
 pub mod JoinedSteps

@@ -1,4 +1,4 @@
--- What a walk over the front of a file comes to.
+-- What a walk over the prefix of a file comes to.
 use Rattle.std.proofs.Common.{◌≡◌, ℕ, ◌+◌, ◌-◌, ◌≤◌, ◌<◌, Bool, true, false, cond, ltb, not, List, [], ◌∷◌, ◌++◌, length, take, drop, Option, Some, None, Result, Ok, Err, refl, sym, ap, subst, ◌∙◌, arith}
 use Rattle.std.proofs.lemmas.Bool.{lt-ltb, le-ltb}
 use Rattle.std.proofs.lemmas.List.{length-append}
@@ -12,61 +12,63 @@ use Rattle.dsdiff_core.specs.declared.locating.Located.{Located}
 use Rattle.dsdiff_core.specs.declared.locating.Located.TheVariants as answers
 use Rattle.dsdiff_core.specs.Fields.{form_end, form_size}
 use Rattle.dsdiff_core.specs.Forms.{form_end_in, top_of}
-use Rattle.dsdiff_core.specs.Fronts.{answer_of, form_of, located, seek, sound_at, sound_with_head, sound_from, sound_in}
+use Rattle.dsdiff_core.specs.Headers.{as_sound_at, form_of, sound_head_place, seek, sound_at, sound_with_head, sound_from, sound_in}
 use Rattle.dsdiff_core.specs.Kinds.{FRM8}
 use Rattle.dsdiff_core.specs.Reading.{recording_of}
-use Rattle.dsdiff_core.specs.Walks.{IsLocated, IsTold, without_fault}
-use Rattle.dsdiff_core.proofs.FrontEnds.{form_front}
-use Rattle.dsdiff_core.proofs.FrontLaws.{sought_of}
-use Rattle.dsdiff_core.proofs.FrontSteps.{long_front, short_front}
+use Rattle.dsdiff_core.specs.Walks.{IsLocated, IsStatedAt, without_fault}
+use Rattle.dsdiff_core.proofs.HeaderEnds.{form_prefix}
+use Rattle.dsdiff_core.proofs.HeaderLaws.{sought_of}
+use Rattle.dsdiff_core.proofs.HeaderSteps.{long_prefix, short_prefix}
 use Rattle.dsdiff_core.proofs.HeadLaws.{head_cut}
 
--- ---- what is told of the sound, by where its head is sought
+-- ---- what is stated of the sound, by where its head is sought
 abbrev Place : Type 0
 Place = Result (Option ℕ) DsdiffFault
 
-sound_by : (front : List ℕ) (place : Place) → located front ≡ place → sound_at front ≡ answer_of (place >>= λ at. sound_from front at)
+sound_by : (prefix : List ℕ) (place : Place) → sound_head_place prefix ≡ place → sound_at prefix ≡ as_sound_at (place >>= λ at. sound_from prefix at)
 unfolding sound_in
-sound_by front place e = ap (λ (p : Place). answer_of (p >>= λ at. sound_from front at)) e
+sound_by prefix place e = ap (λ (p : Place). as_sound_at (p >>= λ at. sound_from prefix at)) e
 
-pub short_more : (front : List ℕ) → length front < 16 → sound_at front ≡ More
-short_more front short = sound_by front (Ok None) (short_front front short)
+pub short_more : (prefix : List ℕ) → length prefix < 16 → sound_at prefix ≡ More
+short_more prefix short = sound_by prefix (Ok None) (short_prefix prefix short)
 
 abbrev form_then : List ℕ → Result (Unit {0}) DsdiffFault → Place
-form_then front r = r >>= λ form. seek front
+form_then prefix r = r >>= λ form. seek prefix
 
-pub sought_is : (front : List ℕ) (place : Place) → 16 ≤ length front → form_of front ≡ Ok tt → seek front ≡ place → located front ≡ place
-sought_is front place long form sought = long_front front long ∙ ap (form_then front) form ∙ sought
+pub sought_is : (prefix : List ℕ) (place : Place) → 16 ≤ length prefix → form_of prefix ≡ Ok tt → seek prefix ≡ place → sound_head_place prefix ≡ place
+sought_is prefix place long form sought = long_prefix prefix long ∙ ap (form_then prefix) form ∙ sought
 
-pub form_refuses : (front : List ℕ) (e : DsdiffFault) → 16 ≤ length front → form_of front ≡ Err e → sound_at front ≡ Refused
-form_refuses front e long form = sound_by front (Err e) (long_front front long ∙ ap (form_then front) form)
+pub form_refuses : (prefix : List ℕ) (e : DsdiffFault) → 16 ≤ length prefix → form_of prefix ≡ Err e → sound_at prefix ≡ Refused
+form_refuses prefix e long form = sound_by prefix (Err e) (long_prefix prefix long ∙ ap (form_then prefix) form)
 
-pub more_is : (front : List ℕ) → 16 ≤ length front → form_of front ≡ Ok tt → seek front ≡ Ok None → sound_at front ≡ More
-more_is front long form sought = sound_by front (Ok None) (sought_is front (Ok None) long form sought)
+pub more_is : (prefix : List ℕ) → 16 ≤ length prefix → form_of prefix ≡ Ok tt → seek prefix ≡ Ok None → sound_at prefix ≡ More
+more_is prefix long form sought = sound_by prefix (Ok None) (sought_is prefix (Ok None) long form sought)
 
-pub lost_is : (front : List ℕ) (e : DsdiffFault) → 16 ≤ length front → form_of front ≡ Ok tt → seek front ≡ Err e → sound_at front ≡ Refused
-lost_is front e long form sought = sound_by front (Err e) (sought_is front (Err e) long form sought)
+pub lost_is : (prefix : List ℕ) (e : DsdiffFault) → 16 ≤ length prefix → form_of prefix ≡ Ok tt → seek prefix ≡ Err e → sound_at prefix ≡ Refused
+lost_is prefix e long form sought = sound_by prefix (Err e) (sought_is prefix (Err e) long form sought)
 
-abbrev told_by : Result Sound DsdiffFault → Result (Option Sound) DsdiffFault
-told_by r = r >>= λ s. Ok (Some s)
+abbrev stated_by : Result Sound DsdiffFault → Result (Option Sound) DsdiffFault
+stated_by r = r >>= λ s. Ok (Some s)
 
-module _ (front : List ℕ) (at : ℕ) (long : 16 ≤ length front) (form : form_of front ≡ Ok tt) (sought : seek front ≡ Ok (Some at)) where
-  behind_is : (told : Result Sound DsdiffFault) → sound_with_head front at ≡ told → sound_at front ≡ answer_of (told_by told)
-  behind_is told e = sound_by front (Ok (Some at)) (sought_is front (Ok (Some at)) long form sought) ∙ ap (λ (r : Result Sound DsdiffFault). answer_of (told_by r)) e
+module _ (prefix : List ℕ) (at : ℕ) (long : 16 ≤ length prefix) (form : form_of prefix ≡ Ok tt) (sought : seek prefix ≡ Ok (Some at)) where
+  after_is : (stated : Result Sound DsdiffFault) → sound_with_head prefix at ≡ stated → sound_at prefix ≡ as_sound_at (stated_by stated)
+  after_is stated e = sound_by prefix (Ok (Some at)) (sought_is prefix (Ok (Some at)) long form sought) ∙ ap (λ (r : Result Sound DsdiffFault). as_sound_at (stated_by r)) e
 
-  pub told_exact : (x : Located) → IsTold (sound_with_head front at) at x → without_fault x ≡ sound_at front
-  told_exact (answers.Found s) h = sym (behind_is (Ok s) h)
-  told_exact (answers.More place) h = absurd h
-  told_exact (answers.Refused e) h = absurd h
-  told_exact (answers.Untold place) h = sym (behind_is (Err h.1.0) h.1.1)
-  told_exact answers.NoSound h = absurd h
+  pub stated_exact : (x : Located) → IsStatedAt (sound_with_head prefix at) at x → without_fault x ≡ sound_at prefix
+  stated_exact (answers.Found s) h = sym (after_is (Ok s) h)
+  stated_exact (answers.More place) h = absurd h
+  stated_exact (answers.Refused e) h = absurd h
+  stated_exact (answers.Unstated place) h = sym (after_is (Err h.1.0) h.1.1)
+  stated_exact (answers.PastForm place) h = absurd h
+  stated_exact answers.NoSound h = absurd h
 
-  pub told_located : (x : Located) → IsTold (sound_with_head front at) at x → IsLocated front x
-  told_located (answers.Found s) h = behind_is (Ok s) h
-  told_located (answers.More place) h = absurd h
-  told_located (answers.Refused e) h = absurd h
-  told_located (answers.Untold place) h = rw h.0 ((sought_of front at sought).whole, head_cut front at form sought)
-  told_located answers.NoSound h = absurd h
+  pub stated_located : (x : Located) → IsStatedAt (sound_with_head prefix at) at x → IsLocated prefix x
+  stated_located (answers.Found s) h = after_is (Ok s) h
+  stated_located (answers.More place) h = absurd h
+  stated_located (answers.Refused e) h = absurd h
+  stated_located (answers.Unstated place) h = rw h.0 ((sought_of prefix at sought).whole, head_cut prefix at form sought)
+  stated_located (answers.PastForm place) h = absurd h
+  stated_located answers.NoSound h = absurd h
 
 -- ---- a form that doesn't begin is refused, whatever follows
 abbrev err_in : (A : Type 0) → DsdiffFault → Result A DsdiffFault
@@ -92,5 +94,5 @@ pub end_is_read : (file : List ℕ) (e : DsdiffFault) → form_end_in file ≡ E
 unfolding recording_of top_of
 end_is_read file e h = rw h refl
 
-pub form_refused : (front rest : List ℕ) (e : DsdiffFault) → 16 ≤ length front → form_of front ≡ Err e → recording_of (front ++ rest) ≡ Err e
-form_refused front rest e long form = end_is_read (front ++ rest) e (end_refused (front ++ rest) e (omega (arith, long, length-append front rest)) (form_front front rest long ∙ form))
+pub form_refused : (prefix rest : List ℕ) (e : DsdiffFault) → 16 ≤ length prefix → form_of prefix ≡ Err e → recording_of (prefix ++ rest) ≡ Err e
+form_refused prefix rest e long form = end_is_read (prefix ++ rest) e (end_refused (prefix ++ rest) e (omega (arith, long, length-append prefix rest)) (form_prefix prefix rest long ∙ form))

@@ -67,11 +67,11 @@ masters_ok file (s ∷ ss) inner e =
 
 -- ---- the other way
 
-pub front_uncut : (cs ds : List Chunk) → has_no_cut_mark (cs ++ ds) ≡ true → (has_no_cut_mark cs ≡ true) × (has_no_cut_mark ds ≡ true)
-front_uncut [] ds e = (refl, e)
-front_uncut (c ∷ cs) ds e =
+pub prefix_uncut : (cs ds : List Chunk) → has_no_cut_mark (cs ++ ds) ≡ true → (has_no_cut_mark cs ≡ true) × (has_no_cut_mark ds ≡ true)
+prefix_uncut [] ds e = (refl, e)
+prefix_uncut (c ∷ cs) ds e =
     let p = and_both (is_no_cut_mark c) (has_no_cut_mark (cs ++ ds)) e in
-    let q = front_uncut cs ds p.1 in
+    let q = prefix_uncut cs ds p.1 in
     (rw (p.0, q.0) refl, q.1)
 
 master_again : (file : List ℕ) (s : Span) (cs : List Chunk) → chunks (span_chunk file s).content cs → has_no_cut_mark cs ≡ true → (own : List Span) × (chunks_of_master file s ≡ Ok own) × (map (span_chunk file) own ≡ cs)
@@ -89,7 +89,7 @@ with_master : (file : List ℕ) (s : Span) (ss : List Span) (masters : List (Lis
 unfolding masters_of
 with_master file s ss [] h e y rest = absurd h
 with_master file s ss (m ∷ ms) h e y rest =
-    let u = front_uncut m (joined ms) e in
+    let u = prefix_uncut m (joined ms) e in
     let own = master_again file s m h.0 u.0 in
     let r = rest ms h.1 u.1 in
     (own.0 ++ r.0, rw (y, own.1, r.1) refl, map-append (span_chunk file) own.0 r.0 ∙ rw (own.2, r.2) refl)

@@ -12,12 +12,12 @@ use Rattle.dsdiff_core.specs.Steps.{Fails}
 use Rattle.dsdiff_core.proofs.Steps.{step_fails}
 
 -- what was found before, and what is still found
-abbrev pub with_front : List Span → Result (List Span) DsdiffFault → Result (List Span) DsdiffFault
-with_front front found = found >>= λ rest. Ok (front ++ rest)
+abbrev pub with_prefix : List Span → Result (List Span) DsdiffFault → Result (List Span) DsdiffFault
+with_prefix prefix found = found >>= λ rest. Ok (prefix ++ rest)
 
-regroup : (front inner : List Span) (found : Result (List Span) DsdiffFault) → with_front front (found >>= λ rest. Ok (inner ++ rest)) ≡ with_front (front ++ inner) found
-regroup front inner (Ok r) = ap (λ (ds : List Span). Ok ds) (simp append_assoc)
-regroup front inner (Err f) = refl
+regroup : (prefix inner : List Span) (found : Result (List Span) DsdiffFault) → with_prefix prefix (found >>= λ rest. Ok (inner ++ rest)) ≡ with_prefix (prefix ++ inner) found
+regroup prefix inner (Ok r) = ap (λ (ds : List Span). Ok ds) (simp append_assoc)
+regroup prefix inner (Err f) = refl
 
 abbrev step : List ℕ → Span → Result (List Span) DsdiffFault → Result (List Span) DsdiffFault
 step file s later = cond (has_id DIIN (span_chunk file s)) (chunks_of_master file s >>= λ inner. later >>= λ rest. Ok (inner ++ rest)) later
@@ -26,26 +26,26 @@ masters_more : (file : List ℕ) (ss : List Span) (i : ℕ) (d : Span) → i < l
 unfolding masters_of
 masters_more file ss i d lt = at_drop_more (λ (xs : List Span). masters_of file xs) ss i d lt
 
-pub masters_end : (file : List ℕ) (ss : List Span) (i : ℕ) (front : List Span) → length ss ≤ i → with_front front (masters_of file (drop i ss)) ≡ Ok front
+pub masters_end : (file : List ℕ) (ss : List Span) (i : ℕ) (prefix : List Span) → length ss ≤ i → with_prefix prefix (masters_of file (drop i ss)) ≡ Ok prefix
 unfolding masters_of
-masters_end file ss i front le = at_drop_all (λ (xs : List Span). with_front front (masters_of file xs)) ss i le ∙ ap (λ (x : List Span). Ok x) (append-nil front)
+masters_end file ss i prefix le = at_drop_all (λ (xs : List Span). with_prefix prefix (masters_of file xs)) ss i le ∙ ap (λ (x : List Span). Ok x) (append-nil prefix)
 
-pub goes_on : (file : List ℕ) (ss : List Span) (i : ℕ) (d : Span) (front inner : List Span) (total : Result (List Span) DsdiffFault) → i < length ss → has_id DIIN (span_chunk file (get_or ss i d)) ≡ true
-    → chunks_of_master file (get_or ss i d) ≡ Ok inner → with_front front (masters_of file (drop i ss)) ≡ total → with_front (front ++ inner) (masters_of file (drop (i + 1) ss)) ≡ total
-goes_on file ss i d front inner total lt is m so_far =
-    let one : with_front front (masters_of file (drop i ss)) ≡ with_front (front ++ inner) (masters_of file (drop (i + 1) ss)) =
-    rw (masters_more file ss i d lt, is, m) (regroup front inner (masters_of file (drop (i + 1) ss))) in
+pub goes_on : (file : List ℕ) (ss : List Span) (i : ℕ) (d : Span) (prefix inner : List Span) (total : Result (List Span) DsdiffFault) → i < length ss → has_id DIIN (span_chunk file (get_or ss i d)) ≡ true
+    → chunks_of_master file (get_or ss i d) ≡ Ok inner → with_prefix prefix (masters_of file (drop i ss)) ≡ total → with_prefix (prefix ++ inner) (masters_of file (drop (i + 1) ss)) ≡ total
+goes_on file ss i d prefix inner total lt is m so_far =
+    let one : with_prefix prefix (masters_of file (drop i ss)) ≡ with_prefix (prefix ++ inner) (masters_of file (drop (i + 1) ss)) =
+    rw (masters_more file ss i d lt, is, m) (regroup prefix inner (masters_of file (drop (i + 1) ss))) in
     sym one ∙ so_far
 
-pub passes_on : (file : List ℕ) (ss : List Span) (i : ℕ) (d : Span) (front : List Span) (total : Result (List Span) DsdiffFault) → i < length ss → has_id DIIN (span_chunk file (get_or ss i d)) ≡ false
-    → with_front front (masters_of file (drop i ss)) ≡ total → with_front front (masters_of file (drop (i + 1) ss)) ≡ total
-passes_on file ss i d front total lt other so_far =
-    let one : with_front front (masters_of file (drop i ss)) ≡ with_front front (masters_of file (drop (i + 1) ss)) = rw (masters_more file ss i d lt, other) refl in
+pub passes_on : (file : List ℕ) (ss : List Span) (i : ℕ) (d : Span) (prefix : List Span) (total : Result (List Span) DsdiffFault) → i < length ss → has_id DIIN (span_chunk file (get_or ss i d)) ≡ false
+    → with_prefix prefix (masters_of file (drop i ss)) ≡ total → with_prefix prefix (masters_of file (drop (i + 1) ss)) ≡ total
+passes_on file ss i d prefix total lt other so_far =
+    let one : with_prefix prefix (masters_of file (drop i ss)) ≡ with_prefix prefix (masters_of file (drop (i + 1) ss)) = rw (masters_more file ss i d lt, other) refl in
     sym one ∙ so_far
 
-pub master_fails : (e : DsdiffFault) (file : List ℕ) (ss : List Span) (i : ℕ) (d : Span) (front : List Span) (total : Result (List Span) DsdiffFault) → i < length ss → has_id DIIN (span_chunk file (get_or ss i d)) ≡ true
-    → Fails e (chunks_of_master file (get_or ss i d)) → with_front front (masters_of file (drop i ss)) ≡ total → Fails e total
-master_fails e file ss i d front total lt is h so_far =
+pub master_fails : (e : DsdiffFault) (file : List ℕ) (ss : List Span) (i : ℕ) (d : Span) (prefix : List Span) (total : Result (List Span) DsdiffFault) → i < length ss → has_id DIIN (span_chunk file (get_or ss i d)) ≡ true
+    → Fails e (chunks_of_master file (get_or ss i d)) → with_prefix prefix (masters_of file (drop i ss)) ≡ total → Fails e total
+master_fails e file ss i d prefix total lt is h so_far =
     let s : Span = get_or ss i d in
     let a : Fails e (chunks_of_master file s >>= λ inner. masters_of file (drop (i + 1) ss) >>= λ rest. Ok (inner ++ rest)) = step_fails e (chunks_of_master file s) _ h in
     let b : Fails e (masters_of file (drop i ss)) = rw (masters_more file ss i d lt, is) a in

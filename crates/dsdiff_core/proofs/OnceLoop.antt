@@ -1,4 +1,4 @@
--- The loop over chunks that may stand once.
+-- The loop over chunks that may occur once.
 use Rattle.std.proofs.Common.{◌≡◌, ℕ, ◌+◌, ◌≤◌, ◌<◌, Bool, true, false, cond, List, [], length, get_or, take, drop, Result, Ok, Err, refl, sym, ap, ◌∙◌}
 use Rattle.std.proofs.lemmas.List.{at_drop_more, at_drop_all, take_more}
 use Rattle.chunk_core.specs.declared.layout.Span.{Span}
@@ -6,7 +6,7 @@ use Rattle.dsdiff_core.specs.declared.fault.DsdiffFault.{DsdiffFault}
 use Rattle.dsdiff_core.specs.declared.fault.DsdiffFault.TheVariants.{Twice}
 use Rattle.dsdiff_core.specs.Spans.{is_second, once_each}
 
--- what stands where there is no chunk
+-- what there is where no chunk is
 abbrev pub no_span : Span
 no_span = record { id = []; start = 0; size = 0 }
 

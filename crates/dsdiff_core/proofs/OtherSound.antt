@@ -1,4 +1,4 @@
--- The bytes behind a sound, and the head of it.
+-- The bytes after a sound, and the head of it.
 use Rattle.std.proofs.Common.{◌≡◌, ℕ, ◌+◌, ◌≤◌, inl, inr, Bool, true, false, not, List, [], ◌∷◌, ◌++◌, length, drop, refl, sym, ap, subst, ◌∙◌, arith}
 use Rattle.std.specs.Prelude.{filter, slice_range}
 use Rattle.std.proofs.lemmas.List.{append-nil, drop_at, drop-drop, length-append}
@@ -11,15 +11,15 @@ use Rattle.dsdiff_core.specs.Files.{IsDsdiff}
 use Rattle.dsdiff_core.specs.Kinds.{has_id}
 use Rattle.dsdiff_core.specs.Laws.{SoundHasHead}
 use Rattle.dsdiff_core.proofs.KindLaws.{bool_cases, id_is, not_both, order_again}
-use Rattle.dsdiff_core.proofs.LeadLaws.{Led, led_here, led_on, part_front, range_parts}
+use Rattle.dsdiff_core.proofs.LeadLaws.{Led, led_here, led_on, part_header, range_parts}
 
--- behind the sound stand the same bytes
-pub tail_is : (front sound back : List ℕ) (k : ℕ) → drop (length front + length sound + k) (front ++ (sound ++ back)) ≡ drop k back
-tail_is front sound back k =
-    let one : drop (length front) (front ++ (sound ++ back)) ≡ sound ++ back = drop_at front (sound ++ back) (length front) refl in
+-- after the sound the same bytes follow
+pub tail_is : (prefix sound back : List ℕ) (k : ℕ) → drop (length prefix + length sound + k) (prefix ++ (sound ++ back)) ≡ drop k back
+tail_is prefix sound back k =
+    let one : drop (length prefix) (prefix ++ (sound ++ back)) ≡ sound ++ back = drop_at prefix (sound ++ back) (length prefix) refl in
     let two : drop (length sound) (sound ++ back) ≡ back = drop_at sound back (length sound) refl in
-    sym (drop-drop k (length front + length sound) (front ++ (sound ++ back)))
-    ∙ ap (drop k) (sym (drop-drop (length sound) (length front) (front ++ (sound ++ back))) ∙ ap (drop (length sound)) one ∙ two)
+    sym (drop-drop k (length prefix + length sound) (prefix ++ (sound ++ back)))
+    ∙ ap (drop k) (sym (drop-drop (length sound) (length prefix) (prefix ++ (sound ++ back))) ∙ ap (drop (length sound)) one ∙ two)
 
 abbrev pub is_kept : Chunk → Bool
 is_kept c = not (has_part Form c.id c.content)
@@ -55,6 +55,6 @@ has_head file accepted =
       are_before = l.are_before;
       no_gap = l.no_gap;
       no_sound = l.none;
-      id = sym (part_front 4 found.0 file [] (omega (arith, l.whole))) ∙ l.at_sound.id ∙ id_is l.sound.id DSD l.is_sound;
+      id = sym (part_header 4 found.0 file [] (omega (arith, l.whole))) ∙ l.at_sound.id ∙ id_is l.sound.id DSD l.is_sound;
       whole = l.whole;
     }

@@ -20,7 +20,7 @@ widened_sum n offset h f = omega (arith, ints)
 plus_nothing : (n : ℕ) → pos n +ℤ pos 0 ≡ pos n
 plus_nothing n = omega (arith, ints)
 
--- the mark of a title stands at its place
+-- the mark of a title is at its place
 pub title_at : (place rate : ℕ) (text : List ℕ) → 1 ≤ rate → IsAt (title_mark place rate text) rate place
 title_at place rate text some =
     let seconds = place / rate in

@@ -11,15 +11,15 @@ use Rattle.chunk_core.proofs.Steps.{bind_ok, bind_then, guard_ok}
 use Rattle.dsd_bits.specs.Ids.{same_id, FS, CHNL, CMPR, DSD}
 use Rattle.dsdiff_core.specs.declared.fault.DsdiffFault.TheVariants as faults
 use Rattle.dsdiff_core.specs.Fields.{ids_in}
-use Rattle.dsdiff_core.specs.Properties.{Told, fields_of, limits_of, ids_and_number, property_of, rate_of, raw_of}
+use Rattle.dsdiff_core.specs.Properties.{PropertyFields, fields_of, limits_of, ids_and_number, property_of, rate_of, raw_of}
 use Rattle.dsdiff_core.specs.Spans.{data_with, holds_property, once_each, property_kinds, span_has}
 use Rattle.dsdiff_core.specs.Steps.{some_or, walked}
 use Rattle.dsdiff_core.proofs.KindLaws.{id_is}
 use Rattle.dsdiff_core.proofs.OnceLaws.{Once, none_yet, once_again, once_ok}
 use Rattle.dsdiff_core.proofs.Steps.{some_ok, under_ok, walked_ok}
 
--- what the data of the three chunks tell
-pub record IsTold (rates names kinds : List ℕ) (hertz : ℕ) (named : List (List ℕ)) : Type 0 where
+-- what the data of the three chunks state
+pub record IsStatedAt (rates names kinds : List ℕ) (hertz : ℕ) (named : List (List ℕ)) : Type 0 where
   pub rate_long : 4 ≤ length rates
   pub rate : hertz ≡ big_number 4 rates
   pub rate_low : 1000000 ≤ hertz
@@ -57,7 +57,7 @@ limits_ok rate n u e =
     (ltb-false _ _ a.0, ltb-false _ _ b.0, ltb-false _ _ c.0, ltb-false _ _ d.0)
 
 fields_ok : (rates names kinds : Option (List ℕ)) (x : ℕ × List (List ℕ)) → fields_of rates names kinds ≡ Ok x
-    → (a b c : List ℕ) × (rates ≡ Some a) × (names ≡ Some b) × (kinds ≡ Some c) × IsTold a b c x.0 x.1
+    → (a b c : List ℕ) × (rates ≡ Some a) × (names ≡ Some b) × (kinds ≡ Some c) × IsStatedAt a b c x.0 x.1
 unfolding fields_of
 fields_ok rates names kinds x e =
     let a = bind_ok (rate_of rates) _ _ e in
@@ -93,7 +93,7 @@ fields_ok rates names kinds x e =
       },
     )
 
-fields_again : (a b c : List ℕ) (rate : ℕ) (ids : List (List ℕ)) → IsTold a b c rate ids → fields_of (Some a) (Some b) (Some c) ≡ Ok (rate, ids)
+fields_again : (a b c : List ℕ) (rate : ℕ) (ids : List (List ℕ)) → IsStatedAt a b c rate ids → fields_of (Some a) (Some b) (Some c) ≡ Ok (rate, ids)
 unfolding fields_of
 fields_again a b c rate ids f =
     let raw_long : 4 ≤ length c = omega (arith, ap length f.raw, length-take 4 c) in
@@ -116,31 +116,31 @@ data_ok file id ss bytes e = data_at file (find (span_has id) ss) bytes e
 
 -- ---- the property
 
--- the sound property that tells this
-pub record IsProperty (file : List ℕ) (top : List Span) (told : Told) : Type 0 where
+-- the sound property that states this
+pub record IsProperty (file : List ℕ) (top : List Span) (stated : PropertyFields) : Type 0 where
   pub property : Span
   pub found : find (holds_property file) top ≡ Some property
-  pub spans : spans_in file (property.start + 4) (property.start + property.size) ≡ Ok told.parts
-  pub once : Once property_kinds told.parts
+  pub spans : spans_in file (property.start + 4) (property.start + property.size) ≡ Ok stated.parts
+  pub once : Once property_kinds stated.parts
   pub rates : List ℕ
   pub names : List ℕ
   pub kinds : List ℕ
-  pub at_rates : data_with file FS told.parts ≡ Some rates
-  pub at_names : data_with file CHNL told.parts ≡ Some names
-  pub at_kinds : data_with file CMPR told.parts ≡ Some kinds
-  pub is_told : IsTold rates names kinds told.rate told.ids
+  pub at_rates : data_with file FS stated.parts ≡ Some rates
+  pub at_names : data_with file CHNL stated.parts ≡ Some names
+  pub at_kinds : data_with file CMPR stated.parts ≡ Some kinds
+  pub is_stated : IsStatedAt rates names kinds stated.rate stated.ids
 
-abbrev pub told_by : ℕ → List (List ℕ) → List Span → Told
-told_by rate ids parts = record { rate = rate; ids = ids; parts = parts }
+abbrev pub stated_by : ℕ → List (List ℕ) → List Span → PropertyFields
+stated_by rate ids parts = record { rate = rate; ids = ids; parts = parts }
 
-pub property_ok : (file : List ℕ) (top : List Span) (told : Told) → property_of file top ≡ Ok told → IsProperty file top told
+pub property_ok : (file : List ℕ) (top : List Span) (stated : PropertyFields) → property_of file top ≡ Ok stated → IsProperty file top stated
 unfolding property_of
-property_ok file top told e =
-    bind_then (some_or faults.NoProperty (find (holds_property file) top)) _ told e (λ property e1 h1.
-    bind_then (walked (spans_in file (property.start + 4) (property.start + property.size))) _ told h1 (λ parts e2 h2.
-    bind_then (once_each property_kinds [] parts) _ told h2 (λ u e3 h3.
-    bind_then (fields_of (data_with file FS parts) (data_with file CHNL parts) (data_with file CMPR parts)) _ told h3 (λ fields e4 h4.
-    let same : told_by fields.0 fields.1 parts ≡ told = cc (h4) in
+property_ok file top stated e =
+    bind_then (some_or faults.NoProperty (find (holds_property file) top)) _ stated e (λ property e1 h1.
+    bind_then (walked (spans_in file (property.start + 4) (property.start + property.size))) _ stated h1 (λ parts e2 h2.
+    bind_then (once_each property_kinds [] parts) _ stated h2 (λ u e3 h3.
+    bind_then (fields_of (data_with file FS parts) (data_with file CHNL parts) (data_with file CMPR parts)) _ stated h3 (λ fields e4 h4.
+    let same : stated_by fields.0 fields.1 parts ≡ stated = cc (h4) in
     let f = fields_ok (data_with file FS parts) (data_with file CHNL parts) (data_with file CMPR parts) fields e4 in
     rw (← same) (record {
       property = property;
@@ -153,13 +153,13 @@ property_ok file top told e =
       at_rates = f.3;
       at_names = f.4;
       at_kinds = f.5;
-      is_told = f.6;
+      is_stated = f.6;
     })))))
 
-pub property_again : (file : List ℕ) (top : List Span) (told : Told) → IsProperty file top told → property_of file top ≡ Ok told
+pub property_again : (file : List ℕ) (top : List Span) (stated : PropertyFields) → IsProperty file top stated → property_of file top ≡ Ok stated
 unfolding property_of
-property_again file top told p =
-    rw (p.found, p.spans, once_again property_kinds [] told.parts p.once, p.at_rates, p.at_names, p.at_kinds, fields_again p.rates p.names p.kinds told.rate told.ids p.is_told) refl
+property_again file top stated p =
+    rw (p.found, p.spans, once_again property_kinds [] stated.parts p.once, p.at_rates, p.at_names, p.at_kinds, fields_again p.rates p.names p.kinds stated.rate stated.ids p.is_stated) refl
 
 -- the fields of the chunks, which were looked for in the same chunks three times
 pub fields_with : (file : List ℕ) (parts ss-0 ss-1 ss-2 : List Span) (rates names kinds : Option (List ℕ)) → ss-0 ≡ parts → ss-1 ≡ parts → ss-2 ≡ parts

@@ -21,7 +21,7 @@ module _ (file : List ℕ) (ss : List Span) (i : ℕ) (d : Span) (lt : i < lengt
   pub cut_here : not (is_no_cut_mark (span_chunk file (get_or ss i d))) ≡ true → false ≡ has_no_cut_mark (map (span_chunk file) (drop i ss))
   cut_here e = sym (at_drop_more (λ (xs : List Span). has_no_cut_mark (map (span_chunk file) xs)) ss i d lt ∙ rw (not_true _ e) refl)
 
-  -- what stands first, a property of the sound or a sound
+  -- what comes first, a property of the sound or a sound
   pub leads_on : is_property (span_chunk file (get_or ss i d)) ≡ false → has_id DSD (span_chunk file (get_or ss i d)) ≡ false → sound_leads (map (span_chunk file) (drop (i + 1) ss)) ≡ sound_leads (map (span_chunk file) (drop i ss))
   leads_on p s = sym (at_drop_more (λ (xs : List Span). sound_leads (map (span_chunk file) xs)) ss i d lt ∙ rw (p, s) refl)
 

@@ -34,7 +34,7 @@ level_is sound n some = record {
   same = All-map (λ (channel : List Bool). length channel ≡ count_of (unlaced_all sound n)) (unlaced sound n) (range_with_len 0 n) (λ k d lt. channel_long sound n (get_or (range_with_len 0 n) k d) ∙ sym (count_is sound n some));
 }
 
--- so many lists of nothing
+-- n lists of nothing
 empties : (f : ℕ → List Bool) → ((k : ℕ) → f k ≡ []) → (a n : ℕ) → map f (range_with_len a n) ≡ replicate n []
 empties f none a zero = refl
 empties f none a (suc n) = rw (none a, empties f none (a + 1) n) refl

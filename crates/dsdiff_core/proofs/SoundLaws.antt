@@ -9,14 +9,14 @@ use Rattle.chunk_core.proofs.Steps.{guard_ok}
 use Rattle.dsd_bits.specs.Ids.{DSD}
 use Rattle.dsdiff_core.specs.declared.fault.DsdiffFault.{DsdiffFault}
 use Rattle.dsdiff_core.specs.declared.fault.DsdiffFault.TheVariants as faults
-use Rattle.dsdiff_core.specs.Fronts.{frames_fit}
+use Rattle.dsdiff_core.specs.Headers.{frames_fit}
 use Rattle.dsdiff_core.specs.Sounds.{stated_count, sound_leads, bytes_of_sound}
 use Rattle.dsdiff_core.specs.Spans.{span_has}
 use Rattle.dsdiff_core.proofs.Steps.{not_false}
 
--- whole frames of sound behind the property
+-- whole frames of sound after the property
 pub record IsSound (leads : Bool) (bytes : List ℕ) (number : ℕ) : Type 0 where
-  pub behind : leads ≡ false
+  pub after : leads ≡ false
   pub whole : length bytes % number ≡ 0
   pub not_long : 8 * (length bytes / number) ≤ 2 ^ 36
 
@@ -27,12 +27,12 @@ sound_ok leads (Some bytes) n x e =
     let b = guard_ok _ _ _ _ a.1 in
     let c = guard_ok _ _ _ _ b.1 in
     let same : bytes ≡ x = cc (c.1) in
-    subst (λ (y : List ℕ). (Some bytes ≡ Some y) × IsSound leads y n) same (refl, record { behind = a.0; whole = eqb-true _ _ (not_false _ b.0); not_long = ltb-false _ _ c.0 })
+    subst (λ (y : List ℕ). (Some bytes ≡ Some y) × IsSound leads y n) same (refl, record { after = a.0; whole = eqb-true _ _ (not_false _ b.0); not_long = ltb-false _ _ c.0 })
 
 pub sound_again : (leads : Bool) (bytes : List ℕ) (n : ℕ) → IsSound leads bytes n → bytes_of_sound leads (Some bytes) n ≡ Ok bytes
-sound_again leads bytes n s = rw (s.behind, s.whole, le-ltb (2 ^ 36) (8 * (length bytes / n)) s.not_long) refl
+sound_again leads bytes n s = rw (s.after, s.whole, le-ltb (2 ^ 36) (8 * (length bytes / n)) s.not_long) refl
 
--- the count of the sound that is found behind the property
+-- the count of the sound that is found after the property
 abbrev counts : ℕ → Result ℕ DsdiffFault
 counts n = Ok n
 
@@ -47,4 +47,4 @@ counted bytes size n e =
 
 pub count_is : (file : List ℕ) (top : List Span) (n : ℕ) (s : Span) → find (span_has DSD) top ≡ Some s → sound_leads (map (span_chunk file) top) ≡ false → length (span_chunk file s).content ≡ s.size
     → stated_count file top n ≡ (frames_fit s.size n >>= λ (u : Unit {0}). counts (8 * (s.size / n)))
-count_is file top n s found behind size = rw (found, behind) (counted (span_chunk file s).content s.size n size)
+count_is file top n s found after size = rw (found, after) (counted (span_chunk file s).content s.size n size)

@@ -10,11 +10,6 @@ pub step_fails : {A B : Type 0} (e : DsdiffFault) (r : Result A DsdiffFault) (f 
 step_fails faults.Memory r f h = tt
 step_fails e r f h = rw h refl
 
--- a fault is that of a reading which has it
-pub is_fault : {A : Type 0} (e : DsdiffFault) (r : Result A DsdiffFault) → r ≡ Err e → Fails e r
-is_fault faults.Memory r h = tt
-is_fault e r h = h
-
 -- a walk that found its chunks
 pub walked_ok : {A : Type 0} (r : Result A _) (x : A) → walked r ≡ Ok x → r ≡ Ok x
 walked_ok (Ok y) x e = cc
@@ -25,7 +20,7 @@ pub some_ok : {A : Type 0} (e : DsdiffFault) (o : Option A) (x : A) → some_or 
 some_ok e None x h = absurd cc
 some_ok e (Some y) x h = cc
 
--- a value under a test, with a fault behind it
+-- a value under a test, with a fault after it
 pub under_ok : {A : Type 0} (b : Bool) (x y : A) (e : DsdiffFault) → cond b (Ok x) (Err e) ≡ Ok y → (b ≡ true) × (x ≡ y)
 under_ok true x y e h = (refl, cc)
 under_ok false x y e h = absurd cc

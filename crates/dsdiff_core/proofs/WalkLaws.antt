@@ -11,13 +11,13 @@ use Rattle.chunk_core.specs.Steps.{◌>>=◌}
 use Rattle.chunk_core.proofs.Ranges.{range_after}
 use Rattle.chunk_core.proofs.ReadingLaws.{First, first_again, walk_step}
 use Rattle.dsd_bits.specs.Ids.{DSD}
-use Rattle.dsdiff_core.specs.Fronts.{place_after}
+use Rattle.dsdiff_core.specs.Headers.{place_after}
 use Rattle.dsdiff_core.specs.Located.{EndsAtHead, stated_size}
-use Rattle.dsdiff_core.proofs.LeadLaws.{At, at_first, behind_on, number_front, part_front, range_parts}
+use Rattle.dsdiff_core.proofs.LeadLaws.{At, after_on, at_first, number_prefix, part_header, range_parts}
 
--- spans behind others, where those are found
+-- spans after others, where those are found
 abbrev pub after : List Span → Result (List Span) ChunkFault → Result (List Span) ChunkFault
-after front found = found >>= λ ss. Ok (front ++ ss)
+after prefix found = found >>= λ ss. Ok (prefix ++ ss)
 
 -- the place of a chunk
 abbrev pub place : ℕ → Chunk → Span
@@ -31,11 +31,11 @@ after_none : (found : Result (List Span) ChunkFault) → after [] found ≡ foun
 after_none (Ok ss) = refl
 after_none (Err e) = refl
 
-pub after_both : (front ss : List Span) (found : Result (List Span) ChunkFault) → after front (after ss found) ≡ after (front ++ ss) found
-after_both front ss (Ok rest) = ap (λ (l : List Span). Ok l) (sym (append_assoc front ss rest))
-after_both front ss (Err e) = refl
+pub after_both : (prefix ss : List Span) (found : Result (List Span) ChunkFault) → after prefix (after ss found) ≡ after (prefix ++ ss) found
+after_both prefix ss (Ok rest) = ap (λ (l : List Span). Ok l) (sym (append_assoc prefix ss rest))
+after_both prefix ss (Err e) = refl
 
--- over a chunk that stands at a place
+-- over a chunk at a place
 walk_on : (bytes : List ℕ) (at stop : ℕ) (c : Chunk) → At bytes at stop c → spans_in bytes at stop ≡ after (place at c ∷ []) (spans_in bytes (at + width c) stop)
 unfolding spans_in
 walk_on bytes at stop c a =
@@ -54,42 +54,42 @@ walk_over bytes from at stop (c ∷ cs) le h gap =
     ∙ ap (after (place from c ∷ [])) (walk_over bytes (from + width c) at stop cs le p.1 gap)
     ∙ after_both (place from c ∷ []) (places (from + width c) cs) (spans_in bytes at stop)
 
--- ---- a file whose front ends at the head of its sound
-module _ (front : List ℕ) (h : EndsAtHead front) where
+-- ---- a file whose prefix ends at the head of its sound
+module _ (prefix : List ℕ) (h : EndsAtHead prefix) where
   -- the place of the sound
   abbrev pub sound_span : Span
-  sound_span = record { id = DSD; start = length front; size = stated_size front }
+  sound_span = record { id = DSD; start = length prefix; size = stated_size prefix }
 
-  pub long : 28 ≤ length front
-  long = omega (arith, behind_on 16 h.head.before, h.head.no_gap, h.ends)
+  pub long : 28 ≤ length prefix
+  long = omega (arith, after_on 16 h.head.before, h.head.no_gap, h.ends)
 
-  module _ (sound back : List ℕ) (size : length sound ≡ stated_size front) where
+  module _ (sound back : List ℕ) (size : length sound ≡ stated_size prefix) where
     abbrev file : List ℕ
-    file = front ++ (sound ++ back)
+    file = prefix ++ (sound ++ back)
 
-    pub lead_chunks : chunks (slice_range (front ++ (sound ++ back)) 16 h.head.at) h.head.before
-    lead_chunks = subst (λ (bs : List ℕ). chunks bs h.head.before) (sym (part_front (h.head.at - 16) 16 front (sound ++ back) (omega (arith, h.ends, long)))) h.head.are_before
+    pub lead_chunks : chunks (slice_range (prefix ++ (sound ++ back)) 16 h.head.at) h.head.before
+    lead_chunks = subst (λ (bs : List ℕ). chunks bs h.head.before) (sym (part_header (h.head.at - 16) 16 prefix (sound ++ back) (omega (arith, h.ends, long)))) h.head.are_before
 
     -- the chunk of the sound
-    pub sound_at_place : (stop : ℕ) → length front + length sound ≤ stop → At (front ++ (sound ++ back)) h.head.at stop (record { id = DSD; content = sound })
+    pub sound_at_place : (stop : ℕ) → length prefix + length sound ≤ stop → At (prefix ++ (sound ++ back)) h.head.at stop (record { id = DSD; content = sound })
     sound_at_place stop fits =
-        let here : length front - 12 ≡ h.head.at = omega (arith, h.ends) in
+        let here : length prefix - 12 ≡ h.head.at = omega (arith, h.ends) in
         record {
           fits = omega (arith, h.ends, fits);
-          inside = omega (arith, h.ends, length-append front (sound ++ back), length-append sound back);
-          id = part_front 4 h.head.at front (sound ++ back) (omega (arith, h.ends)) ∙ h.head.id;
-          size = number_front 8 (h.head.at + 4) front (sound ++ back) (omega (arith, h.ends)) ∙ rw (← here) (sym size);
-          content = ap (take (length sound)) (drop_at front (sound ++ back) (h.head.at + 12) (sym h.ends)) ∙ take_at sound back (length sound) refl;
+          inside = omega (arith, h.ends, length-append prefix (sound ++ back), length-append sound back);
+          id = part_header 4 h.head.at prefix (sound ++ back) (omega (arith, h.ends)) ∙ h.head.id;
+          size = number_prefix 8 (h.head.at + 4) prefix (sound ++ back) (omega (arith, h.ends)) ∙ rw (← here) (sym size);
+          content = ap (take (length sound)) (drop_at prefix (sound ++ back) (h.head.at + 12) (sym h.ends)) ∙ take_at sound back (length sound) refl;
         }
 
-    -- the chunks before the sound, the sound, and what is behind it
-    pub walk_across : (stop : ℕ) → length front + length sound ≤ stop
-        → spans_in (front ++ (sound ++ back)) 16 stop ≡ after (places 16 h.head.before ++ sound_span ∷ []) (spans_in (front ++ (sound ++ back)) (length front + stated_size front + stated_size front % 2) stop)
+    -- the chunks before the sound, the sound, and what is after it
+    pub walk_across : (stop : ℕ) → length prefix + length sound ≤ stop
+        → spans_in (prefix ++ (sound ++ back)) 16 stop ≡ after (places 16 h.head.before ++ sound_span ∷ []) (spans_in (prefix ++ (sound ++ back)) (length prefix + stated_size prefix + stated_size prefix % 2) stop)
     walk_across stop fits =
         let c : Chunk = record { id = DSD; content = sound } in
-        let behind_it : h.head.at + width c ≡ length front + stated_size front + stated_size front % 2 = ap (λ (n : ℕ). h.head.at + (12 + n + n % 2)) size ∙ omega (arith, h.ends) in
+        let after_it : h.head.at + width c ≡ length prefix + stated_size prefix + stated_size prefix % 2 = ap (λ (n : ℕ). h.head.at + (12 + n + n % 2)) size ∙ omega (arith, h.ends) in
         let here : place h.head.at c ≡ sound_span = λ i. record { id = DSD; start = h.ends i; size = size i } in
         walk_over file 16 h.head.at stop h.head.before (omega (arith, h.ends, fits)) lead_chunks h.head.no_gap
         ∙ ap (after (places 16 h.head.before)) (walk_on file h.head.at stop c (sound_at_place stop fits))
         ∙ after_both (places 16 h.head.before) (place h.head.at c ∷ []) (spans_in file (h.head.at + width c) stop)
-        ∙ rw (behind_it, here) refl
+        ∙ rw (after_it, here) refl

@@ -30,18 +30,18 @@ pub marks_more : (marks : List Mark) (i : ℕ) (mark : Mark) (out content new : 
     → new ≡ flat_map spell (map mark_chunk (map mark_content (take (i + 1) marks)))
 marks_more marks i mark out content new h found before bytes_are after =
     let chunks_of : List Mark → List Chunk = λ ms. map mark_chunk (map mark_content ms) in
-    let front : List Mark = take i marks in
-    let longer : take (i + 1) marks ≡ front ++ mark ∷ [] = take_more marks i mark h ∙ ap (λ m. front ++ m ∷ []) (sym found) in
-    let split : chunks_of (front ++ mark ∷ []) ≡ chunks_of front ++ mark_chunk (mark_content mark) ∷ [] =
-    ap (map mark_chunk) (map-append mark_content front (mark ∷ [])) ∙ map-append mark_chunk (map mark_content front) (mark_content mark ∷ []) in
+    let prefix : List Mark = take i marks in
+    let longer : take (i + 1) marks ≡ prefix ++ mark ∷ [] = take_more marks i mark h ∙ ap (λ m. prefix ++ m ∷ []) (sym found) in
+    let split : chunks_of (prefix ++ mark ∷ []) ≡ chunks_of prefix ++ mark_chunk (mark_content mark) ∷ [] =
+    ap (map mark_chunk) (map-append mark_content prefix (mark ∷ [])) ∙ map-append mark_chunk (map mark_content prefix) (mark_content mark ∷ []) in
     let last : flat_map spell (mark_chunk (mark_content mark) ∷ []) ≡ spelled MARK content = append-nil (spell (mark_chunk (mark_content mark))) ∙ ap (spelled MARK) (sym bytes_are) in
     after ∙ ap (λ bytes. bytes ++ spelled MARK content) before
-    ∙ sym (ap (λ ms. flat_map spell (chunks_of ms)) longer ∙ ap (flat_map spell) split ∙ flat_map-append spell (chunks_of front) (mark_chunk (mark_content mark) ∷ []) ∙ ap (λ bytes. flat_map spell (chunks_of front) ++ bytes) last)
+    ∙ sym (ap (λ ms. flat_map spell (chunks_of ms)) longer ∙ ap (flat_map spell) split ∙ flat_map-append spell (chunks_of prefix) (mark_chunk (mark_content mark) ∷ []) ∙ ap (λ bytes. flat_map spell (chunks_of prefix) ++ bytes) last)
 
--- four pieces behind the first
-four_more : (front a b c d : List ℕ) (now-0 now-1 now-2 now-3 now-4 : List ℕ) → now-0 ≡ front → now-1 ≡ now-0 ++ a → now-2 ≡ now-1 ++ b → now-3 ≡ now-2 ++ c → now-4 ≡ now-3 ++ d
-    → now-4 ≡ front ++ (a ++ (b ++ (c ++ d)))
-four_more front a b c d now-0 now-1 now-2 now-3 now-4 e-0 e-1 e-2 e-3 e-4 =
+-- four pieces after the first
+four_more : (prefix a b c d : List ℕ) (now-0 now-1 now-2 now-3 now-4 : List ℕ) → now-0 ≡ prefix → now-1 ≡ now-0 ++ a → now-2 ≡ now-1 ++ b → now-3 ≡ now-2 ++ c → now-4 ≡ now-3 ++ d
+    → now-4 ≡ prefix ++ (a ++ (b ++ (c ++ d)))
+four_more prefix a b c d now-0 now-1 now-2 now-3 now-4 e-0 e-1 e-2 e-3 e-4 =
     e-4 ∙ ap (λ x. x ++ d) (e-3 ∙ ap (λ x. x ++ c) (e-2 ∙ ap (λ x. x ++ b) (e-1 ∙ ap (λ x. x ++ a) e-0))) ∙ simp append_assoc
 
 -- the data of the sound's property
@@ -77,7 +77,7 @@ pub master_some : (cs : List Chunk) (master out new : List ℕ) → master ≡ f
 master_some [] master out new is some more = absurd (omega (arith, ap length is))
 master_some (c ∷ cs) master out new is some more = more ∙ ap (λ (bytes : List ℕ). out ++ spelled DIIN bytes) is ∙ ap (λ (bytes : List ℕ). out ++ bytes) (sym (append-nil (spelled DIIN (flat_map spell (c ∷ cs)))))
 
--- the bytes of those of the kept chunks that stand at a place
+-- the bytes of the kept chunks at a place
 abbrev placed : Place → List Other → List ℕ
 placed place others = flat_map spell (others_of place (map other_content others))
 
@@ -89,41 +89,41 @@ placed_more place others o =
     ∙ ap (flat_map spell) (map-append other_chunk (at_place place (map other_content others)) (at_place place (other_content o ∷ [])))
     ∙ flat_map-append spell (others_of place (map other_content others)) (others_of place (other_content o ∷ []))
 
--- a kept chunk that stands there
-pub others_more : (place : Place) (others : List Other) (i : ℕ) (o : Other) (front out new : List ℕ) → i < length others → o ≡ get_or others i o → same_place o.place place ≡ true
-    → out ≡ front ++ placed place (take i others) → new ≡ out ++ spelled o.id o.bytes.items → new ≡ front ++ placed place (take (i + 1) others)
-others_more place others i o front out new h found stands before after =
+-- a kept chunk at that place
+pub others_more : (place : Place) (others : List Other) (i : ℕ) (o : Other) (prefix out new : List ℕ) → i < length others → o ≡ get_or others i o → same_place o.place place ≡ true
+    → out ≡ prefix ++ placed place (take i others) → new ≡ out ++ spelled o.id o.bytes.items → new ≡ prefix ++ placed place (take (i + 1) others)
+others_more place others i o prefix out new h found stands before after =
     let last : placed place (o ∷ []) ≡ spelled o.id o.bytes.items = rw stands (append-nil (spelled o.id o.bytes.items)) in
-    after ∙ ap (λ bytes. bytes ++ spelled o.id o.bytes.items) before ∙ append_assoc front (placed place (take i others)) (spelled o.id o.bytes.items)
-    ∙ ap (λ bytes. front ++ bytes) (ap (λ bytes. placed place (take i others) ++ bytes) (sym last) ∙ sym (placed_more place (take i others) o) ∙ ap (placed place) (sym (take_more others i o h ∙ ap (λ x. take i others ++ x ∷ []) (sym found))))
+    after ∙ ap (λ bytes. bytes ++ spelled o.id o.bytes.items) before ∙ append_assoc prefix (placed place (take i others)) (spelled o.id o.bytes.items)
+    ∙ ap (λ bytes. prefix ++ bytes) (ap (λ bytes. placed place (take i others) ++ bytes) (sym last) ∙ sym (placed_more place (take i others) o) ∙ ap (placed place) (sym (take_more others i o h ∙ ap (λ x. take i others ++ x ∷ []) (sym found))))
 
--- one that stands elsewhere
-pub others_by : (place : Place) (others : List Other) (i : ℕ) (o : Other) (front out : List ℕ) → i < length others → o ≡ get_or others i o → same_place o.place place ≡ false
-    → out ≡ front ++ placed place (take i others) → out ≡ front ++ placed place (take (i + 1) others)
-others_by place others i o front out h found elsewhere before =
+-- one at another place
+pub others_by : (place : Place) (others : List Other) (i : ℕ) (o : Other) (prefix out : List ℕ) → i < length others → o ≡ get_or others i o → same_place o.place place ≡ false
+    → out ≡ prefix ++ placed place (take i others) → out ≡ prefix ++ placed place (take (i + 1) others)
+others_by place others i o prefix out h found elsewhere before =
     let none : placed place (o ∷ []) ≡ [] = rw elsewhere refl in
     before
-    ∙ ap (λ bytes. front ++ bytes) (sym (append-nil (placed place (take i others))) ∙ ap (λ bytes. placed place (take i others) ++ bytes) (sym none) ∙ sym (placed_more place (take i others) o) ∙ ap (placed place) (sym (take_more others i o h ∙ ap (λ x. take i others ++ x ∷ []) (sym found))))
+    ∙ ap (λ bytes. prefix ++ bytes) (sym (append-nil (placed place (take i others))) ∙ ap (λ bytes. placed place (take i others) ++ bytes) (sym none) ∙ sym (placed_more place (take i others) o) ∙ ap (placed place) (sym (take_more others i o h ∙ ap (λ x. take i others ++ x ∷ []) (sym found))))
 
 -- one more ID
-pub ids_more : (ids : List (List ℕ)) (i : ℕ) (d : List ℕ) (front out new : List ℕ) → i < length ids → out ≡ front ++ flat_map (λ id. id) (take i ids) → new ≡ out ++ get_or ids i d
-    → new ≡ front ++ flat_map (λ id. id) (take (i + 1) ids)
-ids_more ids i d front out new h before after =
+pub ids_more : (ids : List (List ℕ)) (i : ℕ) (d : List ℕ) (prefix out new : List ℕ) → i < length ids → out ≡ prefix ++ flat_map (λ id. id) (take i ids) → new ≡ out ++ get_or ids i d
+    → new ≡ prefix ++ flat_map (λ id. id) (take (i + 1) ids)
+ids_more ids i d prefix out new h before after =
     let last : flat_map (λ id. id) (get_or ids i d ∷ []) ≡ get_or ids i d = append-nil (get_or ids i d) in
-    after ∙ ap (λ bytes. bytes ++ get_or ids i d) before ∙ append_assoc front (flat_map (λ id. id) (take i ids)) (get_or ids i d)
-    ∙ ap (λ bytes. front ++ bytes) (sym (ap (flat_map (λ id. id)) (take_more ids i d h) ∙ flat_map-append (λ id. id) (take i ids) (get_or ids i d ∷ []) ∙ ap (λ bytes. flat_map (λ id. id) (take i ids) ++ bytes) last))
+    after ∙ ap (λ bytes. bytes ++ get_or ids i d) before ∙ append_assoc prefix (flat_map (λ id. id) (take i ids)) (get_or ids i d)
+    ∙ ap (λ bytes. prefix ++ bytes) (sym (ap (flat_map (λ id. id)) (take_more ids i d h) ∙ flat_map-append (λ id. id) (take i ids) (get_or ids i d ∷ []) ∙ ap (λ bytes. flat_map (λ id. id) (take i ids) ++ bytes) last))
 
--- what stands before the sound
-pub head_is : (r : Content) (size behind number long : ℕ) (first : List ℕ) (now-0 now-1 now-2 now-3 now-4 now-5 now-6 : List ℕ) → behind ≡ length (tail_text r size) → first ≡ flat_map spell (first_chunks r)
-    → long ≡ length first → big_bytes 8 number ≡ big_bytes 8 (4 + long + 12 + size + behind)
+-- what is before the sound
+pub head_is : (r : Content) (size after number long : ℕ) (first : List ℕ) (now-0 now-1 now-2 now-3 now-4 now-5 now-6 : List ℕ) → after ≡ length (tail_text r size) → first ≡ flat_map spell (first_chunks r)
+    → long ≡ length first → big_bytes 8 number ≡ big_bytes 8 (4 + long + 12 + size + after)
     → now-0 ≡ [] → now-1 ≡ now-0 ++ FRM8 → now-2 ≡ now-1 ++ big_bytes 8 number → now-3 ≡ now-2 ++ DSD → now-4 ≡ now-3 ++ first → now-5 ≡ now-4 ++ DSD → now-6 ≡ now-5 ++ big_bytes 8 size → now-6 ≡ head_text r size
-head_is r size behind number long first now-0 now-1 now-2 now-3 now-4 now-5 now-6 tail first_is long_is sum e-0 e-1 e-2 e-3 e-4 e-5 e-6 =
+head_is r size after number long first now-0 now-1 now-2 now-3 now-4 now-5 now-6 tail first_is long_is sum e-0 e-1 e-2 e-3 e-4 e-5 e-6 =
     let whole : big_bytes 8 number ≡ big_bytes 8 (size_around r size) = sum ∙ ap₂ (λ (n m : ℕ). big_bytes 8 (4 + n + 12 + size + m)) (long_is ∙ ap length first_is) tail in
-    let front : now-4 ≡ FRM8 ++ (big_bytes 8 (size_around r size) ++ (DSD ++ flat_map spell (first_chunks r))) =
+    let prefix : now-4 ≡ FRM8 ++ (big_bytes 8 (size_around r size) ++ (DSD ++ flat_map spell (first_chunks r))) =
     four_more [] FRM8 (big_bytes 8 (size_around r size)) DSD (flat_map spell (first_chunks r)) now-0 now-1 now-2 now-3 now-4 e-0 e-1 (e-2 ∙ ap (λ x. now-1 ++ x) whole) e-3 (e-4 ∙ ap (λ x. now-3 ++ x) first_is) in
-    e-6 ∙ ap (λ x. x ++ big_bytes 8 size) (e-5 ∙ ap (λ x. x ++ DSD) front) ∙ simp append_assoc
+    e-6 ∙ ap (λ x. x ++ big_bytes 8 size) (e-5 ∙ ap (λ x. x ++ DSD) prefix) ∙ simp append_assoc
 
--- what stands behind it
+-- what follows it
 pub tail_is : (r : Content) (size : ℕ) (others : List OtherContent) (now-0 now-1 now-2 : List ℕ) → others ≡ r.others → now-0 ≡ replicate (size % 2) 0
     → now-1 ≡ now-0 ++ flat_map spell (edited_master (master_chunks r)) → now-2 ≡ now-1 ++ flat_map spell (others_of Form others) → now-2 ≡ tail_text r size
 tail_is r size others now-0 now-1 now-2 same e-0 e-1 e-2 =

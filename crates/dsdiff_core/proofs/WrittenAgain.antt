@@ -28,7 +28,7 @@ use Rattle.dsdiff_core.specs.ReadAgain.{FitsFields, FitsMark, WrittenReadAgain, 
 use Rattle.dsdiff_core.specs.Writing.{version_chunk, rate_chunk, channels_chunk, compression_chunk, mark_chunk, other_chunk, others_of, property_chunks, property_chunk, sound_chunk, master_chunks, edited_master, last_chunks, form_chunks, form_text}
 use Rattle.dsdiff_core.proofs.WrittenForms.{joined_ids, joined_long, ids_again, length-form_text, form_again, all_fit, master_shorter}
 use Rattle.dsdiff_core.proofs.WrittenMarks.{mark_whole, marks_again}
-use Rattle.dsdiff_core.proofs.WrittenOthers.{StandsAt, or_left, or_right, stand_there, none_found, kept_again}
+use Rattle.dsdiff_core.proofs.WrittenOthers.{IsKeptAt, or_left, or_right, stand_there, none_found, kept_again}
 
 -- ---- the edited master
 -- its list of chunks, where there is one
@@ -98,13 +98,13 @@ module _ (r : Content) (h : HasShape r) (f : FitsFields r) where
   named : (place : Place) → All (λ c. length c.id ≡ 4) (others_of place r.others)
   named place = All-map (λ c. length c.id ≡ 4) other_chunk (at_place place r.others) (All-filter (λ o. same_place o.place place) (λ o. length o.id ≡ 4) r.others f.others)
 
-  stands : (place : Place) → AllByRecursion (StandsAt place) (at_place place r.others)
-  stands place = recursion_from_All (StandsAt place) (at_place place r.others) (stand_there place r.others h.no_parts)
+  stands : (place : Place) → AllByRecursion (IsKeptAt place) (at_place place r.others)
+  stands place = recursion_from_All (IsKeptAt place) (at_place place r.others) (stand_there place r.others h.no_parts)
 
   kept_there : (place : Place) → kept place (others_of place r.others) ≡ at_place place r.others
   kept_there place = kept_again place (at_place place r.others) (stands place)
 
-  -- behind the sound there is nothing that the form has once
+  -- after the sound there is nothing that the form has once
   none_last : (p : Chunk → Bool) → ((content : List ℕ) → p (record { id = DIIN; content = content }) ≡ false) → ((o : OtherContent) → has_part Form o.id o.bytes ≡ false → p (other_chunk o) ≡ false)
       → filter p (last_chunks r) ≡ []
   none_last p fails_master fails =
@@ -178,10 +178,10 @@ module _ (r : Content) (h : HasShape r) (f : FitsFields r) where
       let second : List ℕ = flat_map spell (others_of Form r.others) in
       let last : List ℕ = flat_map spell (last_chunks r) in
       let e : length last ≡ length first + length second = ap length (flat_map-append spell (edited_master (master_chunks r)) (others_of Form r.others)) ∙ length-append first second in
-      let behind_sound = length-append (spell (sound_chunk r)) last in
-      let behind_property = length-append (spell (property_chunk r)) (spell (sound_chunk r) ++ last) in
-      let behind_version = length-append (spell version_chunk) (spell (property_chunk r) ++ (spell (sound_chunk r) ++ last)) in
-      omega (arith, e, behind_sound, behind_property, behind_version, master_shorter (master_chunks r))
+      let after_sound = length-append (spell (sound_chunk r)) last in
+      let after_property = length-append (spell (property_chunk r)) (spell (sound_chunk r) ++ last) in
+      let after_version = length-append (spell version_chunk) (spell (property_chunk r) ++ (spell (sound_chunk r) ++ last)) in
+      omega (arith, e, after_sound, after_property, after_version, master_shorter (master_chunks r))
 
   all_fits : length (flat_map spell (form_chunks r)) < 2 ^ 64 → AllFit
   all_fits short =
@@ -235,7 +235,7 @@ module _ (r : Content) (h : HasShape r) (f : FitsFields r) where
         property_is = refl;
         sound_is = refl;
         number = length r.channels;
-        tells = record {
+        states = record {
           parts = property_chunks r;
           are_parts = spelled_law (property_chunks r) fits.parts;
           rates = rate_chunk r.rate;

@@ -18,14 +18,14 @@ pub joined_long : (ids : List (List ℕ)) → AllByRecursion (λ id. length id �
 joined_long [] h = refl
 joined_long (x ∷ xs) h = omega (arith, length-append x (joined_ids xs), h.0, joined_long xs h.1)
 
-ids_from : (ids : List (List ℕ)) (front : List ℕ) (a : ℕ) → length front ≡ 4 * a → AllByRecursion (λ id. length id ≡ 4) ids
-    → map (λ k. take 4 (drop (4 * k) (front ++ joined_ids ids))) (range_with_len a (length ids)) ≡ ids
-ids_from [] front a e h = refl
-ids_from (x ∷ xs) front a e h =
-    let first : take 4 (drop (4 * a) (front ++ (x ++ joined_ids xs))) ≡ x = ap (take 4) (drop_at front (x ++ joined_ids xs) (4 * a) e) ∙ take_at x (joined_ids xs) 4 h.0 in
-    let rest : map (λ k. take 4 (drop (4 * k) (front ++ (x ++ joined_ids xs)))) (range_with_len (a + 1) (length xs)) ≡ xs =
-    ap (λ (bytes : List ℕ). map (λ k. take 4 (drop (4 * k) bytes)) (range_with_len (a + 1) (length xs))) (sym (append_assoc front x (joined_ids xs)))
-    ∙ ids_from xs (front ++ x) (a + 1) (omega (arith, length-append front x, h.0)) h.1 in
+ids_from : (ids : List (List ℕ)) (prefix : List ℕ) (a : ℕ) → length prefix ≡ 4 * a → AllByRecursion (λ id. length id ≡ 4) ids
+    → map (λ k. take 4 (drop (4 * k) (prefix ++ joined_ids ids))) (range_with_len a (length ids)) ≡ ids
+ids_from [] prefix a e h = refl
+ids_from (x ∷ xs) prefix a e h =
+    let first : take 4 (drop (4 * a) (prefix ++ (x ++ joined_ids xs))) ≡ x = ap (take 4) (drop_at prefix (x ++ joined_ids xs) (4 * a) e) ∙ take_at x (joined_ids xs) 4 h.0 in
+    let rest : map (λ k. take 4 (drop (4 * k) (prefix ++ (x ++ joined_ids xs)))) (range_with_len (a + 1) (length xs)) ≡ xs =
+    ap (λ (bytes : List ℕ). map (λ k. take 4 (drop (4 * k) bytes)) (range_with_len (a + 1) (length xs))) (sym (append_assoc prefix x (joined_ids xs)))
+    ∙ ids_from xs (prefix ++ x) (a + 1) (omega (arith, length-append prefix x, h.0)) h.1 in
     λ i. first i ∷ rest i
 
 -- IDs that were written are read again
@@ -55,7 +55,7 @@ spell_long : (c : Chunk) → length c.id ≡ 4 → length (spell c) ≡ width c
 spell_long c e =
     omega (arith, length-append (c.id ++ big_bytes 8 (length c.content) ++ c.content) (replicate (length c.content % 2) 0), length-append (c.id ++ big_bytes 8 (length c.content)) c.content, length-append c.id (big_bytes 8 (length c.content)), length-replicate {A = ℕ} (length c.content % 2) 0)
 
--- chunks that stand in few bytes have a size that can be written
+-- chunks of few bytes have a size that can be written
 pub all_fit : (cs : List Chunk) → AllByRecursion (λ c. length c.id ≡ 4) cs → length (flat_map spell cs) < 2 ^ 64 → AllByRecursion CanBeWritten cs
 all_fit [] h short = tt
 all_fit (c ∷ cs) h short =

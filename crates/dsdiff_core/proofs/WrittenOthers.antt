@@ -20,7 +20,7 @@ pub or_right : (a b : Bool) → (a || b) ≡ false → b ≡ false
 or_right true b h = cc
 or_right false b h = h
 
--- a test on places tells whether they are the same
+-- a test on places says whether they are the same
 same_place-true : (a b : Place) → same_place a b ≡ true → a ≡ b
 same_place-true Property Property h = refl
 same_place-true Property Master h = cc
@@ -33,12 +33,12 @@ same_place-true Form Master h = cc
 same_place-true Form Form h = refl
 
 -- a chunk that is kept at a place
-pub record StandsAt (place : Place) (o : OtherContent) : Type 0 where
+pub record IsKeptAt (place : Place) (o : OtherContent) : Type 0 where
   pub place_is : o.place ≡ place
   pub no_part : has_part place o.id o.bytes ≡ false
 
--- those of a place are kept there
-pub stand_there : (place : Place) (others : List OtherContent) → All (λ o. has_part o.place o.id o.bytes ≡ false) others → All (StandsAt place) (at_place place others)
+-- the chunks of a place are kept there
+pub stand_there : (place : Place) (others : List OtherContent) → All (λ o. has_part o.place o.id o.bytes ≡ false) others → All (IsKeptAt place) (at_place place others)
 stand_there place others h k d lt =
     let test : OtherContent → Bool = λ o. same_place o.place place in
     let here = same_place-true _ place (filter_passes test others k d lt) in
@@ -46,14 +46,14 @@ stand_there place others h k d lt =
     let o = get_or (at_place place others) k d in
     record { place_is = here; no_part = ap (λ p. has_part p o.id o.bytes) (sym here) ∙ free }
 
--- no test that only parts of the recording pass finds one of them
+-- a test that only parts of the recording pass finds no other chunk
 pub none_found : (p : Chunk → Bool) (place : Place) (os : List OtherContent) → ((o : OtherContent) → has_part place o.id o.bytes ≡ false → p (other_chunk o) ≡ false)
-    → AllByRecursion (StandsAt place) os → filter p (map other_chunk os) ≡ []
+    → AllByRecursion (IsKeptAt place) os → filter p (map other_chunk os) ≡ []
 none_found p place [] fails h = refl
 none_found p place (o ∷ os) fails h = ap (λ b. cond b (other_chunk o ∷ filter p (map other_chunk os)) (filter p (map other_chunk os))) (fails o h.0.no_part) ∙ none_found p place os fails h.1
 
 -- they are kept as they were
-pub kept_again : (place : Place) (os : List OtherContent) → AllByRecursion (StandsAt place) os → kept place (map other_chunk os) ≡ os
+pub kept_again : (place : Place) (os : List OtherContent) → AllByRecursion (IsKeptAt place) os → kept place (map other_chunk os) ≡ os
 kept_again place [] h = refl
 kept_again place (o ∷ os) h =
     let rest : List Chunk = filter (λ c. not (has_part place c.id c.content)) (map other_chunk os) in

@@ -6,33 +6,37 @@ use Rattle.dsd_bits.specs.Ids.{DSD}
 use Rattle.dsdiff_core.specs.declared.fault.DsdiffFault.{DsdiffFault}
 use Rattle.dsdiff_core.specs.declared.fault.DsdiffFault.TheVariants.{FormCut, Chunk as ChunkFails}
 use Rattle.dsdiff_core.specs.Fields.{form_end, form_size}
-use Rattle.dsdiff_core.specs.Fronts.{place_after, size_at}
+use Rattle.dsdiff_core.specs.Headers.{place_after, size_at}
 use Rattle.dsdiff_core.specs.Kinds.{FRM8}
 use Rattle.dsdiff_core.specs.Reading.{recording_of}
 
--- a form begins in the front, which ends with the head of a chunk of the form, behind whole chunks
-pub record EndsAtChunk (front : List ℕ) : Type 0 where
-  pub form : take 4 front ≡ FRM8
-  pub kind : take 4 (drop 12 front) ≡ DSD
+-- a form begins in the prefix, which ends with the head of a chunk of the form, behind whole chunks
+pub record EndsAtChunk (prefix : List ℕ) : Type 0 where
+  pub form : take 4 prefix ≡ FRM8
+  pub kind : take 4 (drop 12 prefix) ≡ DSD
   pub at : ℕ
   pub before : List Chunk
-  pub are_before : chunks (slice_range front 16 at) before
+  pub are_before : chunks (slice_range prefix 16 at) before
   pub no_gap : place_after 16 before ≡ at
-  pub ends : at + 12 ≡ length front
-  pub head_in_form : at ≤ form_size front
+  pub ends : at + 12 ≡ length prefix
+  pub head_in_form : at ≤ form_size prefix
 
--- the size in the head at the end of the front
+-- the size in the head at the end of the prefix
 abbrev pub last_size : List ℕ → ℕ
-last_size front = size_at front (length front - 12)
+last_size prefix = size_at prefix (length prefix - 12)
 
--- the fault of a file of so many bytes that begins with this front, and ends before the data of its last chunk do
+-- the data of the chunk whose head ends the prefix go past the end of the form
+abbrev pub GoesPastForm : List ℕ → Type 0
+GoesPastForm prefix = EndsAtChunk prefix × (12 + form_size prefix < length prefix + last_size prefix)
+
+-- the fault of a file of so many bytes that begins with this prefix, and ends before the data of its last chunk do
 abbrev pub cut_fault : List ℕ → ℕ → DsdiffFault
-cut_fault front total = if nat_lt (total + 1) (12 + form_size front) then FormCut else ChunkFails (DataCut (length front - 12))
+cut_fault prefix total = if nat_lt (total + 1) (12 + form_size prefix) then FormCut else ChunkFails (DataCut (length prefix - 12))
 
--- where the data of the last chunk of the front go past the end of the form, or of the file, this is the fault
+-- where the data of the last chunk of the prefix go past the end of the form, or of the file, this is the fault
 abbrev pub CutIsRefused : Type 0
 CutIsRefused =
-    (front rest : List ℕ) → EndsAtChunk front → form_end (front ++ rest) < length front + last_size front → recording_of (front ++ rest) ≡ Err (cut_fault front (length (front ++ rest)))
+    (prefix rest : List ℕ) → EndsAtChunk prefix → form_end (prefix ++ rest) < length prefix + last_size prefix → recording_of (prefix ++ rest) ≡ Err (cut_fault prefix (length (prefix ++ rest)))
 
 -- bytes behind the form, whose last pad is there, change nothing of what is read, nor of the fault
 abbrev pub FormIsRead : Type 0

@@ -64,8 +64,8 @@ pub record IsDsdiff (file : List ℕ) (r : Content) : Type 0 where
   pub sound_is : has_id DSD sound ≡ true
   -- the property has the rate, and the channels with their names
   pub number : ℕ
-  pub tells : StatesProperty property r.rate number
-  pub ids : r.ids ≡ ids_in number (drop 2 tells.names.content)
+  pub states : StatesProperty property r.rate number
+  pub ids : r.ids ≡ ids_in number (drop 2 states.names.content)
   -- whole frames of sound, one byte of each channel in turn
   pub whole : length sound.content % number ≡ 0
   pub not_long : 8 * (length sound.content / number) ≤ most_bits
@@ -76,6 +76,6 @@ pub record IsDsdiff (file : List ℕ) (r : Content) : Type 0 where
   pub whole_marks : All IsWholeMark (filter (has_id MARK) (joined masters))
   pub marks : r.marks ≡ map mark_in (filter (has_id MARK) (joined masters))
   -- what is kept as it is, and what the format does not store
-  pub others : r.others ≡ kept Property tells.parts ++ (kept Master (joined masters) ++ kept Form top)
+  pub others : r.others ≡ kept Property states.parts ++ (kept Master (joined masters) ++ kept Form top)
   pub layout : r.layout ≡ usual_layout number
   pub tag : r.tag ≡ []

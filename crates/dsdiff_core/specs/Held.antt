@@ -5,17 +5,17 @@ use Rattle.dsd_bits.specs.declared.marks.Place.{Place}
 use Rattle.dsd_bits.specs.declared.marks.Place.TheVariants.{Property, Master, Form}
 use Rattle.dsd_bits.specs.Ids.{DSD}
 use Rattle.dsdiff_core.specs.declared.held.Held.{Held}
-use Rattle.dsdiff_core.specs.Fronts.{IsAccepted}
+use Rattle.dsdiff_core.specs.Headers.{IsAccepted}
 use Rattle.dsdiff_core.specs.Located.{EndsAtHead, stated_size}
 use Rattle.dsdiff_core.specs.Spans.{span_has}
 
 -- the bytes of the file, with zeros in place of those that aren't in memory
 abbrev pub held : Held → List ℕ
-held f = f.front.now ++ (replicate f.hole 0 ++ f.back.now)
+held f = f.prefix.now ++ (replicate f.hole 0 ++ f.back.now)
 
--- its front ends after the header of the sound, which isn't in memory, and it has fewer than 2^64 bytes
+-- its prefix ends after the header of the sound, which isn't in memory, and it has fewer than 2^64 bytes
 abbrev pub IsAround : Held → Type 0
-IsAround f = EndsAtHead f.front.now × (f.hole ≡ stated_size f.front.now) × (length f.front.now + f.hole + length f.back.now < 2 ^ 64)
+IsAround f = EndsAtHead f.prefix.now × (f.hole ≡ stated_size f.prefix.now) × (length f.prefix.now + f.hole + length f.back.now < 2 ^ 64)
 
 -- the whole file is in memory, or the file without its sound
 abbrev pub IsHeld : Held → Type 0
@@ -24,7 +24,7 @@ IsHeld f = ((f.hole ≡ 0) × (f.back.now ≡ [])) ⊎ IsAround f
 -- the span's data are in memory
 pub record IsInMemory (f : Held) (s : Span) : Type 0 where
   pub short : s.start + s.size < 2 ^ 64
-  pub side : (s.start + s.size ≤ length f.front.now) ⊎ ((length f.front.now + f.hole ≤ s.start) × (s.start + s.size ≤ length f.front.now + f.hole + length f.back.now))
+  pub side : (s.start + s.size ≤ length f.prefix.now) ⊎ ((length f.prefix.now + f.hole ≤ s.start) × (s.start + s.size ≤ length f.prefix.now + f.hole + length f.back.now))
 
 -- the span's data are in memory, or those of a sound in the file
 abbrev pub MayBeInMemory : Held → Span → Type 0
@@ -40,6 +40,6 @@ IsInMemoryFor Form f s = MayBeInMemory f s
 -- recording
 pub record IsParted (file : List ℕ) (f : Held) (sound : List ℕ) : Type 0 where
   pub is_held : IsHeld f
-  pub is : file ≡ f.front.now ++ (sound ++ f.back.now)
+  pub is : file ≡ f.prefix.now ++ (sound ++ f.back.now)
   pub long : length sound ≡ f.hole
-  pub located : IsAccepted file → EndsAtHead f.front.now × (f.hole ≡ stated_size f.front.now)
+  pub located : IsAccepted file → EndsAtHead f.prefix.now × (f.hole ≡ stated_size f.prefix.now)

@@ -11,7 +11,7 @@ pub mod Forms
 pub mod Properties
 pub mod Sounds
 pub mod Masters
-pub mod Fronts
+pub mod Headers
 pub mod Outlines
 pub mod Held
 pub mod Reading

@@ -4,12 +4,12 @@ use Rattle.dsd_bits.specs.declared.sound.Sound.{Sound}
 use Rattle.dsd_bits.specs.Contents.{Content}
 use Rattle.dsd_bits.specs.Lacing.{unlaced_all}
 use Rattle.dsdiff_core.specs.Files.{IsDsdiff}
-use Rattle.dsdiff_core.specs.Fronts.{IsAccepted}
+use Rattle.dsdiff_core.specs.Headers.{IsAccepted}
 
--- what front and back say about a file, besides its bits: it is not accepted, whatever its sound; or the recording of
+-- what prefix and back say about a file, besides its bits: it is not accepted, whatever its sound; or the recording of
 -- each such file, with empty channels in place of its own
 abbrev pub StatesOutline : List ℕ → Sound → List ℕ → Option Content → Type 0
-StatesOutline front s back None = (sound : List ℕ) → length sound ≡ s.size → IsAccepted (front ++ (sound ++ back)) → ⊥
-StatesOutline front s back (Some o) =
+StatesOutline prefix s back None = (sound : List ℕ) → length sound ≡ s.size → IsAccepted (prefix ++ (sound ++ back)) → ⊥
+StatesOutline prefix s back (Some o) =
     (o.channels ≡ replicate s.channels [])
-    × ((sound : List ℕ) → length sound ≡ s.size → IsDsdiff (front ++ (sound ++ back)) (record o { channels = unlaced_all sound s.channels }))
+    × ((sound : List ℕ) → length sound ≡ s.size → IsDsdiff (prefix ++ (sound ++ back)) (record o { channels = unlaced_all sound s.channels }))

@@ -14,14 +14,14 @@ use Rattle.dsdiff_core.specs.Spans.{data_with, holds_property, once_each, proper
 use Rattle.dsdiff_core.specs.Steps.{some_or, walked}
 
 -- what a sound property says, and the places of its chunks
-pub record Told : Type 0 where
+pub record PropertyFields : Type 0 where
   pub rate : ℕ
   pub ids : List (List ℕ)
   pub parts : List Span
 
 -- what a sound property that was read says
-abbrev pub told_of : SoundProperty → Told
-told_of p = record { rate = p.rate; ids = p.ids.items; parts = p.parts.items }
+abbrev pub stated_of : SoundProperty → PropertyFields
+stated_of p = record { rate = p.rate; ids = p.ids.items; parts = p.parts.items }
 
 -- the rate in the data of its chunk
 abbrev pub rate_of : Option (List ℕ) → Result ℕ DsdiffFault
@@ -63,7 +63,7 @@ fields_of rates names kinds = do
   Ok (rate, ids_in channels.0 channels.1)
 
 -- the property of the sound among the form's chunks
-unfoldable pub property_of : List ℕ → List Span → Result Told DsdiffFault
+unfoldable pub property_of : List ℕ → List Span → Result PropertyFields DsdiffFault
 property_of file top = do
   property ← some_or NoProperty (find (holds_property file) top)
   parts ← walked (spans_in file (property.start + 4) (property.start + property.size))

@@ -31,15 +31,15 @@ kept_others file parts inner top =
 unfoldable pub recording_of : List ℕ → Result Content DsdiffFault
 recording_of file = do
   top ← top_of file
-  told ← property_of file top
-  sound ← bytes_of_sound (sound_leads (map (span_chunk file) top)) (data_with file DSD top) (length told.ids)
+  stated ← property_of file top
+  sound ← bytes_of_sound (sound_leads (map (span_chunk file) top)) (data_with file DSD top) (length stated.ids)
   inner ← masters_of file top
   Ok (record {
-    rate = told.rate;
-    channels = unlaced_all sound (length told.ids);
-    ids = told.ids;
-    layout = usual_layout (length told.ids);
+    rate = stated.rate;
+    channels = unlaced_all sound (length stated.ids);
+    ids = stated.ids;
+    layout = usual_layout (length stated.ids);
     marks = marks_of file inner;
-    others = kept_others file told.parts inner top;
+    others = kept_others file stated.parts inner top;
     tag = [];
   })

@@ -18,10 +18,10 @@ description_of file = recording_of file >>= λ r. Ok (described r)
 
 -- the file around a sound of zeros
 abbrev pub with_zeros : List ℕ → List ℕ → List ℕ
-with_zeros front back = front ++ (replicate (stated_size front) 0 ++ back)
+with_zeros prefix back = prefix ++ (replicate (stated_size prefix) 0 ++ back)
 
 -- replacing the sound bytes by as many others changes nothing of what is read but the channels
 abbrev pub SoundIsFree : Type 0
 SoundIsFree =
-    (front sound other back : List ℕ) → EndsAtHead front → length sound ≡ stated_size front → length other ≡ stated_size front
-    → recording_of (front ++ (other ++ back)) ≡ read_with_sound other (recording_of (front ++ (sound ++ back)))
+    (prefix sound other back : List ℕ) → EndsAtHead prefix → length sound ≡ stated_size prefix → length other ≡ stated_size prefix
+    → recording_of (prefix ++ (other ++ back)) ≡ read_with_sound other (recording_of (prefix ++ (sound ++ back)))

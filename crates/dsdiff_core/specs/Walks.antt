@@ -3,66 +3,77 @@ use Rattle.std.specs.Prelude.{◌≡◌, ◌≤◌, ◌<◌, ℕ, ◌+◌, List,
 use Rattle.dsd_bits.specs.declared.sound.Sound.{Sound}
 use Rattle.dsd_bits.specs.declared.sound.SoundAt.{SoundAt}
 use Rattle.dsd_bits.specs.declared.sound.SoundAt.TheVariants as sounds
+use Rattle.chunk_core.specs.declared.fault.ChunkFault.TheVariants.{DataCut}
 use Rattle.dsdiff_core.specs.declared.fault.DsdiffFault.{DsdiffFault}
+use Rattle.dsdiff_core.specs.declared.fault.DsdiffFault.TheVariants.{NoSound, Chunk as ChunkFails}
+use Rattle.dsdiff_core.specs.Cuts.{GoesPastForm}
 use Rattle.dsdiff_core.specs.declared.header.Place.{Place}
 use Rattle.dsdiff_core.specs.declared.header.Place.TheVariants as places
 use Rattle.dsdiff_core.specs.declared.locating.Located.{Located}
 use Rattle.dsdiff_core.specs.declared.locating.Located.TheVariants as answers
 use Rattle.dsdiff_core.specs.Fields.{form_size}
-use Rattle.dsdiff_core.specs.Fronts.{form_of, seek, seek_for, sound_at}
+use Rattle.dsdiff_core.specs.Headers.{form_of, seek, seek_for, sound_at}
 use Rattle.dsdiff_core.specs.Located.{EndsAtHead}
 use Rattle.dsdiff_core.specs.Reading.{recording_of}
 
 -- what is still sought from this place on, in a form of this size, is what was sought
-pub record IsSought (front : List ℕ) (at size : ℕ) : Type 0 where
+pub record IsSought (prefix : List ℕ) (at size : ℕ) : Type 0 where
   pub from : 16 ≤ at
-  pub within : at ≤ length front + 1
+  pub within : at ≤ length prefix + 1
   pub steps : ℕ
-  pub enough : length front + 1 < at + steps
-  pub so_far : seek_for steps at front size ≡ seek front
+  pub enough : length prefix + 1 < at + steps
+  pub so_far : seek_for steps at prefix size ≡ seek prefix
 
--- the chunks before this place were walked, and none of them is a sound: whatever follows the front, the head of the sound is sought from there on
+-- the chunks before this place were walked, and none of them is a sound: whatever follows the prefix, the head of the
+-- sound is sought from there on
 abbrev pub IsWalked : List ℕ → ℕ → Type 0
-IsWalked front at = (rest : List ℕ) → 16 ≤ length (front ++ rest) → IsSought (front ++ rest) at (form_size (front ++ rest))
+IsWalked prefix at = (rest : List ℕ) → 16 ≤ length (prefix ++ rest) → IsSought (prefix ++ rest) at (form_size (prefix ++ rest))
 
 -- where a walk came to, as a place of the head of the sound
 abbrev pub sought_by : Place → Result (Option ℕ) DsdiffFault
 sought_by (places.Head at) = Ok (Some at)
 sought_by (places.More at) = Ok None
-sought_by (places.Lost e) = Err e
+sought_by (places.Past at) = Err (ChunkFails (DataCut at))
+sought_by places.Lost = Err NoSound
 
 -- where the head of a sound was found, its place has this property
 abbrev pub IfHead : Place → (ℕ → Type 0) → Type 0
 IfHead (places.Head at) P = P at
 IfHead (places.More at) P = ⊤
-IfHead (places.Lost e) P = ⊤
+IfHead (places.Past at) P = ⊤
+IfHead places.Lost P = ⊤
 
 -- where more bytes are wanted, the place up to which chunks were walked has this property
-abbrev pub IfWanted : Place → (ℕ → Type 0) → Type 0
-IfWanted (places.Head at) P = ⊤
-IfWanted (places.More at) P = P at
-IfWanted (places.Lost e) P = ⊤
+abbrev pub IfWalkedTo : Place → (ℕ → Type 0) → Type 0
+IfWalkedTo (places.Head at) P = ⊤
+IfWalkedTo (places.More at) P = P at
+IfWalkedTo (places.Past at) P = ⊤
+IfWalkedTo places.Lost P = ⊤
 
 -- what the chunks before the head of a sound at this place tell of it
-abbrev pub IsTold : Result Sound DsdiffFault → ℕ → Located → Type 0
-IsTold told at (answers.Found s) = told ≡ Ok s
-IsTold told at (answers.Untold place) = (place ≡ at) × ((e : DsdiffFault) × (told ≡ Err e))
-IsTold told at (answers.More place) = ⊥
-IsTold told at (answers.Refused e) = ⊥
-IsTold told at answers.NoSound = ⊥
+abbrev pub IsStatedAt : Result Sound DsdiffFault → ℕ → Located → Type 0
+IsStatedAt stated at (answers.Found s) = stated ≡ Ok s
+IsStatedAt stated at (answers.Unstated place) = (place ≡ at) × ((e : DsdiffFault) × (stated ≡ Err e))
+IsStatedAt stated at (answers.More place) = ⊥
+IsStatedAt stated at (answers.Refused e) = ⊥
+IsStatedAt stated at (answers.PastForm place) = ⊥
+IsStatedAt stated at answers.NoSound = ⊥
 
 -- an answer without faults and places
 abbrev pub without_fault : Located → SoundAt
 without_fault (answers.Found s) = sounds.Found s
 without_fault (answers.More at) = sounds.More
 without_fault (answers.Refused e) = sounds.Refused
-without_fault (answers.Untold at) = sounds.Refused
+without_fault (answers.Unstated at) = sounds.Refused
+without_fault (answers.PastForm at) = sounds.Refused
 without_fault answers.NoSound = sounds.Refused
 
--- what the answer tells: the sound, the place from which the walk goes on, the fault of every file that begins so, or the place of a head that the front holds
+-- what the answer tells: the sound, the place from which the walk goes on, the fault of every file that begins so, the
+-- place of a head that the prefix holds, or that there is no sound in the form
 abbrev pub IsLocated : List ℕ → Located → Type 0
-IsLocated front (answers.Found s) = sound_at front ≡ sounds.Found s
-IsLocated front (answers.More at) = IsWalked front at
-IsLocated front (answers.Refused e) = (rest : List ℕ) → recording_of (front ++ rest) ≡ Err e
-IsLocated front (answers.Untold at) = (at + 12 ≤ length front) × EndsAtHead (take (at + 12) front)
-IsLocated front answers.NoSound = (e : DsdiffFault) × (form_of front ≡ Ok tt) × (seek front ≡ Err e)
+IsLocated prefix (answers.Found s) = sound_at prefix ≡ sounds.Found s
+IsLocated prefix (answers.More at) = IsWalked prefix at
+IsLocated prefix (answers.Refused e) = (rest : List ℕ) → recording_of (prefix ++ rest) ≡ Err e
+IsLocated prefix (answers.Unstated at) = (at + 12 ≤ length prefix) × EndsAtHead (take (at + 12) prefix)
+IsLocated prefix (answers.PastForm at) = (at + 12 ≤ length prefix) × GoesPastForm (take (at + 12) prefix)
+IsLocated prefix answers.NoSound = (form_of prefix ≡ Ok tt) × (seek prefix ≡ Err NoSound)

@@ -18,36 +18,36 @@ use chunk_core::{Order, u64_at};
 use dsd_bits::{Description, Metadata, usual_layout};
 use std::alloc::Global;
 
-/// What a file holds besides the bits of its sound. `front` ends where the bytes of the sound start, and `back` is what
-/// follows them. The bytes between aren't needed: whichever they are, as many as the header of the sound says, this is
-/// the description of the recording that [`crate::read`] returns, or the fault with which it refuses the file.
+/// What a file holds besides the bits of its sound. `prefix` ends where the bytes of the sound start, and `back` is
+/// what follows them. The bytes between aren't needed: whichever they are, as many as the header of the sound says,
+/// this is the description of the recording that [`crate::read`] returns, or the fault with which it refuses the file.
 ///
 /// `Memory` may come in place of any of them, and comes if the file would have `2^64` bytes or more.
-pub fn describe(alloc: Global, front: &[u8], back: &[u8]) -> Result<Description, DsdiffFault>
-    requires { EndsAtHead front.now }
-    ensures { (sound : List ℕ) → length sound ≡ stated_size front.now
-        → Gives (λ d. d) result (description_of (front.now ++ (sound ++ back.now))) }
+pub fn describe(alloc: Global, prefix: &[u8], back: &[u8]) -> Result<Description, DsdiffFault>
+    requires { EndsAtHead prefix.now }
+    ensures { (sound : List ℕ) → length sound ≡ stated_size prefix.now
+        → Gives (λ d. d) result (description_of (prefix.now ++ (sound ++ back.now))) }
 {
-    describe_around(alloc, front, back)
+    describe_around(alloc, prefix, back)
 }
 
 /// The same with zeros for the sound.
 pub(crate) fn describe_around(
     alloc: Global,
-    front: &[u8],
+    prefix: &[u8],
     back: &[u8],
 ) -> Result<Description, DsdiffFault>
-    requires { EndsAtHead front.now }
-    ensures { Gives (λ d. d) result (description_of (with_zeros front.now back.now)) }
+    requires { EndsAtHead prefix.now }
+    ensures { Gives (λ d. d) result (description_of (with_zeros prefix.now back.now)) }
 {
-    let size = u64_at(Order::Big, front, front.len() - 8);
-    if u64::MAX - size < front.len() as u64
-        || u64::MAX - size - (front.len() as u64) < back.len() as u64
+    let size = u64_at(Order::Big, prefix, prefix.len() - 8);
+    if u64::MAX - size < prefix.len() as u64
+        || u64::MAX - size - (prefix.len() as u64) < back.len() as u64
     {
         return Err(DsdiffFault::Memory);
     }
     let hole = size as usize;
-    describe_held(alloc, Held { front, hole, back })
+    describe_held(alloc, Held { prefix, hole, back })
 }
 
 /// The same for a file as it is held.
@@ -57,18 +57,18 @@ pub(crate) fn describe_held(alloc: Global, file: Held) -> Result<Description, Ds
     ensures { Gives (λ d. d) result (description_of (held file.entry)) }
 {
     let top = form_chunks(alloc, file)?;
-    let told = read_property(alloc, file, &top)?;
-    let number = told.ids.len();
+    let stated = read_property(alloc, file, &top)?;
+    let number = stated.ids.len();
     let count = count_sound(file, &top, number)?;
     let inner = master_chunks(alloc, file, &top)?;
     let marks = read_marks(alloc, file, &inner)?;
-    let others = kept_chunks(alloc, file, &told.parts, &inner, &top)?;
+    let others = kept_chunks(alloc, file, &stated.parts, &inner, &top)?;
     let tag = Vec::new(alloc);
     let metadata = Metadata { marks, others, tag };
     Ok(Description::new(
-        told.rate,
+        stated.rate,
         count,
-        told.ids,
+        stated.ids,
         usual_layout(number as u32),
         metadata,
     ))

@@ -4,7 +4,7 @@ ghost use Rattle.std.specs.Prelude.{◌≡◌, ◌≤◌, All, IfOk, length, map
 ghost use Rattle.chunk_core.specs.Places.{span_chunk};
 ghost use Rattle.dsdiff_core.specs.Fields.{form_end};
 ghost use Rattle.dsdiff_core.specs.Forms.{form_end_in, top_of, known_version};
-ghost use Rattle.dsdiff_core.specs.Fronts.{leading_of};
+ghost use Rattle.dsdiff_core.specs.Headers.{leading_of};
 ghost use Rattle.dsdiff_core.specs.Held.{IsHeld, MayBeInMemory, held};
 ghost use Rattle.dsdiff_core.specs.Steps.{Gives};
 
@@ -30,19 +30,19 @@ pub(crate) fn form_chunks(alloc: Global, file: Held) -> Result<Vec<Span>, Dsdiff
 
 /// The chunks of the form before its sound, whose header is at a given place: the first is a version 1, and there is no
 /// second version or sound property.
-#[tactic(auto, unfolding(crate::specs::Fronts::leading_of))]
+#[tactic(auto, unfolding(crate::specs::Headers::leading_of))]
 pub(crate) fn leading_chunks(
     alloc: Global,
-    front: Held,
+    prefix: Held,
     at: usize,
 ) -> Result<Vec<Span>, DsdiffFault>
-    requires { (16 ≤ at) × (at ≤ length front.front.now) }
-    ensures exact { Gives (λ v. v.items) result (leading_of (held front.entry) at) }
-    ensures inside { IfOk result (λ v. All (MayBeInMemory front.entry) v.items) }
+    requires { (16 ≤ at) × (at ≤ length prefix.prefix.now) }
+    ensures exact { Gives (λ v. v.items) result (leading_of (held prefix.entry) at) }
+    ensures inside { IfOk result (λ v. All (MayBeInMemory prefix.entry) v.items) }
 {
-    let top = walk(alloc, front.front, 16, at)?;
-    require_version(front, &top)?;
-    refuse_second_in_form(front, &top)?;
+    let top = walk(alloc, prefix.prefix, 16, at)?;
+    require_version(prefix, &top)?;
+    refuse_second_in_form(prefix, &top)?;
     Ok(top)
 }
 
@@ -58,10 +58,10 @@ fn form_end(file: Held) -> Result<usize, DsdiffFault>
     if size < 16 {
         return Err(DsdiffFault::NotDsdiff);
     }
-    let Some(form) = head(Order::Big, file.front, 0) else {
+    let Some(form) = head(Order::Big, file.prefix, 0) else {
         return Err(DsdiffFault::NotDsdiff);
     };
-    if form.id != *b"FRM8" || id_at(file.front, 12) != *b"DSD " {
+    if form.id != *b"FRM8" || id_at(file.prefix, 12) != *b"DSD " {
         return Err(DsdiffFault::NotDsdiff);
     }
     if form.size < 4 || ((size - 11) as u64) < form.size {

@@ -16,7 +16,7 @@ use std::alloc::Global;
 /// those of the whole file.
 #[derive(Clone, Copy)]
 pub(crate) struct Held<'a> {
-    pub(crate) front: &'a [u8],
+    pub(crate) prefix: &'a [u8],
     pub(crate) hole: usize,
     pub(crate) back: &'a [u8],
 }
@@ -25,10 +25,10 @@ pub(crate) struct Held<'a> {
 pub(crate) fn whole(file: &[u8]) -> Held
     ensures value { held result ≡ file.now }
     ensures is_held { IsHeld result }
-    ensures front { result.front.now ≡ file.now }
+    ensures prefix { result.prefix.now ≡ file.now }
 {
     Held {
-        front: file,
+        prefix: file,
         hole: 0,
         back: &[],
     }
@@ -39,7 +39,7 @@ pub(crate) fn len(file: Held) -> usize
     requires { IsHeld file }
     ensures { result ≡ length (held file.entry) }
 {
-    file.front.len() + file.hole + file.back.len()
+    file.prefix.len() + file.hole + file.back.len()
 }
 
 /// A chunk's data.
@@ -49,10 +49,10 @@ pub(crate) fn data_of(file: Held, span: Span) -> &[u8]
     ensures len { length result.now ≡ span.size }
 {
     let size = span.size;
-    if span.start + size <= file.front.len() {
-        &file.front[span.start..span.start + size]
+    if span.start + size <= file.prefix.len() {
+        &file.prefix[span.start..span.start + size]
     } else {
-        let at = span.start - file.front.len() - file.hole;
+        let at = span.start - file.prefix.len() - file.hole;
         &file.back[at..at + size]
     }
 }
@@ -82,7 +82,7 @@ pub(crate) fn walk_form(alloc: Global, file: Held, end: usize) -> Result<Vec<Spa
     ensures inside { IfOk result (λ spans. All (MayBeInMemory file.entry) spans.items) }
 {
     if file.hole == 0 && file.back.is_empty() {
-        return Ok(walk(alloc, file.front, 16, end)?);
+        return Ok(walk(alloc, file.prefix, 16, end)?);
     }
     walk_around(alloc, file, end)
 }
@@ -94,16 +94,16 @@ fn walk_around(alloc: Global, file: Held, end: usize) -> Result<Vec<Span>, Dsdif
     ensures exact { Gives (λ spans. spans.items) result (walked (spans_in (held file.entry) 16 end)) }
     ensures inside { IfOk result (λ spans. All (MayBeInMemory file.entry) spans.items) }
 {
-    let start = file.front.len();
+    let start = file.prefix.len();
     let sound = Span {
         id: *b"DSD ",
         start,
         size: file.hole,
     };
-    let behind = start + file.hole;
-    let pad = (file.hole % 2).min(end - behind);
-    let mut top = walk(alloc, file.front, 16, start - 12)?;
-    let mut later = walk_at(alloc, &file.back[pad..end - behind], behind + pad)?;
+    let after = start + file.hole;
+    let pad = (file.hole % 2).min(end - after);
+    let mut top = walk(alloc, file.prefix, 16, start - 12)?;
+    let mut later = walk_at(alloc, &file.back[pad..end - after], after + pad)?;
     top.push(sound)?;
     top.append(&mut later)?;
     Ok(top)

@@ -1,6 +1,6 @@
 //! How the words of the contracts are related. The functions do nothing: a caller's proof cites what they ensure.
 
-ghost use Rattle.dsdiff_core.specs.Laws.{FormEnds, FoundIsStated, OneRecording, OtherSound, SoundEndsFront, SoundHasHead, SoundIsStated};
+ghost use Rattle.dsdiff_core.specs.Laws.{FormEnds, FoundIsStated, HeaderEndsAtSound, OneRecording, OtherSound, SoundHasHead, SoundIsStated};
 
 /// A file holds at most one recording.
 pub fn one_recording()
@@ -32,12 +32,12 @@ pub fn accepted_files_state_their_sound()
 
 /// If the first bytes of a file are cut where the sound starts, they describe the same sound: the bytes from there on
 /// are not needed.
-pub fn front_ends_at_sound()
-    ensures { SoundEndsFront }
+pub fn header_ends_at_sound()
+    ensures { HeaderEndsAtSound }
 {}
 
 /// Bytes after the form do not matter, if its last pad is there: with them the file holds a recording exactly if it
 /// does without them, and the same one.
-pub fn bytes_behind_the_form_do_not_matter()
+pub fn bytes_after_the_form_do_not_matter()
     ensures { FormEnds }
 {}

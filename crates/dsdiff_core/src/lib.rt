@@ -14,9 +14,10 @@
 //! and [`mark_at`] makes the mark of a title that starts at a place. A recording whose channels end inside a byte has
 //! no file.
 //!
-//! A file can also be read and written around its sound, which is then never held: [`locate`] says where the
-//! sound starts, and goes on where it ended when more bytes came, [`outline`] gives the recording without bits by what stands before the sound and behind it, and
-//! [`write_head`] and [`write_tail`] give what the file of a recording has around its sound.
+//! A file can also be read and written around its sound, which is then never held: [`locate`] says where the sound
+//! starts, and goes on where it ended when more bytes came, [`outline`] gives the recording without bits by what stands
+//! before the sound and behind it, and [`write_head`] and [`write_tail`] give what the file of a recording has around
+//! its sound.
 //!
 //! The words of its contracts:
 //! - `IsDsdiff file r` (`specs/Files.antt`): the file holds the recording `r`. It is stated in lists of chunks, part by
@@ -32,7 +33,7 @@
 //!   the form, each written by `spell`. `form_text` puts the header before them.
 //! - `head_text r size`, `tail_text r size` (`specs/Writing.antt`): the bytes before and after a sound of `size` bytes.
 //!   They don't depend on the channels.
-//! - `StatesOutline front s back` (`specs/Outlines.antt`): what the bytes around a sound say about a file.
+//! - `StatesOutline prefix s back` (`specs/Outlines.antt`): what the bytes around a sound say about a file.
 //! - `mark_bytes m` (`specs/MarkBytes.antt`): the bytes of a mark.
 //! - `place_of m rate` (`specs/MarkPlaces.antt`): the place of a mark, a whole number that may be below zero.
 //!   `title_mark place rate text` is the mark of a title, and `IsAt m rate place` says where a mark is.
@@ -76,13 +77,13 @@ mod write_fault;
 mod writing;
 mod writing_laws;
 
-pub use closing::{bytes_behind, closes, cut_fault, outline};
+pub use closing::{bytes_after_sound, closes, cut_fault, outline};
 pub use describing::describe;
 pub use fault::DsdiffFault;
 pub use fields::fields_fit;
 pub use laws::{
     accepted_files_have_a_head, accepted_files_state_their_sound,
-    bytes_behind_the_form_do_not_matter, bytes_of_sound_do_not_matter, front_ends_at_sound,
+    bytes_after_the_form_do_not_matter, bytes_of_sound_do_not_matter, header_ends_at_sound,
     one_recording, what_is_stated_is_found,
 };
 pub use locating::{Located, locate, sound_at};

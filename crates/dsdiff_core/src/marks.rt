@@ -41,8 +41,8 @@ fn read_mark(alloc: Global, bytes: &[u8]) -> Result<Mark, AllocError>
     ensures short { IfOk result (λ mark. length mark.text.items < 2 ^ 32) }
 {
     let size = text_size(bytes) as usize;
-    let (_, behind) = bytes.split_at(MARK_FIELDS);
-    let (text, _) = behind.split_at(size);
+    let (_, after) = bytes.split_at(MARK_FIELDS);
+    let (text, _) = after.split_at(size);
     let text = Vec::from_slice(alloc, text)?;
     Ok(Mark {
         hours: u16_at(Big, bytes, 0),

@@ -3,7 +3,7 @@
 ghost use Rattle.std.specs.Prelude.{◌≡◌, ◌≤◌, ◌<◌, ◌*◌, All, IfOk, length, option_map};
 ghost use Rattle.dsd_bits.specs.Limits.{IsRate};
 ghost use Rattle.dsdiff_core.specs.Fields.{ids_in};
-ghost use Rattle.dsdiff_core.specs.Properties.{fields_of, limits_of, ids_and_number, property_of, rate_of, raw_of, told_of};
+ghost use Rattle.dsdiff_core.specs.Properties.{fields_of, limits_of, ids_and_number, property_of, rate_of, raw_of, stated_of};
 ghost use Rattle.dsdiff_core.specs.Held.{MayBeInMemory, IsInMemory, held};
 ghost use Rattle.dsdiff_core.specs.Steps.{Gives};
 
@@ -34,7 +34,7 @@ pub(crate) fn read_property(
     top: &[Span],
 ) -> Result<SoundProperty, DsdiffFault>
     requires { All (MayBeInMemory file) top.now }
-    ensures exact { Gives told_of result (property_of (held file.entry) top.now) }
+    ensures exact { Gives stated_of result (property_of (held file.entry) top.now) }
     ensures inside { IfOk result (λ p. All (IsInMemory file.entry) p.parts.items) }
     ensures rate { IfOk result (λ p. IsRate p.rate) }
     ensures number { IfOk result (λ p. (1 ≤ length p.ids.items) × (length p.ids.items ≤ 6)) }

@@ -3,7 +3,7 @@
 ghost use Rattle.std.specs.Prelude.{◌≡◌, ◌≤◌, ◌+◌, List, ℕ, IfOk, Ok, Some, length};
 ghost use Rattle.dsd_bits.specs.Contents.{Content};
 ghost use Rattle.dsdiff_core.specs.Files.{IsDsdiff};
-ghost use Rattle.dsdiff_core.specs.Fronts.{located};
+ghost use Rattle.dsdiff_core.specs.Headers.{sound_head_place};
 ghost use Rattle.dsdiff_core.specs.Held.{IsParted};
 ghost use Rattle.dsdiff_core.specs.Reading.{recording_of};
 ghost use Rattle.dsdiff_core.specs.Steps.{Gives};
@@ -75,7 +75,7 @@ fn part(file: &[u8]) -> (Held, &[u8])
 
 // The same, by the place of the header of the sound.
 fn part_at(file: &[u8], at: usize) -> (Held, &[u8])
-    requires located { located file.now ≡ Ok (Some at) }
+    requires located { sound_head_place file.now ≡ Ok (Some at) }
     requires inside { (16 ≤ at) × (at + 12 ≤ length file.now) }
     ensures { IsParted file.now result.0 result.1.now }
 {
@@ -84,7 +84,7 @@ fn part_at(file: &[u8], at: usize) -> (Held, &[u8])
         return (whole(file), &[]);
     }
     let hole = size as usize;
-    let (front, rest) = file.split_at(at + 12);
+    let (prefix, rest) = file.split_at(at + 12);
     let (sound, back) = rest.split_at(hole);
-    (Held { front, hole, back }, sound)
+    (Held { prefix, hole, back }, sound)
 }

@@ -4,7 +4,7 @@ ghost use Rattle.std.specs.Prelude.{◌≡◌, ◌≤◌, ◌*◌, ◌/◌, ◌%
 ghost use Rattle.chunk_core.specs.Places.{span_chunk};
 ghost use Rattle.dsd_bits.specs.Lacing.{unlaced_all};
 ghost use Rattle.dsd_bits.specs.Limits.{most_bits};
-ghost use Rattle.dsdiff_core.specs.Fronts.{frames_fit};
+ghost use Rattle.dsdiff_core.specs.Headers.{frames_fit};
 ghost use Rattle.dsdiff_core.specs.Held.{MayBeInMemory, held};
 ghost use Rattle.dsdiff_core.specs.Sounds.{stated_count, sound_leads};
 ghost use Rattle.dsdiff_core.specs.Steps.{Gives};

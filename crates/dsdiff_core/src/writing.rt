@@ -72,16 +72,16 @@ pub fn write_head(
     alloc: Global,
     recording: &Recording,
     size: usize,
-    behind: usize,
+    after: usize,
 ) -> Result<Vec<u8>, AllocError>
-    requires { behind ≡ length (tail_text recording.now size) }
+    requires { after ≡ length (tail_text recording.now size) }
     ensures { IfOk result (λ head. head.items ≡ head_text recording.now size) }
 {
     keeps_shape(recording);
     let first = first_chunks(alloc, recording)?;
     let mut out = Vec::new(alloc);
     out.extend_from_slice(b"FRM8")?;
-    push_u64(&mut out, Order::Big, size_around(first.len(), size, behind))?;
+    push_u64(&mut out, Order::Big, size_around(first.len(), size, after))?;
     out.extend_from_slice(b"DSD ")?;
     out.extend_from_slice(&first)?;
     out.extend_from_slice(b"DSD ")?;
@@ -105,13 +105,13 @@ pub fn write_tail(alloc: Global, recording: &Recording, size: usize) -> Result<V
 
 // The size of the form, from the bytes of the chunks before the sound, of the sound and after it. Its number has eight
 // bytes, whatever the sum.
-fn size_around(first: usize, size: usize, behind: usize) -> u64
-    ensures { big_bytes 8 result ≡ big_bytes 8 (4 + first + 12 + size + behind) }
+fn size_around(first: usize, size: usize, after: usize) -> u64
+    ensures { big_bytes 8 result ≡ big_bytes 8 (4 + first + 12 + size + after) }
 {
     (16 as u64)
         .wrapping_add(first as u64)
         .wrapping_add(size as u64)
-        .wrapping_add(behind as u64)
+        .wrapping_add(after as u64)
 }
 
 // The chunks before the sound.
@@ -217,7 +217,7 @@ fn push_others(out: &mut Vec<u8>, others: &[Other], place: Place) -> Result<(), 
         ≡ out.old.items ++ flat_map spell (others_of place (map other_content others.now))) }
 {
     for other in others {
-        if stands_at(other, place) {
+        if holds_at(other, place) {
             push_chunk(out, other.id, &other.bytes)?;
         }
     }
@@ -225,7 +225,7 @@ fn push_others(out: &mut Vec<u8>, others: &[Other], place: Place) -> Result<(), 
 }
 
 // Whether a kept chunk is of this place.
-fn stands_at(other: &Other, place: Place) -> bool
+fn holds_at(other: &Other, place: Place) -> bool
     ensures { result ≡ same_place other.now.place place }
 {
     match (other.place, place) {

@@ -14,9 +14,9 @@ use Rattle.dsd_bits.specs.Sounds.{IsSound}
 use Rattle.dsf_core.specs.declared.fault.DsfFault.{DsfFault}
 use Rattle.dsf_core.specs.declared.fault.DsfFault.TheVariants.{DataCut}
 use Rattle.dsf_core.specs.declared.header.Header.{Header}
-use Rattle.dsf_core.specs.Fields.{FMT, DATA, first_size, format_size, version, format, channel_number, rate, bits_per_sample, count, block_size, data_place, data_size, needed, tag_from}
+use Rattle.dsf_core.specs.Fields.{FMT, DATA, first_size, stated_format_size, version, format, channel_number, rate, bits_per_sample, count, block_size, data_place, stated_data_size, needed, tag_from}
 use Rattle.dsf_core.specs.Files.{sample_bits, IsDsf}
-use Rattle.dsf_core.specs.Fronts.{HoldsHead}
+use Rattle.dsf_core.specs.Headers.{HoldsHead}
 use Rattle.dsf_core.specs.Reading.{channels_by, chunks_of, described_by, end_of, ends_fit, file_header, stated_header, order_of, stated_order, recording_of, stated_sound}
 
 not_false : (b : Bool) → not b ≡ false → b ≡ true
@@ -36,9 +36,9 @@ pub record Heads (file : List ℕ) : Type 0 where
   pub first : id_at file 0 ≡ DSD
   pub first_is : first_size file ≡ 28
   pub second : id_at file 28 ≡ FMT
-  pub second_long : 52 ≤ format_size file
+  pub second_long : 52 ≤ stated_format_size file
   pub third : id_at file (data_place file) ≡ DATA
-  pub third_long : 12 ≤ data_size file
+  pub third_long : 12 ≤ stated_data_size file
   pub format_is : format file ≡ 0
 
 pub chunks_ok : (file : List ℕ) (n : ℕ) → chunks_of file ≡ Ok n → Heads file × HoldsHead file
@@ -70,15 +70,15 @@ pub chunks_again : (file : List ℕ) → Heads file → data_place file + 12 ≤
 unfolding chunks_of
 chunks_again file h within =
     let long : 80 ≤ length file = omega (arith, h.second_long, within) in
-    rw (le-ltb (length file) 4 (omega (arith, long)), same_again (id_at file 0) DSD h.first, le-ltb (length file) 80 long, eq-eqb (first_size file) 28 h.first_is, same_again (id_at file 28) FMT h.second, le-ltb (format_size file) 52 h.second_long, le-ltb (length file) (data_place file + 12) within, same_again (id_at file (data_place file)) DATA h.third, le-ltb (data_size file) 12 h.third_long, eq-eqb (format file) 0 h.format_is) refl
+    rw (le-ltb (length file) 4 (omega (arith, long)), same_again (id_at file 0) DSD h.first, le-ltb (length file) 80 long, eq-eqb (first_size file) 28 h.first_is, same_again (id_at file 28) FMT h.second, le-ltb (stated_format_size file) 52 h.second_long, le-ltb (length file) (data_place file + 12) within, same_again (id_at file (data_place file)) DATA h.third, le-ltb (stated_data_size file) 12 h.third_long, eq-eqb (format file) 0 h.format_is) refl
 
 -- ---- the fields
 
-told_order : ℕ → BitOrder
-told_order bits = cond (eqb bits 1) LeastFirst MostFirst
+order_stated : ℕ → BitOrder
+order_stated bits = cond (eqb bits 1) LeastFirst MostFirst
 
-bits_ok : (bits : ℕ) → (not (eqb bits 1) && not (eqb bits 8)) ≡ false → bits ≡ sample_bits (told_order bits)
-unfolding told_order
+bits_ok : (bits : ℕ) → (not (eqb bits 1) && not (eqb bits 8)) ≡ false → bits ≡ sample_bits (order_stated bits)
+unfolding order_stated
 bits_ok bits e = elim (cases_eq bits 1) [
   | inl one ↦ rw (eq-eqb bits 1 one) one
   | inr other ↦
@@ -98,7 +98,7 @@ pub record Limits (file : List ℕ) (order : BitOrder) : Type 0 where
   pub not_long : count file ≤ 2 ^ 36
 
 pub order_ok : (file : List ℕ) (order : BitOrder) → order_of file ≡ Ok order → Limits file order
-unfolding stated_order told_order
+unfolding stated_order order_stated
 order_ok file order e =
     let a = guard_ok _ _ _ _ e in
     let b = guard_ok _ _ _ _ a.1 in
@@ -108,7 +108,7 @@ order_ok file order e =
     let g = guard_ok _ _ _ _ f.1 in
     let h = guard_ok _ _ _ _ g.1 in
     let i = guard_ok _ _ _ _ h.1 in
-    let same : told_order (bits_per_sample file) ≡ order = cc (i.1) in
+    let same : order_stated (bits_per_sample file) ≡ order = cc (i.1) in
     record {
       version_is = eqb-true _ _ (not_false _ a.0);
       some_channel = ltb-false _ _ b.0;
@@ -130,55 +130,55 @@ order_again file order h =
     let bits = bits_again (bits_per_sample file) order h.order_is in
     rw (eq-eqb (version file) 1 h.version_is, le-ltb (channel_number file) 1 h.some_channel, le-ltb 6 (channel_number file) h.six_channels, le-ltb (rate file) 1000000 h.rate_low, le-ltb 50000000 (rate file) h.rate_high, bits.0, eq-eqb (block_size file) 4096 h.block_is, le-ltb (2 ^ 36) (count file) h.not_long, bits.1) refl
 
--- ---- the front
+-- ---- the prefix
 
--- what a front that leads to a sound holds
+-- what a prefix that leads to a sound holds
 pub record Leads (file : List ℕ) (s : Sound) : Type 0 where
   pub order : BitOrder
   pub heads : Heads file
   pub limits : Limits file order
-  pub fits : needed file ≤ data_size file - 12
+  pub fits : needed file ≤ stated_data_size file - 12
   pub holds : HoldsHead file
-  pub told : s ≡ stated_sound file order
+  pub stated : s ≡ stated_sound file order
 
-abbrev pub front_done : Header → Result Header DsfFault
-front_done front = Ok front
+abbrev pub prefix_done : Header → Result Header DsfFault
+prefix_done prefix = Ok prefix
 
-pub front_ok : (file : List ℕ) (front : Header) → file_header file ≡ Ok front → (l : Leads file front.sound) × (front ≡ stated_header file l.order)
+pub prefix_ok : (file : List ℕ) (prefix : Header) → file_header file ≡ Ok prefix → (l : Leads file prefix.sound) × (prefix ≡ stated_header file l.order)
 unfolding file_header
-front_ok file front e =
-    bind_then (chunks_of file) _ front e (λ place e1 h1.
-    bind_then (order_of file) _ front h1 (λ order e2 h2.
-    let g = guard_ok (ltb (data_size file) (needed file + 12)) DataCut (Ok (stated_header file order)) front h2 in
-    let same : front ≡ stated_header file order = cc (g.1) in
+prefix_ok file prefix e =
+    bind_then (chunks_of file) _ prefix e (λ place e1 h1.
+    bind_then (order_of file) _ prefix h1 (λ order e2 h2.
+    let g = guard_ok (ltb (stated_data_size file) (needed file + 12)) DataCut (Ok (stated_header file order)) prefix h2 in
+    let same : prefix ≡ stated_header file order = cc (g.1) in
     let chunks = chunks_ok file place e1 in
-    let fits : needed file + 12 ≤ data_size file = ltb-false _ _ g.0 in (
+    let fits : needed file + 12 ≤ stated_data_size file = ltb-false _ _ g.0 in (
       record {
         order = order;
         heads = chunks.0;
         limits = order_ok file order e2;
         fits = omega (arith, fits);
         holds = chunks.1;
-        told = ap (λ (f : Header). f.sound) same;
+        stated = ap (λ (f : Header). f.sound) same;
       },
       same,
     )))
 
 module _ (file : List ℕ) (data_at : ℕ) (order : BitOrder) (chunks : chunks_of file ≡ Ok data_at) (fields : order_of file ≡ Ok order) where
-  pub front_cut : data_size file < needed file + 12 → file_header file ≡ Err DataCut
+  pub prefix_cut : stated_data_size file < needed file + 12 → file_header file ≡ Err DataCut
   unfolding file_header
-  front_cut cut = rw (chunks, fields, lt-ltb (data_size file) (needed file + 12) cut) refl
+  prefix_cut cut = rw (chunks, fields, lt-ltb (stated_data_size file) (needed file + 12) cut) refl
 
-  pub front_is : needed file + 12 ≤ data_size file → file_header file ≡ Ok (stated_header file order)
+  pub prefix_is : needed file + 12 ≤ stated_data_size file → file_header file ≡ Ok (stated_header file order)
   unfolding file_header
-  front_is fits = rw (chunks, fields, le-ltb (data_size file) (needed file + 12) fits) refl
+  prefix_is fits = rw (chunks, fields, le-ltb (stated_data_size file) (needed file + 12) fits) refl
 
-pub front_again : (file : List ℕ) (order : BitOrder) → Heads file → Limits file order → HoldsHead file → needed file ≤ data_size file - 12 → file_header file ≡ Ok (stated_header file order)
-front_again file order heads limits holds fits = front_is file (data_place file) order (chunks_again file heads holds.head) (order_again file order limits) (omega (arith, fits, heads.third_long))
+pub prefix_again : (file : List ℕ) (order : BitOrder) → Heads file → Limits file order → HoldsHead file → needed file ≤ stated_data_size file - 12 → file_header file ≡ Ok (stated_header file order)
+prefix_again file order heads limits holds fits = prefix_is file (data_place file) order (chunks_again file heads holds.head) (order_again file order limits) (omega (arith, fits, heads.third_long))
 
 -- the sound lies in its limits
 pub is_sound : (file : List ℕ) (s : Sound) → Leads file s → IsSound s
-is_sound file s l = subst IsSound (sym l.told) (record {
+is_sound file s l = subst IsSound (sym l.stated) (record {
   rate_low = l.limits.rate_low;
   rate_high = l.limits.rate_high;
   some_channel = l.limits.some_channel;
@@ -189,46 +189,46 @@ is_sound file s l = subst IsSound (sym l.told) (record {
 
 -- ---- the ends
 
--- the sound ends in a file of so many bytes, and the tag stands behind it
-pub record Ends (front : Header) (total : ℕ) : Type 0 where
-  pub enough : end_of front ≤ total
-  pub tag : (front.tag_at ≡ 0) ⊎ ((end_of front ≤ front.tag_at) × (front.tag_at ≤ total))
+-- the sound ends in a file of n bytes, and the tag is after it
+pub record Ends (prefix : Header) (total : ℕ) : Type 0 where
+  pub enough : end_of prefix ≤ total
+  pub tag : (prefix.tag_at ≡ 0) ⊎ ((end_of prefix ≤ prefix.tag_at) × (prefix.tag_at ≤ total))
 
-pub ends_ok : (front : Header) (total : ℕ) (x : Unit {0}) → ends_fit front total ≡ Ok x → Ends front total
+pub ends_ok : (prefix : Header) (total : ℕ) (x : Unit {0}) → ends_fit prefix total ≡ Ok x → Ends prefix total
 unfolding ends_fit
-ends_ok front total x e =
+ends_ok prefix total x e =
     let a = guard_ok _ _ _ _ e in
     record {
       enough = ltb-false _ _ a.0;
-      tag = elim (chosen (eqb front.tag_at 0) _ _ _ a.1) [
+      tag = elim (chosen (eqb prefix.tag_at 0) _ _ _ a.1) [
         | inl none ↦ inl (eqb-true _ _ none.0)
         | inr some ↦ (let b = guard_ok _ _ _ _ some.1 in let c = guard_ok _ _ _ _ b.1 in inr (ltb-false _ _ b.0, ltb-false _ _ c.0))
       ];
     }
 
-pub ends_again : (front : Header) (total : ℕ) → Ends front total → ends_fit front total ≡ Ok tt
+pub ends_again : (prefix : Header) (total : ℕ) → Ends prefix total → ends_fit prefix total ≡ Ok tt
 unfolding ends_fit
-ends_again front total h = elim (cases_eq front.tag_at 0) [
-  | inl none ↦ rw (le-ltb total (end_of front) h.enough, eq-eqb front.tag_at 0 none) refl
+ends_again prefix total h = elim (cases_eq prefix.tag_at 0) [
+  | inl none ↦ rw (le-ltb total (end_of prefix) h.enough, eq-eqb prefix.tag_at 0 none) refl
   | inr some ↦ elim h.tag [
     | inl none ↦ absurd (some none)
-    | inr inside ↦ rw (le-ltb total (end_of front) h.enough, ne_eqb front.tag_at 0 some, le-ltb front.tag_at (end_of front) inside.0, le-ltb total front.tag_at inside.1) refl
+    | inr inside ↦ rw (le-ltb total (end_of prefix) h.enough, ne_eqb prefix.tag_at 0 some, le-ltb prefix.tag_at (end_of prefix) inside.0, le-ltb total prefix.tag_at inside.1) refl
   ]
 ]
 
--- what a front and ends without a fault say of a file
-pub record InFile (file : List ℕ) (front : Header) : Type 0 where
-  pub sound : IsSound front.sound
-  pub size : front.sound.size ≡ blocks_size front.sound.channels front.sound.count
-  pub whole : front.sound.start + front.sound.size ≤ length file
-  pub tag : front.tag_at ≤ length file
+-- what a prefix and ends without a fault say of a file
+pub record InFile (file : List ℕ) (prefix : Header) : Type 0 where
+  pub sound : IsSound prefix.sound
+  pub size : prefix.sound.size ≡ blocks_size prefix.sound.channels prefix.sound.count
+  pub whole : prefix.sound.start + prefix.sound.size ≤ length file
+  pub tag : prefix.tag_at ≤ length file
 
-pub in_file : (file : List ℕ) (front : Header) (u : Unit {0}) → Ok front ≡ file_header file → Ok u ≡ ends_fit front (length file) → InFile file front
-in_file file front u reads ended =
-    let l = front_ok file front (sym reads) in
-    let ends = ends_ok front (length file) u (sym ended) in
+pub in_file : (file : List ℕ) (prefix : Header) (u : Unit {0}) → Ok prefix ≡ file_header file → Ok u ≡ ends_fit prefix (length file) → InFile file prefix
+in_file file prefix u reads ended =
+    let l = prefix_ok file prefix (sym reads) in
+    let ends = ends_ok prefix (length file) u (sym ended) in
     record {
-      sound = is_sound file front.sound l.0;
+      sound = is_sound file prefix.sound l.0;
       size = subst (λ (f : Header). f.sound.size ≡ blocks_size f.sound.channels f.sound.count) (sym l.1) refl;
       whole = ends.enough;
       tag = elim ends.tag [ inl none ↦ omega (arith, none) | inr there ↦ there.1 ];
@@ -248,12 +248,12 @@ same_reading r s order other e =
     let both = ok_is (s, other) (r, order) (sym e) in
     (ap (λ (x : Content × BitOrder). x.0) both, ap (λ (x : Content × BitOrder). x.1) both)
 
--- what a file tells whose front leads to this
-abbrev pub told : List ℕ → Header → Content
-told file front = with_channels (described_by front (tag_from front.tag_at file)) (channels_by front (drop front.sound.start file))
+-- what a file states whose prefix leads to this
+abbrev pub stated : List ℕ → Header → Content
+stated file prefix = with_channels (described_by prefix (tag_from prefix.tag_at file)) (channels_by prefix (drop prefix.sound.start file))
 
--- a file of these chunks and fields, whose sound and tag stand in it, holds what it tells
-pub is_file : (file : List ℕ) (s : Sound) (l : Leads file s) → Ends (stated_header file l.order) (length file) → IsDsf file (told file (stated_header file l.order)) l.order
+-- a file of these chunks and fields that contains its sound and tag holds what it states
+pub is_file : (file : List ℕ) (s : Sound) (l : Leads file s) → Ends (stated_header file l.order) (length file) → IsDsf file (stated file (stated_header file l.order)) l.order
 is_file file s l ends = record {
   first = l.heads.first;
   first_is = l.heads.first_is;
@@ -272,7 +272,7 @@ is_file file s l ends = record {
   not_long = l.limits.not_long;
   in_chunk = l.fits;
   in_file = ends.enough;
-  behind = ends.tag;
+  after = ends.tag;
   rate_read = refl;
   channels_read = refl;
   ids_read = refl;
@@ -285,15 +285,15 @@ is_file file s l ends = record {
 pub is_dsf : (file : List ℕ) (x : Content × BitOrder) → recording_of file ≡ Ok x → IsDsf file x.0 x.1
 unfolding recording_of
 is_dsf file x e =
-    bind_then (file_header file) _ x e (λ front e1 h1.
-    bind_then (ends_fit front (length file)) _ x h1 (λ unit e2 h2.
-    let leads = front_ok file front e1 in
-    let made : (told file front, front.order) ≡ x = sym (ok_is (told file front, front.order) x h2) in
-    let again : (told file (stated_header file leads.0.order), leads.0.order) ≡ x = ap (λ (f : Header). (told file f, f.order)) (sym leads.1) ∙ made in
+    bind_then (file_header file) _ x e (λ prefix e1 h1.
+    bind_then (ends_fit prefix (length file)) _ x h1 (λ unit e2 h2.
+    let leads = prefix_ok file prefix e1 in
+    let made : (stated file prefix, prefix.order) ≡ x = sym (ok_is (stated file prefix, prefix.order) x h2) in
+    let again : (stated file (stated_header file leads.0.order), leads.0.order) ≡ x = ap (λ (f : Header). (stated file f, f.order)) (sym leads.1) ∙ made in
     let P : Content × BitOrder → Type 0 = λ y. IsDsf file y.0 y.1 in
-    subst P again (is_file file front.sound leads.0 (subst (λ (f : Header). Ends f (length file)) leads.1 (ends_ok front (length file) unit e2)))))
+    subst P again (is_file file prefix.sound leads.0 (subst (λ (f : Header). Ends f (length file)) leads.1 (ends_ok prefix (length file) unit e2)))))
 
--- the front of such a file leads to its sound
+-- the prefix of such a file leads to its sound
 abbrev pub leads_of : (file : List ℕ) (r : Content) (order : BitOrder) → IsDsf file r order → Leads file (stated_sound file order)
 leads_of file r order h = record {
   order = order;
@@ -301,16 +301,16 @@ leads_of file r order h = record {
   limits = record { version_is = h.version_is; some_channel = h.some_channel; six_channels = h.six_channels; rate_low = h.rate_low; rate_high = h.rate_high; order_is = h.order_is; block_is = h.block_is; not_long = h.not_long };
   fits = h.in_chunk;
   holds = record { fields = omega (arith, h.second_long, h.in_file); head = omega (arith, h.in_file) };
-  told = refl;
+  stated = refl;
 }
 
-pub front_read : (file : List ℕ) (r : Content) (order : BitOrder) → IsDsf file r order → file_header file ≡ Ok (stated_header file order)
-front_read file r order h = let l = leads_of file r order h in front_again file order l.heads l.limits l.holds l.fits
+pub prefix_read : (file : List ℕ) (r : Content) (order : BitOrder) → IsDsf file r order → file_header file ≡ Ok (stated_header file order)
+prefix_read file r order h = let l = leads_of file r order h in prefix_again file order l.heads l.limits l.holds l.fits
 
 pub dsf_is_read : (file : List ℕ) (r : Content) (order : BitOrder) → IsDsf file r order → recording_of file ≡ Ok (r, order)
 unfolding recording_of
 dsf_is_read file r order h =
-    let made : told file (stated_header file order) ≡ r = λ i. record {
+    let made : stated file (stated_header file order) ≡ r = λ i. record {
       rate = sym h.rate_read i;
       channels = sym h.channels_read i;
       ids = sym h.ids_read i;
@@ -319,4 +319,4 @@ dsf_is_read file r order h =
       others = sym h.no_others i;
       tag = sym h.tag_read i;
     } in
-    rw (front_read file r order h, ends_again (stated_header file order) (length file) (record { enough = h.in_file; tag = h.behind })) (ap (λ (c : Content). done (c, order)) made)
+    rw (prefix_read file r order h, ends_again (stated_header file order) (length file) (record { enough = h.in_file; tag = h.after })) (ap (λ (c : Content). done (c, order)) made)

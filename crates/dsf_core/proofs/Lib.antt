@@ -1,7 +1,7 @@
 pub mod DescribingLaws
 pub mod FileLaws
-pub mod FrontLaws
+pub mod HeaderLaws
 pub mod ShapeLaws
 pub mod Steps
-pub mod ToldLaws
+pub mod StatedLaws
 pub mod WrittenAgain

@@ -22,16 +22,16 @@ id_for_each number = elim (cases_eq number 2) [
   | inr other ↦ rw (ne_eqb number 2 other) (length-map-range_with_len (λ c. codes "C00" ++ (48 + c) ∷ []) 0 number)
 ]
 
-pub shape_is : (front : Header) (tag : List ℕ) → IsSound front.sound → IsDescription (described_by front tag)
-shape_is front tag s =
-    let long = id_for_each front.sound.channels in
+pub shape_is : (prefix : Header) (tag : List ℕ) → IsSound prefix.sound → IsDescription (described_by prefix tag)
+shape_is prefix tag s =
+    let long = id_for_each prefix.sound.channels in
     record {
       rate_low = s.rate_low;
       rate_high = s.rate_high;
       some_channel = omega (arith, long, s.some_channel);
       six_channels = omega (arith, long, s.six_channels);
       in_limit = s.in_limit;
-      layout_fits = layout_fits front.kind front.sound.channels s.six_channels ∙ sym long;
+      layout_fits = layout_fits prefix.kind prefix.sound.channels s.six_channels ∙ sym long;
       short_texts = λ k d h. absurd (omega arith);
       in_order = refl;
       no_parts = λ k d h. absurd (omega arith);

@@ -12,7 +12,7 @@ use Rattle.dsd_bits.specs.Blocks.{BlocksReadAgain, block_byte, blocked, blocks_s
 use Rattle.dsd_bits.specs.Channels.{count_of}
 use Rattle.dsd_bits.specs.Contents.{described}
 use Rattle.dsd_bits.specs.Layouts.{layout_channels}
-use Rattle.dsf_core.specs.Fields.{pointer, data_size, channel_type, channel_number, rate, bits_per_sample, count, needed, sound_end, dsf_ids, stated_tag}
+use Rattle.dsf_core.specs.Fields.{pointer, stated_data_size, channel_type, channel_number, rate, bits_per_sample, count, needed, sound_end, dsf_ids, stated_tag}
 use Rattle.dsf_core.specs.Files.{sample_bits}
 use Rattle.dsf_core.specs.ReadAgain.{WrittenReadAgain}
 use Rattle.dsf_core.specs.Writing.{recording_size, tag_place, first_text, format_text, data_text, head_text, dsf_text}
@@ -29,7 +29,7 @@ record HeadReads (file : List ℕ) (p l n ra b c s : ℕ) : Type 0 where
   at_rate : rate file ≡ ra
   at_bits : bits_per_sample file ≡ b
   at_count : count file ≡ c
-  at_size : data_size file ≡ s
+  at_size : stated_data_size file ≡ s
 
 head_reads : (t p l n ra b c s : ℕ) (rest : List ℕ) → p < 256 ^ 8 → l < 256 ^ 4 → n < 256 ^ 4 → ra < 256 ^ 4 → b < 256 ^ 4 → c < 256 ^ 8 → s < 256 ^ 8
     → HeadReads (dsf_head t p l n ra b c s ++ rest) p l n ra b c s
@@ -57,7 +57,7 @@ bits_small : (order : BitOrder) → sample_bits order < 256 ^ 4
 bits_small LeastFirst = omega arith
 bits_small MostFirst = omega arith
 
--- where the tag stands
+-- where the tag is
 pointer_of : (tag : List ℕ) (end : ℕ) → ((length tag ≡ 0) × (cond (eqb (length tag) 0) 0 end ≡ 0)) ⊎ (cond (eqb (length tag) 0) 0 end ≡ end)
 pointer_of tag end = elim (cases_eq (length tag) 0) [
   | inl none ↦ inl (none, rw (eq-eqb (length tag) 0 none) refl)
@@ -68,15 +68,15 @@ no_tag : (tag : List ℕ) → length tag ≡ 0 → tag ≡ []
 no_tag [] e = refl
 no_tag (x ∷ xs) e = absurd (omega arith)
 
-tag_there : (file front tag : List ℕ) (end : ℕ) → 1 ≤ end → file ≡ front ++ tag → length front ≡ end → pointer file ≡ cond (eqb (length tag) 0) 0 end → tag ≡ stated_tag file
-tag_there file front tag end some e size p = elim (pointer_of tag end) [
+tag_there : (file prefix tag : List ℕ) (end : ℕ) → 1 ≤ end → file ≡ prefix ++ tag → length prefix ≡ end → pointer file ≡ cond (eqb (length tag) 0) 0 end → tag ≡ stated_tag file
+tag_there file prefix tag end some e size p = elim (pointer_of tag end) [
   | inl none ↦
       let zero_p : pointer file ≡ 0 = p ∙ none.1 in
       rw (eq-eqb (pointer file) 0 zero_p) (no_tag tag none.0)
   | inr there ↦
       let end_p : pointer file ≡ end = p ∙ there in
       let ne = ne_eqb (pointer file) 0 (λ z. absurd (omega arith)) in
-      let dropped : drop end file ≡ tag = ap (drop end) e ∙ drop_at front tag end size in
+      let dropped : drop end file ≡ tag = ap (drop end) e ∙ drop_at prefix tag end size in
       rw ne (sym (ap (λ (k : ℕ). drop k file) end_p ∙ dropped))
 ]
 
@@ -92,9 +92,9 @@ written_again again r order h short =
     let groups = mul-le (div_ceil c 32768) n (2 ^ 21) 6 (omega (arith, h.in_limit)) (omega (arith, h.six_channels, same)) in
     let small : g ≤ 12582912 * 4096 = omega (arith, groups) in
     let size : length sound ≡ g = length-map-range_with_len (block_byte order r.channels) 0 (blocks_size (length r.channels) c) ∙ ap (λ (m : ℕ). blocks_size m c) (sym same) in
-    let front_long : length (head_text d order ++ sound) ≡ 92 + g = length-append (head_text d order) sound ∙ ap (λ (m : ℕ). 92 + m) size in
+    let prefix_long : length (head_text d order ++ sound) ≡ 92 + g = length-append (head_text d order) sound ∙ ap (λ (m : ℕ). 92 + m) size in
     let apart : file ≡ (head_text d order ++ sound) ++ r.tag = sym (append_assoc (head_text d order) sound r.tag) in
-    let long : length file ≡ 92 + g + length r.tag = ap length apart ∙ length-append (head_text d order ++ sound) r.tag ∙ ap (λ (m : ℕ). m + length r.tag) front_long in
+    let long : length file ≡ 92 + g + length r.tag = ap length apart ∙ length-append (head_text d order ++ sound) r.tag ∙ ap (λ (m : ℕ). m + length r.tag) prefix_long in
     let there = pointer_of r.tag (92 + g) in
     let low : tag_place d < 256 ^ 8 = elim there [ inl none ↦ omega (arith, none.1) | inr some ↦ omega (arith, some, small) ] in
     let reads = head_reads (92 + g + length r.tag) (tag_place d) r.layout n r.rate (sample_bits order) c (12 + g) (sound ++ r.tag) low (omega (arith, layout_small r.layout (length r.channels) h.some_channel h.layout_fits)) (omega (arith, h.six_channels, same)) (omega (arith, h.rate_high)) (bits_small order) (omega (arith, h.in_limit)) (omega (arith, small)) in
@@ -118,7 +118,7 @@ written_again again r order h short =
       not_long = omega (arith, reads.at_count, h.in_limit);
       in_chunk = omega (arith, reads.at_size, needed_is);
       in_file = omega (arith, end_is, long);
-      behind = elim there [
+      after = elim there [
         | inl none ↦ inl (reads.at_pointer ∙ none.1)
         | inr some ↦ inr (omega (arith, end_is, reads.at_pointer, some), omega (arith, long, reads.at_pointer, some))
       ];
@@ -128,5 +128,5 @@ written_again again r order h short =
       layout_read = rw (reads.at_type, reads.at_number, eq-eqb (layout_channels r.layout) n (h.layout_fits ∙ sym same)) refl;
       no_marks = refl;
       no_others = refl;
-      tag_read = tag_there file (head_text d order ++ sound) r.tag (92 + g) (omega arith) apart front_long reads.at_pointer;
+      tag_read = tag_there file (head_text d order ++ sound) r.tag (92 + g) (omega arith) apart prefix_long reads.at_pointer;
     }

@@ -32,8 +32,8 @@ abbrev pub FMT : List ℕ
 FMT = codes "fmt "
 
 -- its size
-abbrev pub format_size : List ℕ → ℕ
-format_size file = u64_at file 32
+abbrev pub stated_format_size : List ℕ → ℕ
+stated_format_size file = u64_at file 32
 
 -- the version of the format, which is 1
 abbrev pub version : List ℕ → ℕ
@@ -75,11 +75,11 @@ DATA = codes "data"
 
 -- its place: after the format chunk
 abbrev pub data_place : List ℕ → ℕ
-data_place file = 28 + format_size file
+data_place file = 28 + stated_format_size file
 
 -- its size
-abbrev pub data_size : List ℕ → ℕ
-data_size file = u64_at file (data_place file + 4)
+abbrev pub stated_data_size : List ℕ → ℕ
+stated_data_size file = u64_at file (data_place file + 4)
 
 -- the place of the first sound byte
 abbrev pub sound_place : List ℕ → ℕ

@@ -7,7 +7,7 @@ use Rattle.dsd_bits.specs.Blocks.{unblocked_all}
 use Rattle.dsd_bits.specs.Contents.{Content}
 use Rattle.dsd_bits.specs.Ids.{DSD}
 use Rattle.dsd_bits.specs.Limits.{most_bits, least_rate, greatest_rate, block_bytes}
-use Rattle.dsf_core.specs.Fields.{FMT, DATA, first_size, pointer, format_size, version, format, channel_type, channel_number, rate, bits_per_sample, count, block_size, data_place, data_size, sound_place, needed, sound_end, stated_layout, dsf_ids, stated_tag}
+use Rattle.dsf_core.specs.Fields.{FMT, DATA, first_size, pointer, stated_format_size, version, format, channel_type, channel_number, rate, bits_per_sample, count, block_size, data_place, stated_data_size, sound_place, needed, sound_end, stated_layout, dsf_ids, stated_tag}
 
 -- the bits per sample that mean an order (this project's profile)
 abbrev pub sample_bits : BitOrder → ℕ
@@ -20,9 +20,9 @@ pub record IsDsf (file : List ℕ) (r : Content) (order : BitOrder) : Type 0 whe
   pub first : id_at file 0 ≡ DSD
   pub first_is : first_size file ≡ 28
   pub second : id_at file 28 ≡ FMT
-  pub second_long : 52 ≤ format_size file
+  pub second_long : 52 ≤ stated_format_size file
   pub third : id_at file (data_place file) ≡ DATA
-  pub third_long : 12 ≤ data_size file
+  pub third_long : 12 ≤ stated_data_size file
   -- raw sound of version 1, within the limits
   pub version_is : version file ≡ 1
   pub format_is : format file ≡ 0
@@ -34,9 +34,9 @@ pub record IsDsf (file : List ℕ) (r : Content) (order : BitOrder) : Type 0 whe
   pub block_is : block_size file ≡ block_bytes
   pub not_long : count file ≤ most_bits
   -- the data chunk and the file hold the needed sound bytes, and the tag comes after them
-  pub in_chunk : needed file ≤ data_size file - 12
+  pub in_chunk : needed file ≤ stated_data_size file - 12
   pub in_file : sound_end file ≤ length file
-  pub behind : (pointer file ≡ 0) ⊎ ((sound_end file ≤ pointer file) × (pointer file ≤ length file))
+  pub after : (pointer file ≡ 0) ⊎ ((sound_end file ≤ pointer file) × (pointer file ≤ length file))
   -- what is read
   pub rate_read : r.rate ≡ rate file
   pub channels_read : r.channels ≡ unblocked_all order (drop (sound_place file) file) (channel_number file) (count file)

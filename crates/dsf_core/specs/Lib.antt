@@ -1,6 +1,6 @@
 pub mod Fields
 pub mod Files
-pub mod Fronts
+pub mod Headers
 pub mod Laws
 pub mod ReadAgain
 pub mod Reading

@@ -13,7 +13,7 @@ use Rattle.dsd_bits.specs.Limits.{most_bits, least_rate, greatest_rate, block_by
 use Rattle.dsf_core.specs.declared.fault.DsfFault.{DsfFault}
 use Rattle.dsf_core.specs.declared.fault.DsfFault.TheVariants.{NotDsf, HeadCut, BadFormat, BadVersion, BadChannelNumber, BadRate, BadBits, BadBlock, TooLong, DataCut, BadPointer}
 use Rattle.dsf_core.specs.declared.header.Header.{Header}
-use Rattle.dsf_core.specs.Fields.{FMT, DATA, first_size, pointer, format_size, version, format, channel_type, channel_number, rate, bits_per_sample, count, block_size, data_place, data_size, sound_place, needed, stated_layout, dsf_ids, tag_from}
+use Rattle.dsf_core.specs.Fields.{FMT, DATA, first_size, pointer, stated_format_size, version, format, channel_type, channel_number, rate, bits_per_sample, count, block_size, data_place, stated_data_size, sound_place, needed, stated_layout, dsf_ids, tag_from}
 
 -- the place of the data chunk, after the other two
 unfoldable pub chunks_of : List ℕ → Result ℕ DsfFault
@@ -23,10 +23,10 @@ chunks_of file =
     else if nat_lt (length file) 80 then Err HeadCut
     else if not (nat_eq (first_size file) 28) then Err BadFormat
     else if not (same_id (id_at file 28) FMT) then Err BadFormat
-    else if nat_lt (format_size file) 52 then Err BadFormat
+    else if nat_lt (stated_format_size file) 52 then Err BadFormat
     else if nat_lt (length file) (data_place file + 12) then Err HeadCut
     else if not (same_id (id_at file (data_place file)) DATA) then Err BadFormat
-    else if nat_lt (data_size file) 12 then Err BadFormat
+    else if nat_lt (stated_data_size file) 12 then Err BadFormat
     else if not (nat_eq (format file) 0) then Err BadFormat
     else Ok (data_place file)
 
@@ -67,28 +67,28 @@ unfoldable pub file_header : List ℕ → Result Header DsfFault
 file_header file = do
   data_at ← chunks_of file
   order ← order_of file
-  if nat_lt (data_size file) (needed file + 12) then Err DataCut else Ok (stated_header file order)
+  if nat_lt (stated_data_size file) (needed file + 12) then Err DataCut else Ok (stated_header file order)
 
 -- the place after the sound
 abbrev pub end_of : Header → ℕ
-end_of front = front.sound.start + front.sound.size
+end_of prefix = prefix.sound.start + prefix.sound.size
 
 -- whether a file of n bytes holds the whole sound, and the tag after it
 unfoldable pub ends_fit : Header → ℕ → Result (Unit {0}) DsfFault
-ends_fit front total =
-    if nat_lt total (end_of front) then Err DataCut
-    else if nat_eq front.tag_at 0 then Ok tt
-    else if nat_lt front.tag_at (end_of front) then Err BadPointer
-    else if nat_lt total front.tag_at then Err BadPointer
+ends_fit prefix total =
+    if nat_lt total (end_of prefix) then Err DataCut
+    else if nat_eq prefix.tag_at 0 then Ok tt
+    else if nat_lt prefix.tag_at (end_of prefix) then Err BadPointer
+    else if nat_lt total prefix.tag_at then Err BadPointer
     else Ok tt
 
 -- the description of a file with this header and this tag
 abbrev pub described_by : Header → List ℕ → Described
-described_by front tag = record {
-  rate = front.sound.rate;
-  count = front.sound.count;
-  ids = dsf_ids front.sound.channels;
-  layout = stated_layout front.kind front.sound.channels;
+described_by prefix tag = record {
+  rate = prefix.sound.rate;
+  count = prefix.sound.count;
+  ids = dsf_ids prefix.sound.channels;
+  layout = stated_layout prefix.kind prefix.sound.channels;
   marks = [];
   others = [];
   tag = tag;
@@ -96,11 +96,11 @@ described_by front tag = record {
 
 -- the channels in the bytes from the sound on
 abbrev pub channels_by : Header → List ℕ → List (List Bool)
-channels_by front bytes = unblocked_all front.order bytes front.sound.channels front.sound.count
+channels_by prefix bytes = unblocked_all prefix.order bytes prefix.sound.channels prefix.sound.count
 
 -- the recording in a file and the order of its bits, or the first fault
 unfoldable pub recording_of : List ℕ → Result (Content × BitOrder) DsfFault
 recording_of file = do
-  front ← file_header file
-  ends ← ends_fit front (length file)
-  Ok (with_channels (described_by front (tag_from front.tag_at file)) (channels_by front (drop front.sound.start file)), front.order)
+  prefix ← file_header file
+  ends ← ends_fit prefix (length file)
+  Ok (with_channels (described_by prefix (tag_from prefix.tag_at file)) (channels_by prefix (drop prefix.sound.start file)), prefix.order)

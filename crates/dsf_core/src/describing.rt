@@ -4,7 +4,8 @@ ghost use Rattle.std.specs.Prelude.{◌≡◌, ◌≤◌, ◌-◌, ◌++◌, ◌
 ghost use Rattle.dsd_bits.specs.declared.sound.Sound.{Sound};
 ghost use Rattle.dsd_bits.specs.declared.sound.SoundAt.TheVariants.{Found};
 ghost use Rattle.dsd_bits.specs.Sounds.{IsSound};
-ghost use Rattle.dsf_core.specs.Fronts.{Describes, DescribesSound, EndsAtSound, IsAccepted, IsTagPlace, sound_at};
+ghost use Rattle.dsf_core.specs.Fields.{pointer};
+ghost use Rattle.dsf_core.specs.Headers.{Describes, DescribesSound, EndsAtSound, IsAccepted, IsTagPlace, sound_at};
 ghost use Rattle.dsf_core.specs.Reading.{described_by};
 
 use crate::fault::DsfFault;
@@ -14,67 +15,68 @@ use crate::header::{Header, check_ends, read_header};
 use dsd_bits::{Description, Metadata};
 use std::alloc::{AllocError, Global};
 
-/// The place of the tag in a file that begins with `front`, which ends where the sound starts. The tag is everything
+/// The place of the tag in a file that begins with `prefix`, which ends where the sound starts. The tag is everything
 /// from there to the file's end; 0 means that there is none. In an accepted file it comes after the blocks that the
 /// channels need.
 ///
 /// It takes no memory.
-pub fn tag_at(front: &[u8]) -> u64
-    requires at_sound { EndsAtSound front.now }
-    ensures place { IsTagPlace front.now result }
+pub fn tag_at(prefix: &[u8]) -> u64
+    requires at_sound { EndsAtSound prefix.now }
+    ensures place { IsTagPlace prefix.now result }
+    ensures stated { result ≡ pointer prefix.now }
 {
-    long_at(front, POINTER_AT)
+    long_at(prefix, POINTER_AT)
 }
 
-/// Whether a file of `total` bytes that begins with `front` is accepted. `front` ends where the sound starts, and the
+/// Whether a file of `total` bytes that begins with `prefix` is accepted. `prefix` ends where the sound starts, and the
 /// rest is taken as zeros. The blocks that the channels need must lie in the file, and the pointer to the tag must be 0
-/// or lead to a place after them in the file. Which bytes follow `front` does not matter
+/// or lead to a place after them in the file. Which bytes follow `prefix` does not matter
 /// ([`crate::bytes_of_sound_do_not_matter`]).
 ///
 /// It takes no memory.
-pub fn closes(front: &[u8], total: u64) -> bool
-    requires at_sound { EndsAtSound front.now }
-    requires not_cut { length front.now ≤ total }
-    ensures { (result ≡ true) ↔ IsAccepted (front.now ++ replicate (total - length front.now) 0) }
+pub fn closes(prefix: &[u8], total: u64) -> bool
+    requires at_sound { EndsAtSound prefix.now }
+    requires not_cut { length prefix.now ≤ total }
+    ensures { (result ≡ true) ↔ IsAccepted (prefix.now ++ replicate (total - length prefix.now) 0) }
 {
-    match read_header(front) {
-        Ok(front) => check_ends(&front, total).is_ok(),
+    match read_header(prefix) {
+        Ok(prefix) => check_ends(&prefix, total).is_ok(),
         Err(_) => false,
     }
 }
 
 /// The description of the recording that a file holds, without reading its sound. The file has `total` bytes, begins
-/// with `front`, which ends where the sound starts, and has this tag ([`tag_at`]). Its other bytes do not matter: the
+/// with `prefix`, which ends where the sound starts, and has this tag ([`tag_at`]). Its other bytes do not matter: the
 /// description and the channels in its sound bytes make the recording that [`crate::read`] returns.
 ///
 /// Refusals, in this order, whatever the tag: `DataCut`, `BadPointer`. `Memory` may come in place of either.
 pub fn describe(
     alloc: Global,
-    front: &[u8],
+    prefix: &[u8],
     total: u64,
     tag: Vec<u8>,
 ) -> Result<Description, DsfFault>
-    requires at_sound { EndsAtSound front.now }
-    ensures told { Describes front.now total tag.items result }
-    ensures sound { IfOk result (λ made. (s : Sound) → sound_at front.now ≡ Found s → DescribesSound s made) }
+    requires at_sound { EndsAtSound prefix.now }
+    ensures stated { Describes prefix.now total tag.items result }
+    ensures sound { IfOk result (λ made. (s : Sound) → sound_at prefix.now ≡ Found s → DescribesSound s made) }
 {
-    let front = read_header(front)?;
-    check_ends(&front, total)?;
-    Ok(description_of(alloc, &front, tag)?)
+    let prefix = read_header(prefix)?;
+    check_ends(&prefix, total)?;
+    Ok(description_of(alloc, &prefix, tag)?)
 }
 
 /// The description of a file with this header and this tag.
 pub(crate) fn description_of(
     alloc: Global,
-    front: &Header,
+    prefix: &Header,
     tag: Vec<u8>,
 ) -> Result<Description, AllocError>
-    requires in_limits { IsSound front.now.sound }
-    ensures { IfOk result (λ made. made ≡ described_by front.now tag.items) }
+    requires in_limits { IsSound prefix.now.sound }
+    ensures { IfOk result (λ made. made ≡ described_by prefix.now tag.items) }
 {
-    let sound = front.sound;
+    let sound = prefix.sound;
     let ids = channel_ids(alloc, sound.channels)?;
-    let layout = layout(front.kind, sound.channels as u32);
+    let layout = layout(prefix.kind, sound.channels as u32);
     let metadata = Metadata {
         marks: Vec::new(alloc),
         others: Vec::new(alloc),

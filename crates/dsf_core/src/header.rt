@@ -65,18 +65,18 @@ pub(crate) fn read_header(file: &[u8]) -> Result<Header, DsfFault>
 /// The first fault after the header of a file of `total` bytes: the sound must end in the file, and the tag must follow
 /// the sound in it.
 #[tactic(auto, unfolding(crate::specs::Reading::ends_fit))]
-pub(crate) fn check_ends(front: &Header, total: u64) -> Result<(), DsfFault>
-    ensures { result ≡ ends_fit front.now total }
+pub(crate) fn check_ends(prefix: &Header, total: u64) -> Result<(), DsfFault>
+    ensures { result ≡ ends_fit prefix.now total }
 {
-    let start = front.sound.start as u64;
-    let size = front.sound.size as u64;
+    let start = prefix.sound.start as u64;
+    let size = prefix.sound.size as u64;
     if total < start || total - start < size {
         return Err(DsfFault::DataCut);
     }
-    if front.tag_at == 0 {
+    if prefix.tag_at == 0 {
         return Ok(());
     }
-    if front.tag_at < start + size || total < front.tag_at {
+    if prefix.tag_at < start + size || total < prefix.tag_at {
         return Err(DsfFault::BadPointer);
     }
     Ok(())

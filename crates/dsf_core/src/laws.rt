@@ -1,6 +1,6 @@
 //! How the words of the contracts are related. The functions do nothing: a caller's proof cites what they ensure.
 
-ghost use Rattle.dsf_core.specs.Laws.{FoundIsStated, OneRecording, SoundDoesNotMatter, SoundEndsFront, SoundHasHead, SoundIsStated};
+ghost use Rattle.dsf_core.specs.Laws.{FoundIsStated, HeaderEndsAtSound, OneRecording, SoundDoesNotMatter, SoundHasHead, SoundIsStated};
 
 /// A file holds at most one recording, in one order of bits.
 pub fn one_recording()
@@ -32,6 +32,6 @@ pub fn accepted_files_state_their_sound()
 
 /// If the first bytes of a file are cut where the sound starts, they describe the same sound: the bytes from there on
 /// are not needed.
-pub fn front_ends_at_sound()
-    ensures { SoundEndsFront }
+pub fn header_ends_at_sound()
+    ensures { HeaderEndsAtSound }
 {}

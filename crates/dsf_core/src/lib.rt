@@ -25,8 +25,8 @@
 //! - `Gives` (`specs/Steps.antt`): what a function returns of a reading if memory may run out.
 //! - `dsf_text r order` (`specs/Writing.antt`): the bytes of the file of a recording.
 //! - `head_text d order`: the bytes before the sound, for a description.
-//! - `IsLocated front answer`, `Describes front total tag answer` (`specs/Fronts.antt`): what every file is read to
-//!   that begins like this, or also has this length and tag. `IsTagPlace front place`: the place of their tag.
+//! - `IsLocated prefix answer`, `Describes prefix total tag answer` (`specs/Headers.antt`): what every file is read to
+//!   that begins like this, or also has this length and tag. `IsTagPlace prefix place`: the place of their tag.
 //! - `as_stored r` (`specs/ReadAgain.antt`): the recording without what a file does not store: with the IDs that
 //!   reading gives, and without marks and kept chunks.
 //!
@@ -61,7 +61,7 @@ pub use describing::{closes, describe, tag_at};
 pub use fault::DsfFault;
 pub use laws::{
     accepted_files_have_a_head, accepted_files_state_their_sound, bytes_of_sound_do_not_matter,
-    front_ends_at_sound, one_recording, what_is_stated_is_found,
+    header_ends_at_sound, one_recording, what_is_stated_is_found,
 };
 pub use locating::{Located, locate, sound_at};
 pub use outlines::outline;

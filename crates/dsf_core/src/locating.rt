@@ -5,7 +5,7 @@ ghost use Rattle.dsd_bits.specs.declared.blocks.BitOrder.{BitOrder};
 ghost use Rattle.dsd_bits.specs.Contents.{Content};
 ghost use Rattle.dsd_bits.specs.Sounds.{HasSound, IfFound, IfMore, IfRefused, IsSound, has_blocks};
 ghost use Rattle.dsf_core.specs.Files.{IsDsf};
-ghost use Rattle.dsf_core.specs.Fronts.{HoldsHead, IsAccepted, IsLocated, is_cut, located, sound_at, without_fault};
+ghost use Rattle.dsf_core.specs.Headers.{HoldsHead, IsAccepted, IsLocated, is_cut, located, sound_at, without_fault};
 
 use crate::fault::DsfFault;
 use crate::header::read_header;
@@ -28,24 +28,24 @@ pub enum Located {
 /// that begins with them.
 ///
 /// It takes no memory.
-pub fn locate(front: &[u8]) -> Located
-    ensures told { IsLocated front.now result }
+pub fn locate(prefix: &[u8]) -> Located
+    ensures stated { IsLocated prefix.now result }
     // In the order of refusals.
-    ensures exact { result ≡ located front.now }
+    ensures exact { result ≡ located prefix.now }
 {
-    answer(front)
+    answer(prefix)
 }
 
 // The same, in the order of refusals alone.
-#[tactic(auto, unfolding(crate::specs::Fronts::located))]
-fn answer(front: &[u8]) -> Located
-    ensures { result ≡ located front.now }
+#[tactic(auto, unfolding(crate::specs::Headers::located))]
+fn answer(prefix: &[u8]) -> Located
+    ensures { result ≡ located prefix.now }
 {
-    if front.len() < 4 {
+    if prefix.len() < 4 {
         return Located::More(DsfFault::NotDsf);
     }
-    match read_header(front) {
-        Ok(front) => Located::Found(front.sound),
+    match read_header(prefix) {
+        Ok(prefix) => Located::Found(prefix.sound),
         Err(fault) if is_cut(fault) => Located::More(fault),
         Err(fault) => Located::Refused(fault),
     }
@@ -68,19 +68,19 @@ fn is_cut(fault: DsfFault) -> bool
 ///   of its bits. The blocks that the channels need are the `size` bytes from `start` on.
 ///
 /// It takes no memory.
-pub fn sound_at(front: &[u8]) -> SoundAt
+pub fn sound_at(prefix: &[u8]) -> SoundAt
     ensures found { IfFound result (λ s. (rest : List ℕ) (r : Content) (order : BitOrder)
-        → IsDsf (front.now ++ rest) r order
-        → HasSound (front.now ++ rest) r s × (s.interleaving ≡ Interleaving.Blocks order)) }
+        → IsDsf (prefix.now ++ rest) r order
+        → HasSound (prefix.now ++ rest) r s × (s.interleaving ≡ Interleaving.Blocks order)) }
     ensures limits { IfFound result IsSound }
-    ensures within { IfFound result (λ s. s.start ≤ length front.now) }
+    ensures within { IfFound result (λ s. s.start ≤ length prefix.now) }
     ensures interleaving { IfFound result (λ s. has_blocks s.interleaving ≡ true) }
-    ensures refused { IfRefused result ((rest : List ℕ) → IsAccepted (front.now ++ rest) → ⊥) }
-    ensures more { IfMore result (HoldsHead front.now → ⊥) }
+    ensures refused { IfRefused result ((rest : List ℕ) → IsAccepted (prefix.now ++ rest) → ⊥) }
+    ensures more { IfMore result (HoldsHead prefix.now → ⊥) }
     // In the order of refusals.
-    ensures exact { result ≡ sound_at front.now }
+    ensures exact { result ≡ sound_at prefix.now }
 {
-    without_fault(locate(front))
+    without_fault(locate(prefix))
 }
 
 // The same without the faults.

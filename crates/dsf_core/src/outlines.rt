@@ -1,32 +1,30 @@
 //! What a file holds besides its bits, as a recording with empty channels.
 
-ghost use Rattle.std.specs.Prelude.{◌≤◌, IfOk, length};
-ghost use Rattle.dsf_core.specs.Fronts.{EndsAtSound, StatesOutline};
+ghost use Rattle.std.specs.Prelude.{◌≡◌, ◌++◌, List, ℕ, IfErr, IfOk, length};
+ghost use Rattle.dsf_core.specs.Headers.{EndsAtSound, IsOutline};
+ghost use Rattle.dsf_core.specs.Reading.{recording_of};
+ghost use Rattle.dsf_core.specs.Steps.{Fails};
 
 use crate::describing::describe;
 use crate::fault::DsfFault;
 use dsd_bits::Recording;
-use std::alloc::{AllocError, Global};
+use std::alloc::Global;
 
-/// What [`describe`] returns of a file, as the recording that it holds, but with empty channels. It is `None` if
-/// [`crate::read`] accepts no such file.
+/// What [`describe`] returns of a file, as the recording that it holds, but with empty channels; or the fault with
+/// which [`crate::read`] refuses each such file.
 ///
-/// The only refusal is out of memory.
+/// `Memory` may come in place of any of them.
 pub fn outline(
     alloc: Global,
-    front: &[u8],
+    prefix: &[u8],
     total: u64,
     tag: Vec<u8>,
-) -> Result<Option<Recording>, AllocError>
-    requires at_sound { EndsAtSound front.now }
-    requires not_cut { length front.now ≤ total }
-    ensures told { IfOk result (StatesOutline front.now total tag.items) }
+) -> Result<Recording, DsfFault>
+    requires at_sound { EndsAtSound prefix.now }
+    ensures stated { IfOk result (IsOutline prefix.now total tag.items) }
+    ensures fault { IfErr result (λ e. (rest : List ℕ) → length (prefix.now ++ rest) ≡ total
+        → Fails e (recording_of (prefix.now ++ rest))) }
 {
-    match describe(alloc, front, total, tag) {
-        Ok(description) => Ok(Some(Recording::silent(alloc, description)?)),
-        Err(fault) => match fault {
-            DsfFault::Memory => Err(AllocError),
-            _ => Ok(None),
-        },
-    }
+    let description = describe(alloc, prefix, total, tag)?;
+    Ok(Recording::silent(alloc, description)?)
 }

@@ -13,7 +13,7 @@ use dsd_bits::{BLOCK_BYTES, BitOrder, Description, Recording, blocks_size, push_
 use std::alloc::{AllocError, Global};
 
 // How many bytes come before the sound: two chunks, and the header of the third.
-const FRONT_SIZE: usize = FIRST_SIZE + FORMAT_SIZE + HEAD_SIZE;
+const PREFIX_SIZE: usize = FIRST_SIZE + FORMAT_SIZE + HEAD_SIZE;
 
 // What the "Reserved" field of the format chunk holds.
 const RESERVED: u32 = 0;
@@ -34,7 +34,7 @@ pub fn write(alloc: Global, recording: &Recording, order: BitOrder) -> Result<Ve
     let channels = recording.channels();
     let tag = description.tag();
     let size = blocks_size(channels.len(), recording.count());
-    let mut out = Vec::with_capacity(alloc, FRONT_SIZE + size + tag.len())?;
+    let mut out = Vec::with_capacity(alloc, PREFIX_SIZE + size + tag.len())?;
     push_head(&mut out, description, recording.count(), order)?;
     push_blocks(&mut out, channels, order)?;
     out.extend_from_slice(tag)?;
@@ -65,7 +65,7 @@ pub fn head_counted(
     requires in_limit { count ≤ most_bits }
     ensures text { IfOk result (λ head. head.items ≡ head_text (record description.now { count = count }) order) }
 {
-    let mut out = Vec::with_capacity(alloc, FRONT_SIZE)?;
+    let mut out = Vec::with_capacity(alloc, PREFIX_SIZE)?;
     push_head(&mut out, description, count, order)?;
     Ok(out)
 }
@@ -86,7 +86,7 @@ fn push_head(
     let tag_size = description.tag().len() as u64;
     push_first(
         out,
-        FRONT_SIZE as u64 + size + tag_size,
+        PREFIX_SIZE as u64 + size + tag_size,
         tag_place(tag_size, size),
     )?;
     push_format(
@@ -109,7 +109,7 @@ fn tag_place(tag_size: u64, size: u64) -> u64
     if tag_size == 0 {
         return 0;
     }
-    FRONT_SIZE as u64 + size
+    PREFIX_SIZE as u64 + size
 }
 
 // Appends the first chunk, with the size of the file.

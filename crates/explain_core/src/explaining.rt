@@ -1,31 +1,29 @@
 //! The line that explains what a command came to.
 
-use crate::cuts::{tell_cut, tell_parts};
-use crate::cutting::cutting_of;
-use crate::look::text_of;
-use crate::playing::{self, Played};
-use crate::projects::tell_project;
-use crate::recordings;
-use crate::seen::{Seen, see};
-use crate::system::tell_error;
-use crate::text::Named;
-use crate::unread::{tell_parent, tell_role, tell_unread};
-use crate::verdicts::{Judged, tell_verdict};
-use crate::words::{tell_form, tell_no_text, tell_words};
+ghost use Rattle.std.specs.Prelude.{◌≤◌, IfSome, string_len};
+
+use crate::cuts::explain_cut;
+use crate::files::{explain_error, text_of};
+use crate::line::{Line, Part};
+use crate::playing::{
+    explain_large_part, explain_parts, explain_play, explain_span, explain_table,
+};
+use crate::projects::explain_project;
+use crate::seen::{explain_file, is_recording};
+use crate::splices::cutting_of;
+use crate::tasks::{input_of, output_of, project_of};
+use crate::unread::{explain_unread, explain_unwritten};
+use crate::verdicts::explain_verdict;
+use crate::words::{explain_form, explain_no_text, explain_words};
 use cut_core::CutFault;
-use disk_core::{Failure, Step};
+use folder_core::Failure;
 use judge_core::Reason;
 use project_core::ProjectFault;
 use sound_core::StreamFault;
-use std::alloc::{AllocError, Global};
-use std::fmt::Write;
 use std::io::Error;
 use std::rt::{Env, Files};
 use transfer_core::{Fault, SpanFault};
 use words_core::{Task, task_of};
-
-// How a line ends that names a file and has nothing to say of it.
-const NAMED: &str = ": ";
 
 /// What a command came to, as far as there is something to explain.
 #[derive(Clone, Copy)]
@@ -48,6 +46,8 @@ pub enum Ended {
     UnknownFormName,
     /// A master was rejected for this reason.
     Rejected(Reason),
+    /// A line of a list of sums is none of sums, the first being 1, or for 0 the list has no line or is no text.
+    ListRefused(usize),
 }
 
 /// The line that explains what a command came to, without its end: which file, key or word it was, what was seen or
@@ -59,49 +59,47 @@ pub fn explain<R: Files + Env + AllocGlobal>(
     rt: &R,
     words: &[String],
     ended: Ended,
-) -> Option<String> {
-    let mut text = String::new(rt.alloc());
-    match tell(&mut text, rt, words, ended) {
-        Ok(()) if !text.is_empty() && !text.as_str().ends_with(NAMED) => Some(text),
-        _ => None,
-    }
+) -> Option<String>
+    ensures { IfSome result (λ line. 1 ≤ string_len line) }
+{
+    let mut line = Line::new(rt.alloc());
+    explain_ended(&mut line, rt, words, ended);
+    line.end()
 }
 
-fn tell<R: Files + Env + AllocGlobal>(
-    text: &mut String,
+fn explain_ended<R: Files + Env + AllocGlobal>(
+    line: &mut Line,
     rt: &R,
     words: &[String],
     ended: Ended,
-) -> Result<(), AllocError> {
+) {
     match ended {
-        Ended::WrongWords => return tell_words(text, words),
-        Ended::NoText => return tell_no_text(text, rt),
-        Ended::UnknownFormName => return tell_form(text, words),
+        Ended::WrongWords => return explain_words(line, words),
+        Ended::NoText => return explain_no_text(line, rt),
+        Ended::UnknownFormName => return explain_form(line, words),
         Ended::Untold(error) => {
-            text.push_str("standard output did not take the answer: ")?;
-            return tell_error(text, rt.alloc(), &error);
+            line.say("standard output did not take the answer: ", &[]);
+            return explain_error(line, &error);
         }
         _ => {}
     }
-    match task_of(rt.alloc(), words) {
-        Ok(task) => tell_task(text, rt, task, ended),
-        Err(_) => Ok(()),
+    if let Ok(task) = task_of(line.alloc(), words) {
+        explain_task(line, rt, task, ended);
     }
 }
 
-fn tell_task<R: Files + Env + AllocGlobal>(
-    text: &mut String,
-    rt: &R,
-    task: Task,
-    ended: Ended,
-) -> Result<(), AllocError> {
+fn explain_task<R: Files + Env + AllocGlobal>(line: &mut Line, rt: &R, task: Task, ended: Ended) {
     match (ended, task) {
-        (Ended::Fault(fault), _) => tell_fault(text, rt, task, fault),
+        (Ended::Fault(fault), _) => explain_fault(line, rt, task, fault),
         (Ended::NoPart(fault), Task::PlayPart { project, input, .. }) => {
-            playing::tell_span(text, rt, rt.alloc(), Played { project, input }, fault)
+            explain_span(line, rt, (project, input), fault)
         }
-        (Ended::ReadFailed, _) => tell_unread(text, rt, task),
-        (Ended::WriteFailed(Some(failure)), _) => tell_unwritten(text, rt, task, failure),
+        (Ended::ReadFailed, _) => explain_unread(line, rt, task),
+        (Ended::WriteFailed(Some(failure)), _) => {
+            if let Some(file) = output_of(task, failure.step) {
+                explain_unwritten(line, rt, file, &failure.error);
+            }
+        }
         (
             Ended::Rejected(reason),
             Task::Check {
@@ -109,155 +107,63 @@ fn tell_task<R: Files + Env + AllocGlobal>(
                 master,
                 cert,
             },
-        ) => {
-            let judged = Judged {
-                project,
-                master,
-                cert,
-            };
-            tell_verdict(text, rt, rt.alloc(), judged, reason)
-        }
-        _ => Ok(()),
+        ) => { explain_verdict(line, rt, [project, master, cert], reason) }
+        _ => {}
     }
 }
 
-// Adds which file could not be written, and why.
-fn tell_unwritten<R: Files + AllocGlobal>(
-    text: &mut String,
-    rt: &R,
-    task: Task,
-    failure: Failure,
-) -> Result<(), AllocError> {
-    let (name, word) = match task {
-        Task::Play { output, .. } | Task::PlayPart { output, .. } | Task::Convert { output, .. } =>
-            (output, "OUT"),
-        Task::Edit { master, cert, .. } => match failure.step {
-            Step::First => (master, "MASTER"),
-            Step::Second => (cert, "CERT"),
-        },
-        Task::Check { .. } | Task::Info { .. } => return Ok(()),
-    };
-    tell_role(text, name, word)?;
-    tell_error(text, rt.alloc(), &failure.error)?;
-    tell_parent(text, rt, name, &failure.error)
-}
-
-fn tell_fault<R: Files + Env + AllocGlobal>(
-    text: &mut String,
-    rt: &R,
-    task: Task,
-    fault: Fault,
-) -> Result<(), AllocError> {
-    match (fault, task) {
-        (Fault::Memory, _) => tell_memory(text, task),
-        (Fault::FileUnread(why), Task::Info { file }) => {
-            tell_role(text, file, "FILE")?;
-            recordings::tell_unread(text, rt.alloc(), why, &see(rt, file))
+fn explain_fault<R: Files>(line: &mut Line, rt: &R, task: Task, fault: Fault) {
+    match (fault, task, input_of(task), project_of(task)) {
+        (Fault::Memory, Task::Edit { .. } | Task::Check { .. }, _, _) => line.say(CUT_MEMORY, &[]),
+        (Fault::Memory, _, _, _) => line.say(MEMORY, &[]),
+        (Fault::FileUnread(why), _, Some((name, word)), _) => {
+            line.say("{0}: ", &[Part::Named(name, word)]);
+            explain_file(line, rt, name, why);
         }
-        (Fault::FileUnread(why), Task::Convert { input, .. } | Task::PlayPart { input, .. }) => {
-            tell_role(text, input, "IN")?;
-            recordings::tell_unread(text, rt.alloc(), why, &see(rt, input))
+        (Fault::NotWholeBytes, _, Some((input, _)), _) => explain_parts(line, rt, input),
+        (Fault::Stream(StreamFault::TooLarge), Task::PlayPart { input, .. }, _, _) => {
+            explain_large_part(line, input)
         }
-        (Fault::NotWholeBytes, Task::Convert { input, .. }) => {
-            playing::tell_parts(text, rt, input)
+        (Fault::Stream(fault), _, Some((input, _)), Some(project)) => {
+            explain_play(line, rt, (project, input), fault)
         }
-        (Fault::Stream(StreamFault::TooLarge), Task::PlayPart { input, .. }) => {
-            playing::tell_large_part(text, input)
-        }
-        (
-            Fault::Stream(fault),
-            Task::Play { project, input, .. } | Task::PlayPart { project, input, .. },
-        ) => tell_played(text, rt, Played { project, input }, fault),
-        (
-            Fault::Project(fault),
-            Task::Play { project, .. }
-            | Task::PlayPart { project, .. }
-            | Task::Edit { project, .. }
-            | Task::Check { project, .. },
-        ) => tell_text(text, rt, project, fault),
-        (
-            Fault::NoDecimation | Fault::NoSplice,
-            Task::Play { project, .. }
-            | Task::PlayPart { project, .. }
-            | Task::Edit { project, .. }
-            | Task::Check { project, .. },
-        ) => playing::tell_table(text, rt, rt.alloc(), project),
-        (Fault::Cut(fault), Task::Edit { project, .. } | Task::Check { project, .. }) => {
-            tell_cutting(text, rt, project, fault)
-        }
-        (Fault::NotWholeBytes, Task::Edit { project, .. }) => {
-            tell_cutting(text, rt, project, CutFault::NotWholeBytes)
-        }
-        _ => Ok(()),
+        (_, _, _, Some(project)) => explain_in_project(line, rt, project, fault),
+        _ => {}
     }
 }
 
-fn tell_played<R: Files + Env + AllocGlobal>(
-    text: &mut String,
-    rt: &R,
-    played: Played,
-    fault: StreamFault,
-) -> Result<(), AllocError> {
+fn explain_in_project<R: Files>(line: &mut Line, rt: &R, project: &str, fault: Fault) {
     match fault {
-        StreamFault::FileRefused => playing::tell_refused(text, rt, rt.alloc(), played.input),
-        StreamFault::RateNotDivided => playing::tell_rate(text, rt, rt.alloc(), played),
-        StreamFault::TooLarge => playing::tell_large(text, rt, rt.alloc(), played),
-        StreamFault::TurnLimit => {
-            write!(
-                text,
-                "{} has no end: name a file",
-                Named(played.input, "IN")
-            )
-        }
-        _ => Ok(()),
+        Fault::Project(fault) => explain_text(line, rt, project, fault),
+        Fault::NoDecimation | Fault::NoSplice => explain_table(line, rt, project),
+        Fault::Cut(fault) => explain_cutting(line, rt, project, fault),
+        Fault::NotWholeBytes => explain_cutting(line, rt, project, CutFault::NotWholeBytes),
+        _ => {}
     }
 }
 
 // Adds why a project text is refused. A recording in its place is named as such.
-fn tell_text<R: Files + AllocGlobal>(
-    text: &mut String,
-    rt: &R,
-    project: &str,
-    fault: ProjectFault,
-) -> Result<(), AllocError> {
-    tell_role(text, project, "PROJECT")?;
-    match see(rt, project) {
-        Seen::Dsdiff(_) | Seen::Dsf(_) => {
-            return text.push_str("it is a recording; PROJECT comes before the recordings");
-        }
-        _ => {}
-    }
-    match text_of(rt, rt.alloc(), project) {
-        Some(source) => tell_project(text, rt.alloc(), &source, fault),
-        None => Ok(()),
+fn explain_text<R: Files>(line: &mut Line, rt: &R, project: &str, fault: ProjectFault) {
+    line.say("{0}: ", &[Part::Named(project, "PROJECT")]);
+    if is_recording(rt, project) {
+        line.say(RECORDING, &[]);
+    } else if let Some(source) = text_of(rt, line.alloc(), project) {
+        explain_project(line, &source, fault);
     }
 }
 
-fn tell_cutting<R: Files + AllocGlobal>(
-    text: &mut String,
-    rt: &R,
-    project: &str,
-    fault: CutFault,
-) -> Result<(), AllocError> {
-    let Some(cutting) = cutting_of(rt, rt.alloc(), project) else {
-        return Ok(());
-    };
-    tell_role(text, project, "PROJECT")?;
-    match fault {
-        CutFault::NotWholeBytes => tell_parts(text, &cutting),
-        _ => tell_cut(text, rt, rt.alloc(), &cutting, fault),
+fn explain_cutting<R: Files>(line: &mut Line, rt: &R, project: &str, fault: CutFault) {
+    if let Some(cutting) = cutting_of(rt, line.alloc(), project) {
+        line.say("{0}: ", &[Part::Named(project, "PROJECT")]);
+        explain_cut(line, rt, &cutting, fault);
     }
 }
 
-// Adds what a command holds.
-fn tell_memory(text: &mut String, task: Task) -> Result<(), AllocError> {
-    text.push_str(match task {
-        Task::Info { .. } | Task::Convert { .. } | Task::Play { .. } | Task::PlayPart { .. } => {
-            "what surrounds the sound is held whole, and a file of fewer than 2 MiB: "
-        }
-        Task::Edit { .. } | Task::Check { .. } => {
-            "what is cut of the takes is held, about as many bytes as the master has: "
-        }
-    })?;
-    text.push_str("free some memory, or use a larger machine")
-}
+const RECORDING: &str = "it is a recording; PROJECT comes before the recordings";
+
+// What a command holds.
+const MEMORY: &str = "what surrounds the sound is held whole, and a file of fewer than 2 MiB: \
+                      free some memory, or use a larger machine";
+
+const CUT_MEMORY: &str = "what is cut of the takes is held, about as many bytes as the master has: \
+                          free some memory, or use a larger machine";

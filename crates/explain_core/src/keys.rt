@@ -1,41 +1,61 @@
 //! The keys of a project text: in which table each stands, and what its value has to be.
 
-use crate::places::Table;
 use project_core::Key;
 use toml::Value;
 
-/// The keys of the document.
-pub(crate) const DOCUMENT: [&str; 2] = ["decimate", "splice"];
+/// A table of a project text.
+#[derive(Clone, Copy, PartialEq, Eq)]
+pub(crate) enum Table {
+    /// The whole document.
+    Document,
+    /// `decimate`
+    Decimate,
+    /// `splice`
+    Splice,
+    /// One of the cues.
+    Cue,
+}
 
-/// The keys of the table `decimate`.
-pub(crate) const DECIMATE: [&str; 5] = ["taps", "factor", "delay", "shift", "width"];
+impl Table {
+    /// The line by which it begins.
+    pub(crate) fn header(self) -> &'static str {
+        match self {
+            Table::Document => "",
+            Table::Decimate => "[decimate]",
+            Table::Splice => "[splice]",
+            Table::Cue => "[[splice.cue]]",
+        }
+    }
 
-/// The keys of the table `splice`.
-pub(crate) const SPLICE: [&str; 3] = ["weights", "takes", "cue"];
+    /// Its name for messages.
+    pub(crate) fn name(self) -> &'static str {
+        match self {
+            Table::Document => "the document",
+            Table::Decimate => "the table \"decimate\"",
+            Table::Splice => "the table \"splice\"",
+            Table::Cue => "a cue",
+        }
+    }
 
-/// The keys of a cue.
-pub(crate) const CUE: [&str; 7] = ["take", "start", "stop", "bridge", "target", "line", "title"];
-
-const MOST_PLACE: i64 = 1 << 36;
-
-/// What a key may belong to. The number of a cue is that of the first.
-pub(crate) fn table_of(key: Key) -> Table {
-    match key {
-        Key::Decimate | Key::Splice => Table::Document,
-        Key::Taps | Key::Factor | Key::Delay | Key::Shift | Key::Width => Table::Decimate,
-        Key::Weights | Key::Takes | Key::Cue => Table::Splice,
-        _ => Table::Cue(0),
+    /// Its keys.
+    pub(crate) fn keys(self) -> &'static [&'static str] {
+        match self {
+            Table::Document => &["decimate", "splice"],
+            Table::Decimate => &["taps", "factor", "delay", "shift", "width"],
+            Table::Splice => &["weights", "takes", "cue"],
+            Table::Cue => &["take", "start", "stop", "bridge", "target", "line", "title"],
+        }
     }
 }
 
-/// The name of a table for messages, that of a cue with no number.
-pub(crate) fn table_name(table: Table) -> &'static str {
-    match table {
-        Table::Document => "the document",
-        Table::Decimate => "the table \"decimate\"",
-        Table::Splice => "the table \"splice\"",
-        Table::Cue(_) => "a cue",
+/// The table to which a key of this name belongs.
+pub(crate) fn home_of(name: &str) -> Option<Table> {
+    for table in [Table::Document, Table::Decimate, Table::Splice, Table::Cue] {
+        if table.keys().contains(&name) {
+            return Some(table);
+        }
     }
+    None
 }
 
 /// What the value at a key has to be.
@@ -50,18 +70,12 @@ pub(crate) fn wanted(key: Key) -> &'static str {
         Key::Weights => "2 to 12 whole numbers, with an absolute sum of at most 4096",
         Key::Takes => "1 to 16 names, each in quotation marks",
         Key::Cue => "1 to 256 tables [[splice.cue]]",
-        _ => wanted_of_cue(key),
-    }
-}
-
-fn wanted_of_cue(key: Key) -> &'static str {
-    match key {
         Key::Take => "the number of a take, counted from 0",
+        Key::Start | Key::Stop => "a whole number from 0 to 68,719,476,736",
         Key::Bridge => "a whole number from 0 to 4096",
         Key::Target => "\"fade\" or \"line\"",
         Key::Line => "two whole numbers from -4096 to 4096, and only with target = \"line\"",
         Key::Title => "a text of at most 255 bytes",
-        _ => "a whole number from 0 to 68,719,476,736",
     }
 }
 
@@ -81,8 +95,7 @@ pub(crate) fn is_wrong(cue: &toml::Table, key: Key, wrong: Wrong) -> bool {
     match (wrong, cue.get(key.name())) {
         (Wrong::Missing, None) => key != Key::Line || is_line(cue),
         (Wrong::Kind, Some(value)) => !is_right_kind(key, value),
-        (Wrong::Limit, Some(value)) if key == Key::Line => !is_line(cue) || !is_ends(value),
-        (Wrong::Limit, Some(value)) => !is_within(key, value),
+        (Wrong::Limit, Some(value)) => !is_within(cue, key, value),
         _ => false,
     }
 }
@@ -95,36 +108,42 @@ fn is_line(cue: &toml::Table) -> bool {
     }
 }
 
-// Whether these are the two ends of a line.
-fn is_ends(value: &Value) -> bool {
-    match value.as_array() {
-        Some(ends) => ends.len() == 2 && ends.iter().all(is_end),
-        None => false,
-    }
-}
-
-fn is_end(value: &Value) -> bool {
-    match value.as_integer() {
-        Some(end) => (-4096..=4096).contains(&end),
-        None => false,
-    }
-}
-
 fn is_right_kind(key: Key, value: &Value) -> bool {
     match (key, value.as_array()) {
         (Key::Target | Key::Title, _) => value.is_str(),
-        (Key::Line, Some(values)) => values.iter().all(Value::is_integer),
+        (Key::Line, Some(values)) => are_from(values, i64::MIN, i64::MAX),
         (Key::Line, None) => false,
         _ => value.is_integer(),
     }
 }
 
-fn is_within(key: Key, value: &Value) -> bool {
-    match (key, value.as_integer(), value.as_str()) {
-        (Key::Bridge, Some(number), _) => (0..=4096).contains(&number),
-        (Key::Start | Key::Stop, Some(number), _) => (0..=MOST_PLACE).contains(&number),
+fn is_within(cue: &toml::Table, key: Key, value: &Value) -> bool {
+    match (key, value.as_array(), value.as_str()) {
+        (Key::Bridge, _, _) => is_from(value, 0, 4096),
+        (Key::Start | Key::Stop, _, _) => is_from(value, 0, 1 << 36),
+        (Key::Line, Some(ends), _) => {
+            is_line(cue) && ends.len() == 2 && are_from(ends, -4096, 4096)
+        }
+        (Key::Line, None, _) => false,
         (Key::Target, _, Some(name)) => name == "fade" || name == "line",
         (Key::Title, _, Some(title)) => title.len() <= 255,
         _ => true,
+    }
+}
+
+// Whether all of these are whole numbers within limits.
+fn are_from(values: &[Value], least: i64, most: i64) -> bool {
+    for value in values {
+        if !is_from(value, least, most) {
+            return false;
+        }
+    }
+    true
+}
+
+fn is_from(value: &Value, least: i64, most: i64) -> bool {
+    match value.as_integer() {
+        Some(number) => least <= number && number <= most,
+        None => false,
     }
 }

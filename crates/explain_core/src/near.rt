@@ -1,18 +1,26 @@
-//! What a word that is not known was meant to be.
+//! What a word that is not known was meant to be, and what it may be.
+
+use crate::line::{Line, Part};
 
 /// The first of these names that the word is with one slip: a letter that is wrong, missing or added, two letters
 /// exchanged, or capital letters.
-pub(crate) fn nearest<'a>(word: &str, names: &[&'a str]) -> Option<&'a str> {
+pub(crate) fn nearest(word: &str, names: &[&'static str]) -> Option<&'static str> {
     for name in names {
-        if is_near(word, name) {
+        if word.eq_ignore_ascii_case(name) || is_slip(word.as_bytes(), name.as_bytes()) {
             return Some(*name);
         }
     }
     None
 }
 
-fn is_near(word: &str, name: &str) -> bool {
-    word.eq_ignore_ascii_case(name) || is_slip(word.as_bytes(), name.as_bytes())
+/// Adds names, with commas between them.
+pub(crate) fn say_list(line: &mut Line, names: &[&'static str]) {
+    for (number, name) in names.iter().enumerate() {
+        line.say(
+            if number > 0 { ", {0}" } else { "{0}" },
+            &[Part::Text(name)],
+        );
+    }
 }
 
 // What both begin with, and then what both end with, is left out. So little may be left that it is one slip.
@@ -36,16 +44,23 @@ fn is_one(word: &[u8], name: &[u8]) -> bool {
 }
 
 fn common_front(word: &[u8], name: &[u8]) -> usize {
-    word.iter()
-        .zip(name.iter())
-        .take_while(|(a, b)| **a == **b)
-        .count()
+    let mut count = 0usize;
+    for (a, b) in word.iter().zip(name.iter()) {
+        if *a != *b {
+            break;
+        }
+        count = count.saturating_add(1);
+    }
+    count
 }
 
 fn common_back(word: &[u8], name: &[u8]) -> usize {
-    word.iter()
-        .rev()
-        .zip(name.iter().rev())
-        .take_while(|(a, b)| **a == **b)
-        .count()
+    let mut count = 0usize;
+    for (a, b) in word.iter().rev().zip(name.iter().rev()) {
+        if *a != *b {
+            break;
+        }
+        count = count.saturating_add(1);
+    }
+    count
 }

@@ -1,44 +1,14 @@
-//! Where keys stand in a project text, in lines counted from 1.
+//! Where tables and keys stand in a project text, in lines counted from 1.
 
-/// A table of a project text.
-#[derive(Clone, Copy)]
-pub(crate) enum Table {
-    /// The whole document.
-    Document,
-    /// `decimate`
-    Decimate,
-    /// `splice`
-    Splice,
-    /// The cue of this number, counted from 0.
-    Cue(usize),
-}
+use crate::keys::Table;
 
-const DECIMATE: &str = "[decimate]";
-
-const SPLICE: &str = "[splice]";
-
-const CUE: &str = "[[splice.cue]]";
-
-impl Table {
-    // The line by which it begins, and how many such lines are before that.
-    fn header(self) -> (&'static str, usize) {
-        match self {
-            Table::Document => ("", 0),
-            Table::Decimate => (DECIMATE, 0),
-            Table::Splice => (SPLICE, 0),
-            Table::Cue(number) => (CUE, number),
-        }
-    }
-}
-
-/// The line by which a table begins, if it has one.
-pub(crate) fn line_of(text: &str, table: Table) -> Option<usize> {
-    let (header, before) = table.header();
+/// The line by which a table begins, if it has one. Of a cue it is the one of this number; other tables have number 0.
+pub(crate) fn line_of(text: &str, table: Table, number: usize) -> Option<usize> {
     let mut seen = 0usize;
-    for (number, line) in text.lines().enumerate() {
-        if is_header(line, header) {
-            if seen == before {
-                return Some(number.saturating_add(1));
+    for (place, line) in text.lines().enumerate() {
+        if is_header(line, table.header()) {
+            if seen == number {
+                return Some(place.saturating_add(1));
             }
             seen = seen.saturating_add(1);
         }
@@ -48,18 +18,28 @@ pub(crate) fn line_of(text: &str, table: Table) -> Option<usize> {
 
 /// The line of a key in a table. If the table begins by no line of its own, it is the first line that has the key, and
 /// none for a cue.
-pub(crate) fn key_line(text: &str, table: Table, key: &str) -> Option<usize> {
-    let first = match (line_of(text, table), table) {
-        (Some(line), _) => line,
-        (None, Table::Cue(_)) => return None,
-        (None, _) => 0,
-    };
-    for (number, line) in text.lines().enumerate().skip(first) {
+pub(crate) fn key_line(text: &str, table: Table, number: usize, key: &str) -> Option<usize> {
+    let first = line_of(text, table, number).unwrap_or(0);
+    if first == 0 && table == Table::Cue {
+        return None;
+    }
+    for (place, line) in text.lines().enumerate().skip(first) {
         if first > 0 && is_any_header(line) {
             return None;
         }
         if has_key(line, key) {
-            return Some(number.saturating_add(1));
+            return Some(place.saturating_add(1));
+        }
+    }
+    None
+}
+
+/// The line by which a table of this name begins that isn't known.
+pub(crate) fn line_of_unknown(text: &str, name: &str) -> Option<usize> {
+    for (place, line) in text.lines().enumerate() {
+        let inner = line.trim_start().trim_start_matches('[').trim_start();
+        if is_any_header(line) && inner.starts_with(name) {
+            return Some(place.saturating_add(1));
         }
     }
     None
@@ -67,17 +47,21 @@ pub(crate) fn key_line(text: &str, table: Table, key: &str) -> Option<usize> {
 
 /// The line in which a byte of a text stands.
 pub(crate) fn line_at(text: &[u8], place: usize) -> usize {
-    let ends = text
-        .iter()
-        .take(place)
-        .filter(|byte| **byte == b'\n')
-        .count();
-    ends.saturating_add(1)
+    let mut line = 1usize;
+    for byte in text.iter().take(place) {
+        if *byte == b'\n' {
+            line = line.saturating_add(1);
+        }
+    }
+    line
 }
 
 // A line without what is said about it.
 fn code_of(line: &str) -> &str {
-    line.split_once('#').map_or(line, |(code, _)| code)
+    match line.split_once('#') {
+        Some((code, _)) => code,
+        None => line,
+    }
 }
 
 fn is_any_header(line: &str) -> bool {
@@ -86,32 +70,36 @@ fn is_any_header(line: &str) -> bool {
 
 // Whether a line is this header, with blanks between its parts or without.
 fn is_header(line: &str, header: &str) -> bool {
-    is_any_header(line)
-        && code_of(line)
-            .chars()
-            .filter(|letter| !letter.is_whitespace())
-            .eq(header.chars())
+    let mut rest = header.as_bytes();
+    for byte in code_of(line).as_bytes() {
+        match rest {
+            _ if byte.is_ascii_whitespace() => {}
+            [first, behind @ ..] if *first == *byte => rest = behind,
+            _ => return false,
+        }
+    }
+    is_any_header(line) && rest.is_empty()
 }
 
 // Whether a line gives a value to a key, alone or beside others.
 fn has_key(line: &str, key: &str) -> bool {
-    for part in code_of(line).split(is_between) {
-        if let Some((name, _)) = part.split_once('=') {
-            if last_of(name) == key {
-                return true;
+    for parts in code_of(line).split(',') {
+        for part in parts.split('{') {
+            if let Some((name, _)) = part.split_once('=') {
+                if last_of(name) == key {
+                    return true;
+                }
             }
         }
     }
     false
 }
 
-fn is_between(letter: char) -> bool {
-    letter == ',' || letter == '{'
-}
-
 // The last part of a key that may be written with those of its tables.
 fn last_of(name: &str) -> &str {
-    let name = name.trim();
-    let last = name.rsplit_once('.').map_or(name, |(_, last)| last);
+    let last = match name.rsplit_once('.') {
+        Some((_, last)) => last,
+        None => name,
+    };
     last.trim().trim_matches('"')
 }

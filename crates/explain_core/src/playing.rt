@@ -1,19 +1,17 @@
 //! Why a recording is not played or converted: the numbers, and what would fit.
 
-use crate::first_faults::first_fault;
-use crate::look::text_of;
-use crate::recordings::tell_unread;
-use crate::seen::{see, shape_of};
-use crate::text::{Amount, Grouped, Named, Safe};
+use crate::files::text_of;
+use crate::line::{Line, Part};
+use crate::seen::{Shape, explain_seen, shape_of};
 use project_core::read;
-use std::alloc::{AllocError, Global};
-use std::fmt::Write;
+use sound_core::StreamFault;
+use std::alloc::Global;
 use std::fs;
 use std::rt::Files;
 use transfer_core::SpanFault;
 
 // What the names of ready filters say before `-to-`, for each rate that they are made for.
-const FRONTS: [(u64, &str); 6] = [
+const HEADERS: [(u64, &str); 6] = [
     (2_822_400, "dsd64"),
     (5_644_800, "dsd128"),
     (11_289_600, "dsd256"),
@@ -22,104 +20,93 @@ const FRONTS: [(u64, &str); 6] = [
     (6_144_000, "dsd6144"),
 ];
 
-const MOST_WAVE: u64 = 0xFFFF_FFFF;
+/// The project and the input of a command that plays.
+pub(crate) type Played<'a> = (&'a str, &'a str);
 
-/// The files of a command that plays.
+// What a project has: the factor and the width of its filter, or 0 for each, and whether it has a splice.
 #[derive(Clone, Copy)]
-pub(crate) struct Played<'a> {
-    pub(crate) project: &'a str,
-    pub(crate) input: &'a str,
-}
-
-// What a filter makes of a recording.
-#[derive(Clone, Copy)]
-struct Decimation {
+struct Tables {
     factor: u64,
     width: u64,
+    has_splice: bool,
 }
 
-fn decimation_of<R: Files>(rt: &R, alloc: Global, name: &str) -> Option<Decimation> {
-    let source = text_of(rt, alloc, name)?;
-    decimation_in(alloc, &source)
+fn tables_of<R: Files>(rt: &R, alloc: Global, name: &str) -> Option<Tables> {
+    tables_in(alloc, &text_of(rt, alloc, name)?)
 }
 
-fn decimation_in(alloc: Global, source: &[u8]) -> Option<Decimation> {
-    match read(alloc, source) {
-        Ok(project) => {
-            let taps = project.decimate.as_ref()?;
-            Some(Decimation {
-                factor: u64::from(taps.factor()),
-                width: u64::from(taps.width()),
-            })
-        }
-        Err(_) => None,
-    }
-}
-
-/// Adds why the input of `play` is no recording that can be read.
-pub(crate) fn tell_refused<R: Files>(
-    text: &mut String,
-    rt: &R,
-    alloc: Global,
-    input: &str,
-) -> Result<(), AllocError> {
-    write!(text, "{}: ", Named(input, "IN"))?;
-    let seen = see(rt, input);
-    match first_fault(&seen) {
-        Some(fault) => tell_unread(text, alloc, fault, &seen),
-        None => text.push_str("dsdarc info of it says why"),
-    }
-}
-
-/// Adds why the filter does not fit, and which one does.
-pub(crate) fn tell_rate<R: Files>(
-    text: &mut String,
-    rt: &R,
-    alloc: Global,
-    played: Played,
-) -> Result<(), AllocError> {
-    let (Some(shape), Some(filter)) = (
-        shape_of(rt, played.input),
-        decimation_of(rt, alloc, played.project),
-    ) else {
-        return Ok(());
+fn tables_in(alloc: Global, source: &[u8]) -> Option<Tables> {
+    let Ok(project) = read(alloc, source) else {
+        return None;
     };
-    let (rate, factor) = (Grouped(shape.rate), filter.factor);
-    write!(text, "{} has {rate} Hz, ", Named(played.input, "IN"))?;
-    write!(
-        text,
-        "which the factor {factor} of {} does not divide: ",
-        Safe(played.project)
-    )?;
-    match ready(rt, alloc, shape.rate, played.project)? {
-        Some(path) => write!(text, "{} fits", Safe(path.as_str())),
-        None => text.push_str("filters/pick prints the filter that fits a file"),
+    let (factor, width) = match &project.decimate {
+        Some(taps) => (u64::from(taps.factor()), u64::from(taps.width())),
+        None => (0, 0),
+    };
+    Some(Tables {
+        factor,
+        width,
+        has_splice: project.splice.is_some(),
+    })
+}
+
+// What is played, and the filter.
+fn both<R: Files>(rt: &R, alloc: Global, played: Played) -> Option<(Shape, Tables)> {
+    match (shape_of(rt, played.1), tables_of(rt, alloc, played.0)) {
+        (Some(shape), Some(tables)) if tables.factor > 0 => Some((shape, tables)),
+        _ => None,
+    }
+}
+
+/// Adds why a recording is not played.
+pub(crate) fn explain_play<R: Files>(line: &mut Line, rt: &R, played: Played, fault: StreamFault) {
+    let input = Part::Named(played.1, "IN");
+    match fault {
+        StreamFault::FileRefused => {
+            line.say("{0}: ", &[input]);
+            explain_seen(line, rt, played.1, "dsdarc info of it says why");
+        }
+        StreamFault::RateNotDivided => explain_rate(line, rt, played),
+        StreamFault::TooLarge => explain_large(line, rt, played),
+        StreamFault::TurnLimit => line.say("{0} has no end: name a file", &[input]),
+        _ => {}
+    }
+}
+
+// Adds why the filter does not fit, and which one does.
+fn explain_rate<R: Files>(line: &mut Line, rt: &R, played: Played) {
+    let Some((shape, tables)) = both(rt, line.alloc(), played) else {
+        return;
+    };
+    let (input, rate) = (Part::Named(played.1, "IN"), Part::Count(shape.rate));
+    let (factor, project) = (Part::Number(tables.factor), Part::Text(played.0));
+    line.say(RATE, &[input, rate, factor, project]);
+    match ready(rt, line.alloc(), shape.rate, played.0) {
+        Some(path) => line.say("{0} fits", &[Part::Text(path.as_str())]),
+        None => line.say("filters/pick prints the filter that fits a file", &[]),
     }
 }
 
 // The ready filter for a rate that stands beside another and makes the same of its recordings.
-fn ready<R: Files>(
-    rt: &R,
-    alloc: Global,
-    rate: u64,
-    project: &str,
-) -> Result<Option<String>, AllocError> {
+fn ready<R: Files>(rt: &R, alloc: Global, rate: u64, project: &str) -> Option<String> {
     let (folder, name) = project.rsplit_once('/').unwrap_or((".", project));
-    let Some((_, back)) = name.split_once("-to-") else {
-        return Ok(None);
-    };
-    let Some(front) = front_of(rate) else {
-        return Ok(None);
-    };
-    let path = format!(in alloc; "{folder}/{front}-to-{back}")?;
-    match fs::metadata(rt, path.as_str()) {
-        Ok(found) if found.is_file() => Ok(Some(path)),
-        _ => Ok(None),
+    let (_, back) = name.split_once("-to-")?;
+    let front = prefix_of(rate)?;
+    match format!(in alloc; "{folder}/{front}-to-{back}") {
+        Ok(path) if is_file(rt, path.as_str()) => Some(path),
+        _ => None,
     }
 }
 
-fn front_of(rate: u64) -> Option<&'static str> {
-    for (each, front) in FRONTS {
+fn is_file<R: Files>(rt: &R, path: &str) -> bool {
+    match fs::metadata(rt, path) {
+        Ok(found) => found.is_file(),
+        Err(_) => false,
+    }
+}
+
+fn prefix_of(rate: u64) -> Option<&'static str> {
+    for (each, front) in HEADERS {
         if each == rate {
             return Some(front);
         }
@@ -127,143 +114,82 @@ fn front_of(rate: u64) -> Option<&'static str> {
     None
 }
 
-/// Adds how large the WAVE file would be.
-pub(crate) fn tell_large<R: Files>(
-    text: &mut String,
-    rt: &R,
-    alloc: Global,
-    played: Played,
-) -> Result<(), AllocError> {
-    let (Some(shape), Some(filter)) = (
-        shape_of(rt, played.input),
-        decimation_of(rt, alloc, played.project),
-    ) else {
-        return Ok(());
+// Adds how large the WAVE file would be.
+fn explain_large<R: Files>(line: &mut Line, rt: &R, played: Played) {
+    let Some((shape, tables)) = both(rt, line.alloc(), played) else {
+        return;
     };
-    let samples = shape.bits.checked_div(filter.factor).unwrap_or(0);
+    let samples = shape.bits.checked_div(tables.factor).unwrap_or(0);
     let bytes = samples
         .saturating_mul(shape.channels)
-        .saturating_mul(filter.width / 8);
-    write!(
-        text,
-        "{} would make a WAVE file of ",
-        Named(played.input, "IN")
-    )?;
-    write!(
-        text,
-        "{}, and {} are the most: ",
-        Amount(bytes),
-        Amount(MOST_WAVE)
-    )?;
-    text.push_str("choose a filter for a lower rate or 16 bits, or play it in parts")
-}
-
-/// Adds how many frames a recording has of which a part isn't there, or where its marks are counted.
-pub(crate) fn tell_span<R: Files>(
-    text: &mut String,
-    rt: &R,
-    alloc: Global,
-    played: Played,
-    fault: SpanFault,
-) -> Result<(), AllocError> {
-    match fault {
-        SpanFault::NoMark => write!(
-            text,
-            "{}: dsdarc info prints the marks of a DSDIFF file, from mark 0 on; a DSF file has none",
-            Named(played.input, "IN")
-        ),
-        SpanFault::PartReversed => text.push_str("what --to names is before what --from names"),
-        SpanFault::PartOutside => tell_frames(text, rt, alloc, played),
-    }
-}
-
-fn tell_frames<R: Files>(
-    text: &mut String,
-    rt: &R,
-    alloc: Global,
-    played: Played,
-) -> Result<(), AllocError> {
-    let (Some(shape), Some(filter)) = (
-        shape_of(rt, played.input),
-        decimation_of(rt, alloc, played.project),
-    ) else {
-        return Ok(());
-    };
-    let frames = shape.bits.div_ceil(filter.factor.max(1));
-    let rate = shape.rate.checked_div(filter.factor).unwrap_or(0);
-    write!(
-        text,
-        "{} plays {} frames of {} Hz, ",
-        Named(played.input, "IN"),
-        Grouped(frames),
-        Grouped(rate)
-    )?;
-    text.push_str("and the part is not within them")
+        .saturating_mul(tables.width / 8);
+    line.say(LARGE, &[Part::Named(played.1, "IN"), Part::Bytes(bytes)]);
 }
 
 /// Adds that a part is too large for a WAVE file.
-pub(crate) fn tell_large_part(text: &mut String, input: &str) -> Result<(), AllocError> {
-    write!(
-        text,
-        "the part of {} would make a WAVE file of more than {}: name shorter parts",
-        Named(input, "IN"),
-        Amount(MOST_WAVE)
-    )
+pub(crate) fn explain_large_part(line: &mut Line, input: &str) {
+    line.say(LARGE_PART, &[Part::Named(input, "IN")]);
+}
+
+/// Adds how many frames a recording has of which a part isn't there, or where its marks are counted.
+pub(crate) fn explain_span<R: Files>(line: &mut Line, rt: &R, played: Played, fault: SpanFault) {
+    match fault {
+        SpanFault::NoMark => line.say(NO_MARK, &[Part::Named(played.1, "IN")]),
+        SpanFault::PartReversed => line.say("what --to names is before what --from names", &[]),
+        SpanFault::PartOutside => explain_frames(line, rt, played),
+    }
+}
+
+fn explain_frames<R: Files>(line: &mut Line, rt: &R, played: Played) {
+    if let Some((shape, tables)) = both(rt, line.alloc(), played) {
+        let frames = Part::Count(shape.bits.div_ceil(tables.factor.max(1)));
+        let rate = Part::Count(shape.rate.checked_div(tables.factor).unwrap_or(0));
+        line.say(OUTSIDE, &[Part::Named(played.1, "IN"), frames, rate]);
+    }
 }
 
 /// Adds by how much the channels of a file are not whole bytes.
-pub(crate) fn tell_parts<R: Files>(
-    text: &mut String,
-    rt: &R,
-    input: &str,
-) -> Result<(), AllocError> {
-    match shape_of(rt, input) {
-        Some(shape) => {
-            let (bits, rest) = (Grouped(shape.bits), shape.bits % 8);
-            write!(text, "{} has {bits} bits per channel, ", Named(input, "IN"))?;
-            write!(text, "{rest} more than whole bytes: ")?;
+pub(crate) fn explain_parts<R: Files>(line: &mut Line, rt: &R, input: &str) {
+    let (name, shape) = (Part::Named(input, "IN"), shape_of(rt, input));
+    match shape {
+        Some(Shape { bits, .. }) => {
+            line.say(WHOLE, &[name, Part::Count(bits), Part::Number(bits % 8)])
         }
-        None => write!(text, "{}: ", Named(input, "IN"))?,
+        None => line.say("{0}: ", &[name]),
     }
-    text.push_str("convert it to dsf or dsf8")
+    line.say("convert it to dsf or dsf8", &[]);
 }
 
 /// Adds what a project has in place of the table that is asked for.
-pub(crate) fn tell_table<R: Files>(
-    text: &mut String,
-    rt: &R,
-    alloc: Global,
-    project: &str,
-) -> Result<(), AllocError> {
-    let kind = match kind_of(rt, alloc, project) {
-        Some(Kind::CueList) => {
+pub(crate) fn explain_table<R: Files>(line: &mut Line, rt: &R, project: &str) {
+    let kind = match tables_of(rt, line.alloc(), project) {
+        Some(tables) if tables.has_splice => {
             "it is a cue list, for edit and check; the ready filters are in filters/"
         }
-        Some(Kind::Filter) => "it is a filter, for play; edit and check want a table \"splice\"",
-        Some(Kind::Empty) => "it has no table at all",
-        None => return Ok(()),
+        Some(tables) if tables.factor > 0 => {
+            "it is a filter, for play; edit and check want a table \"splice\""
+        }
+        Some(_) => "it has no table at all",
+        None => return,
     };
-    write!(text, "{}: {kind}", Named(project, "PROJECT"))
+    line.say(
+        "{0}: {1}",
+        &[Part::Named(project, "PROJECT"), Part::Text(kind)],
+    );
 }
 
-// What a project is for.
-#[derive(Clone, Copy)]
-enum Kind {
-    CueList,
-    Filter,
-    Empty,
-}
+const RATE: &str = "{0} has {1} Hz, which the factor {2} of {3} does not divide: ";
 
-fn kind_of<R: Files>(rt: &R, alloc: Global, name: &str) -> Option<Kind> {
-    let source = text_of(rt, alloc, name)?;
-    kind_in(alloc, &source)
-}
+const LARGE: &str =
+    "{0} would make a WAVE file of {1}, and 4,294 MB are the most: choose a filter for a lower rate or \
+                     16 bits, or play it in parts";
 
-fn kind_in(alloc: Global, source: &[u8]) -> Option<Kind> {
-    match read(alloc, source) {
-        Ok(project) if project.splice.is_some() => Some(Kind::CueList),
-        Ok(project) if project.decimate.is_some() => Some(Kind::Filter),
-        Ok(_) => Some(Kind::Empty),
-        Err(_) => None,
-    }
-}
+const LARGE_PART: &str =
+    "the part of {0} would make a WAVE file of more than 4,294 MB: name shorter parts";
+
+const NO_MARK: &str =
+    "{0}: dsdarc info prints the marks of a DSDIFF file, from mark 0 on; a DSF file has none";
+
+const OUTSIDE: &str = "{0} plays {1} frames of {2} Hz, and the part is not within them";
+
+const WHOLE: &str = "{0} has {1} bits per channel, {2} more than whole bytes: ";

@@ -1,52 +1,70 @@
-//! What a file that is read as a recording is seen to be.
+//! What a file that is read as a recording is seen to be, and why it is not read as one.
 
-use crate::chunks::DSD;
-use crate::dsdiff_look::DsdiffLook;
-use crate::dsf_look::DsfLook;
-use crate::look::{Look, Looked, reopen};
-use crate::shape::Shape;
-use crate::{dsdiff_look, dsf_look};
-use std::io::{Error, Read, Seek};
+use crate::dsdiff::Dsdiff;
+use crate::dsf::Dsf;
+use crate::files::{Look, Trouble, explain_trouble, reopen};
+use crate::line::{Line, Part};
+use crate::{dsdiff, dsf};
+use chunk_core::id_at;
+use form_core::ReadFault;
+use std::io::{Read, Seek};
 use std::rt::Files;
 
-/// How many bytes of the beginning are looked at.
-pub(crate) const FRONT: usize = 16;
+/// What is said of both forms.
+pub(crate) const EARLY: &str = "the file ends {0} early, at byte {1}: fetch it again";
+
+pub(crate) const CHANNELS: &str = "it has {2} channels, and 1 to 6 are supported";
+
+pub(crate) const RATE: &str = "its rate is {3} Hz, and 1,000,000 to 50,000,000 Hz are supported";
+
+pub(crate) const LONG: &str = "it has {4} bits per channel, and 68,719,476,736 are the most";
+
+// How many bytes of the beginning are looked at, and at least make a DSDIFF file.
+const FRONT: usize = 16;
+
+// The first bytes of kinds of files, from a place on.
+const KINDS: [(usize, &[u8], &str); 13] = [
+    (0, b"fLaC", "a FLAC file"),
+    (8, b"WAVE", "a WAVE file"),
+    (8, b"AIF", "an AIFF file"),
+    (0, b"OggS", "an Ogg file"),
+    (0, b"ID3", "an MP3 file"),
+    (0, b"wvpk", "a WavPack file"),
+    (0, b"MAC ", "a Monkey's Audio file"),
+    (4, b"ftyp", "an MP4 file"),
+    (0, b"PK\x03\x04", "a ZIP file: unpack it first"),
+    (0, b"\x1f\x8b", "a gzip file: unpack it first"),
+    (0, b"Rar!", "a RAR file: unpack it first"),
+    (0, b"7z\xbc\xaf", "a 7z file: unpack it first"),
+    (0, b"DSPC", "a certificate"),
+];
+
+/// What the sound of a file is: a rate in hertz, a number of channels, and the bits of each.
+#[derive(Clone, Copy)]
+pub(crate) struct Shape {
+    pub(crate) rate: u64,
+    pub(crate) channels: u64,
+    pub(crate) bits: u64,
+}
 
 /// What a file is seen to be.
 #[derive(Clone, Copy)]
-pub(crate) enum Seen {
-    /// It begins as a DSDIFF file.
-    Dsdiff(DsdiffLook),
-    /// It begins as a DSF file.
-    Dsf(DsfLook),
-    /// It begins otherwise: its first bytes, how many of them there are, and how many bytes it has.
+enum Seen {
+    // It begins as a DSDIFF file.
+    Dsdiff(Dsdiff),
+    // It begins as a DSF file.
+    Dsf(Dsf),
+    // It begins otherwise: its first bytes, how many of them there are, and how many bytes it has.
     Other([u8; FRONT], usize, u64),
-    /// It is a folder.
-    Folder,
-    /// A standard stream, a pipe or a device.
-    Stream,
-    /// It can't be opened or read.
-    Refused(Error),
+    // It can't be looked at.
+    Unseen(Trouble),
 }
 
-impl Seen {
-    /// What its sound is, if it says so.
-    pub(crate) fn shape(&self) -> Option<Shape> {
-        match self {
-            Seen::Dsdiff(look) => look.shape(),
-            Seen::Dsf(look) => Some(look.head?.shape()),
-            _ => None,
-        }
-    }
-}
-
-/// What the file of a name is seen to be.
-pub(crate) fn see<R: Files>(rt: &R, name: &str) -> Seen {
+// What the file of a name is seen to be.
+fn see<R: Files>(rt: &R, name: &str) -> Seen {
     match reopen(rt, name) {
-        Looked::File(file) => see_file(file),
-        Looked::Folder => Seen::Folder,
-        Looked::Stream => Seen::Stream,
-        Looked::Refused(error) => Seen::Refused(error),
+        Ok(look) => see_file(look),
+        Err(trouble) => Seen::Unseen(trouble),
     }
 }
 
@@ -54,23 +72,111 @@ fn see_file<F: Read + Seek + Drop>(mut look: Look<F>) -> Seen {
     let mut front = [0u8; FRONT];
     let count = match look.read_at(0, &mut front) {
         Ok(count) => count,
-        Err(error) => return Seen::Refused(error),
+        Err(error) => return Seen::Unseen(Trouble::Refused(error)),
     };
     match &front {
-        [b'F', b'R', b'M', b'8', ..] if count == FRONT => see_form(&mut look, front),
-        [b'D', b'S', b'D', b' ', ..] if count >= 4 => Seen::Dsf(dsf_look::look_at(&mut look)),
-        _ => Seen::Other(front, count, look.length()),
-    }
-}
-
-fn see_form<F: Read + Seek + Drop>(look: &mut Look<F>, front: [u8; FRONT]) -> Seen {
-    match dsdiff_look::look_at(look) {
-        Some(seen) if seen.form_type == DSD => Seen::Dsdiff(seen),
-        _ => Seen::Other(front, FRONT, look.length()),
+        [b'D', b'S', b'D', b' ', ..] => Seen::Dsf(dsf::look_at(&mut look)),
+        [
+            b'F',
+            b'R',
+            b'M',
+            b'8',
+            _,
+            _,
+            _,
+            _,
+            _,
+            _,
+            _,
+            _,
+            b'D',
+            b'S',
+            b'D',
+            b' ',
+        ] => { Seen::Dsdiff(dsdiff::look_at(&mut look)) }
+        _ => Seen::Other(front, count, look.length),
     }
 }
 
 /// The sound of the file of a name, if it says what it is.
 pub(crate) fn shape_of<R: Files>(rt: &R, name: &str) -> Option<Shape> {
-    see(rt, name).shape()
+    match see(rt, name) {
+        Seen::Dsdiff(look) => look.shape(),
+        Seen::Dsf(look) => look.shape(),
+        _ => None,
+    }
+}
+
+/// Whether the file of a name begins as a recording.
+pub(crate) fn is_recording<R: Files>(rt: &R, name: &str) -> bool {
+    matches!(see(rt, name), Seen::Dsdiff(_) | Seen::Dsf(_))
+}
+
+/// Whether a rate isn't supported.
+pub(crate) fn is_bad_rate(rate: u32) -> bool {
+    rate < 1_000_000 || rate > 50_000_000
+}
+
+/// Whether a number of channels isn't supported.
+pub(crate) fn is_bad_number(channels: u32) -> bool {
+    channels < 1 || channels > 6
+}
+
+/// Adds what was seen in a file that is no recording, for this fault.
+pub(crate) fn explain_file<R: Files>(line: &mut Line, rt: &R, name: &str, fault: ReadFault) {
+    match (fault, see(rt, name)) {
+        (_, Seen::Unseen(trouble)) => explain_trouble(line, trouble),
+        (ReadFault::UnknownForm, Seen::Other(front, count, length)) => {
+            explain_front(line, &front, count, length)
+        }
+        (ReadFault::Dsdiff(fault), Seen::Dsdiff(look)) => look.explain(line, fault),
+        (ReadFault::Dsf(fault), Seen::Dsf(look)) => look.explain(line, fault),
+        // It was changed since.
+        _ => {}
+    }
+}
+
+/// The same for the first fault that the file is seen to have. Those that only stand in marks or kept chunks aren't
+/// seen: then it adds `otherwise`.
+pub(crate) fn explain_seen<R: Files>(line: &mut Line, rt: &R, name: &str, otherwise: &str) {
+    let fault = match see(rt, name) {
+        Seen::Dsdiff(look) => match look.first_fault() {
+            Some(fault) => ReadFault::Dsdiff(fault),
+            None => return line.say(otherwise, &[]),
+        },
+        Seen::Dsf(look) => match look.first_fault() {
+            Some(fault) => ReadFault::Dsf(fault),
+            None => return line.say(otherwise, &[]),
+        },
+        _ => ReadFault::UnknownForm,
+    };
+    explain_file(line, rt, name, fault);
+}
+
+// Adds what a file is that is neither a DSDIFF nor a DSF file, by its first bytes.
+fn explain_front(line: &mut Line, front: &[u8; FRONT], count: usize, length: u64) {
+    let (id, form, kind) = (id_at(front, 0), id_at(front, 12), kind_of(front));
+    let template = match kind {
+        _ if count == 0 => "it is empty",
+        _ if length < 16 => "it has only {0}",
+        _ if id == *b"FRM8" => "it begins with {1}, but as a form of the type {2}, not \"DSD \"",
+        Some(_) => "it begins with {1}: {3}, not a DSDIFF or DSF file",
+        None => "it begins with {1}, which no DSDIFF or DSF file does",
+    };
+    let (id, form, kind) = (Part::Id(id), Part::Id(form), Part::Text(kind.unwrap_or("")));
+    line.say(template, &[Part::Bytes(length), id, form, kind]);
+}
+
+fn kind_of(front: &[u8; FRONT]) -> Option<&'static str> {
+    for (place, bytes, kind) in KINDS {
+        if front.get(place..).unwrap_or(&[]).starts_with(bytes) {
+            return Some(kind);
+        }
+    }
+    for byte in front {
+        if !byte.is_ascii_graphic() && !byte.is_ascii_whitespace() {
+            return None;
+        }
+    }
+    Some("a text")
 }

@@ -1,232 +1,126 @@
 //! Why a master is rejected: which file or cue, and the numbers.
 
-use crate::cutting::{Cutting, cutting_of, tell_shape};
-use crate::first_faults::first_fault;
-use crate::look::{Look, Looked, reopen};
-use crate::recordings::tell_unread;
-use crate::seen::{see, shape_of};
-use crate::text::{Grouped, Id, Named, Safe, Several};
+use crate::files::reopen;
+use crate::line::{Line, Part};
+use crate::seen::{explain_seen, shape_of};
+use crate::splices::{Cutting, cutting_of, say_shape};
 use cert_core::CertReason;
+use chunk_core::{Order, id_at, u16_at, u32_at};
 use judge_core::Reason;
-use std::alloc::{AllocError, Global};
-use std::fmt::Write;
-use std::io::{Read, Seek};
 use std::rt::Files;
 
-/// The bytes `DSPC` with which a certificate begins.
-const DSPC: u32 = 0x4453_5043;
-
-/// The files of a verdict.
-#[derive(Clone, Copy)]
-pub(crate) struct Judged<'a> {
-    pub(crate) project: &'a str,
-    pub(crate) master: &'a str,
-    pub(crate) cert: &'a str,
-}
-
-/// Adds why a master is rejected.
-pub(crate) fn tell_verdict<R: Files>(
-    text: &mut String,
-    rt: &R,
-    alloc: Global,
-    judged: Judged,
-    reason: Reason,
-) -> Result<(), AllocError> {
-    let Some(cutting) = cutting_of(rt, alloc, judged.project) else {
-        return Ok(());
+/// Adds why a master is rejected, by the names of the project, the master and the certificate.
+pub(crate) fn explain_verdict<R: Files>(line: &mut Line, rt: &R, names: [&str; 3], reason: Reason) {
+    let [project, master_name, cert_name] = names;
+    let Some(cutting) = cutting_of(rt, line.alloc(), project) else {
+        return;
     };
+    let (master, cert) = (
+        Part::Named(master_name, "MASTER"),
+        Part::Named(cert_name, "CERT"),
+    );
     match reason {
-        Reason::MasterUnread => tell_master(text, rt, alloc, judged.master),
-        Reason::MasterShape => tell_unlike(text, rt, &cutting, judged.master),
-        Reason::MasterLength => tell_length(text, rt, &cutting, judged.master),
-        Reason::MasterMarks => tell_marks(text, &cutting, judged.master),
-        Reason::CuedBit(channel, place) => tell_bit(text, &cutting, judged, channel, place),
-        Reason::CertHead(_) => tell_head(text, rt, &cutting, judged.cert),
-        Reason::Cert(entry, why) => tell_entry(
-            text,
-            &cutting,
-            judged.cert,
-            entry,
-            why,
-            channels(rt, &cutting),
-        ),
-        Reason::CertExtra => {
-            write!(
-                text,
-                "{}: something was added after its last entry",
-                Named(judged.cert, "CERT")
-            )
+        Reason::MasterUnread => {
+            line.say("{0}: ", &[master]);
+            explain_seen(line, rt, master_name, "info says why");
         }
+        Reason::MasterShape => explain_unlike(line, rt, &cutting, master_name),
+        Reason::MasterLength => {
+            if let Some(found) = shape_of(rt, master_name) {
+                let (found, wanted) = (Part::Count(found.bits), Part::Count(cutting.bits()));
+                line.say(LENGTH, &[master, found, wanted]);
+            }
+        }
+        Reason::MasterMarks => line.say(MARKS, &[master, Part::Several(cutting.titles(), "title")]),
+        Reason::CuedBit(channel, place) => {
+            if let Some(bit) = cutting.cued(place as u64) {
+                let (place, there) = (Part::Count(place as u64), Part::Count(bit.place));
+                line.say(BIT, &[master, place, Part::Number(channel as u64), there]);
+                cutting.say_take(line, bit.cue.take);
+                line.say(", by ", &[]);
+                cutting.say_cue(line, bit.number);
+            }
+        }
+        Reason::CertHead(_) => {
+            line.say("{0}: ", &[cert]);
+            explain_head(line, rt, &cutting, cert_name);
+        }
+        Reason::Cert(entry, why) => {
+            line.say("{0}: ", &[cert]);
+            explain_entry(line, &cutting, entry as u64, channels(rt, &cutting));
+            line.say(hint(why), &[]);
+        }
+        Reason::CertExtra => line.say("{0}: something was added after its last entry", &[cert]),
     }
 }
 
 // How many channels the takes have.
 fn channels<R: Files>(rt: &R, cutting: &Cutting) -> u64 {
-    shape_of(rt, cutting.take(0)).map_or(1, |shape| shape.channels)
-}
-
-fn tell_master<R: Files>(
-    text: &mut String,
-    rt: &R,
-    alloc: Global,
-    master: &str,
-) -> Result<(), AllocError> {
-    write!(text, "{}: ", Named(master, "MASTER"))?;
-    let seen = see(rt, master);
-    match first_fault(&seen) {
-        Some(fault) => tell_unread(text, alloc, fault, &seen),
-        None => text.push_str("info says why"),
+    match shape_of(rt, cutting.take(0)) {
+        Some(shape) => shape.channels,
+        None => 1,
     }
 }
 
-fn tell_unlike<R: Files>(
-    text: &mut String,
-    rt: &R,
-    cutting: &Cutting,
-    master: &str,
-) -> Result<(), AllocError> {
-    let take = cutting.take(0);
-    let (Some(found), Some(wanted)) = (shape_of(rt, master), shape_of(rt, take)) else {
-        return Ok(());
-    };
-    write!(text, "{} has ", Named(master, "MASTER"))?;
-    tell_shape(text, found.rate, found.channels)?;
-    write!(text, ", and {} (take 0) ", Safe(take))?;
-    tell_shape(text, wanted.rate, wanted.channels)
+fn explain_unlike<R: Files>(line: &mut Line, rt: &R, cutting: &Cutting, master: &str) {
+    if let (Some(found), Some(wanted)) = (shape_of(rt, master), shape_of(rt, cutting.take(0))) {
+        line.say("{0} has ", &[Part::Named(master, "MASTER")]);
+        say_shape(line, found);
+        line.say(", and ", &[]);
+        cutting.say_take(line, 0);
+        line.say(" ", &[]);
+        say_shape(line, wanted);
+    }
 }
 
-fn tell_length<R: Files>(
-    text: &mut String,
-    rt: &R,
-    cutting: &Cutting,
-    master: &str,
-) -> Result<(), AllocError> {
-    let Some(found) = shape_of(rt, master) else {
-        return Ok(());
-    };
-    let (bits, wanted) = (Grouped(found.bits), Grouped(cutting.bits()));
-    write!(
-        text,
-        "{} has {bits} bits per channel; ",
-        Named(master, "MASTER")
-    )?;
-    write!(text, "the cues and bridges have {wanted} together")
-}
-
-fn tell_marks(text: &mut String, cutting: &Cutting, master: &str) -> Result<(), AllocError> {
-    let titles = Several(cutting.titles() as u64, "title");
-    write!(
-        text,
-        "{}: its marks are not those of the ",
-        Named(master, "MASTER")
-    )?;
-    write!(text, "{titles} of the project; info prints its marks")
-}
-
-fn tell_bit(
-    text: &mut String,
-    cutting: &Cutting,
-    judged: Judged,
-    channel: usize,
-    place: usize,
-) -> Result<(), AllocError> {
-    let place = place as u64;
-    let Some(bit) = cutting.cued(place) else {
-        return Ok(());
-    };
-    write!(
-        text,
-        "{}: bit {} ",
-        Named(judged.master, "MASTER"),
-        Grouped(place)
-    )?;
-    write!(
-        text,
-        "of channel {channel} has to be bit {} of ",
-        Grouped(bit.place)
-    )?;
-    write!(
-        text,
-        "{} (take {}), by ",
-        Safe(cutting.take(bit.cue.take)),
-        bit.cue.take
-    )?;
-    cutting.tell_cue(text, bit.number)
-}
-
-fn tell_head<R: Files>(
-    text: &mut String,
-    rt: &R,
-    cutting: &Cutting,
-    cert: &str,
-) -> Result<(), AllocError> {
-    write!(text, "{}: ", Named(cert, "CERT"))?;
+fn explain_head<R: Files>(line: &mut Line, rt: &R, cutting: &Cutting, cert: &str) {
     let Some(head) = cert_head(rt, cert) else {
-        return text.push_str("it ends inside its head: fetch it again, or edit again");
+        return line.say(
+            "it ends inside its head: fetch it again, or edit again",
+            &[],
+        );
     };
-    if head.id != DSPC {
-        return write!(text, "it begins with {}, not \"DSPC\"", Id(head.id));
+    let id = id_at(&head, 0);
+    if id != *b"DSPC" {
+        return line.say("it begins with {0}, not \"DSPC\"", &[Part::Id(id)]);
     }
-    let due = (cutting.bridges() as u64).saturating_mul(channels(rt, cutting));
-    let (entries, version) = (u64::from(head.entries), head.version);
-    let weights = Several(u64::from(head.weights), "weight");
-    let wanted = Several(cutting.weights(), "weight");
-    write!(
-        text,
-        "it is of version {version}, for {weights} and {entries} {}; ",
-        named(entries)
-    )?;
-    write!(text, "the project has {wanted} and {due} {}", named(due))
+    let version = Part::Number(u64::from(u16_at(Order::Big, &head, 4)));
+    let weights = Part::Several(u64::from(u16_at(Order::Big, &head, 6)), "weight");
+    line.say("it is of version {0}, for {1} and ", &[version, weights]);
+    say_entries(line, u64::from(u32_at(Order::Big, &head, 8)));
+    let weights = Part::Several(cutting.weights(), "weight");
+    line.say("; the project has {0} and ", &[weights]);
+    say_entries(
+        line,
+        cutting.bridges().saturating_mul(channels(rt, cutting)),
+    );
 }
 
-// What the head of a certificate says.
-#[derive(Clone, Copy)]
-struct CertHead {
-    id: u32,
-    version: u16,
-    weights: u16,
-    entries: u32,
+fn say_entries(line: &mut Line, entries: u64) {
+    let name = if entries == 1 {
+        "{0} entry"
+    } else {
+        "{0} entries"
+    };
+    line.say(name, &[Part::Number(entries)]);
 }
 
-fn cert_head<R: Files>(rt: &R, cert: &str) -> Option<CertHead> {
+// The head of a certificate: its ID, its version, its weights and its entries.
+fn cert_head<R: Files>(rt: &R, cert: &str) -> Option<[u8; 12]> {
     match reopen(rt, cert) {
-        Looked::File(look) => read_head(look),
-        _ => None,
+        Ok(mut look) => look.bytes_at(0),
+        Err(_) => None,
     }
 }
 
-fn read_head<F: Read + Seek + Drop>(mut look: Look<F>) -> Option<CertHead> {
-    let [a, b, c, d, v0, v1, w0, w1, e0, e1, e2, e3] = look.bytes_at::<12>(0)?;
-    Some(CertHead {
-        id: u32::from_be_bytes([a, b, c, d]),
-        version: u16::from_be_bytes([v0, v1]),
-        weights: u16::from_be_bytes([w0, w1]),
-        entries: u32::from_be_bytes([e0, e1, e2, e3]),
-    })
-}
-
-// What so many entries are.
-fn named(entries: u64) -> &'static str {
-    if entries == 1 { "entry" } else { "entries" }
-}
-
-fn tell_entry(
-    text: &mut String,
-    cutting: &Cutting,
-    cert: &str,
-    entry: usize,
-    why: CertReason,
-    channels: u64,
-) -> Result<(), AllocError> {
-    let entry = entry as u64;
-    write!(text, "{}: entry {entry} is ", Named(cert, "CERT"))?;
-    let bridge = entry.checked_div(channels).unwrap_or(0);
-    if let Some(number) = cutting.bridged(bridge) {
-        let channel = entry.checked_rem(channels).unwrap_or(0);
-        write!(text, "for channel {channel} of the bridge after ")?;
-        cutting.tell_cue(text, number)?;
+// Adds for which bridge an entry is.
+fn explain_entry(line: &mut Line, cutting: &Cutting, entry: u64, channels: u64) {
+    line.say("entry {0} is ", &[Part::Number(entry)]);
+    if let Some(number) = cutting.bridged(entry.checked_div(channels).unwrap_or(0)) {
+        let channel = Part::Number(entry.checked_rem(channels).unwrap_or(0));
+        line.say("for channel {0} of the bridge after ", &[channel]);
+        cutting.say_cue(line, number);
     }
-    text.push_str(hint(why))
 }
 
 // What may have happened.
@@ -240,3 +134,9 @@ fn hint(why: CertReason) -> &'static str {
         _ => ": takes, weights or cues are not those of the certificate, or it is damaged",
     }
 }
+
+const LENGTH: &str = "{0} has {1} bits per channel; the cues and bridges have {2} together";
+
+const MARKS: &str = "{0}: its marks are not those of the {1} of the project; info prints its marks";
+
+const BIT: &str = "{0}: bit {1} of channel {2} has to be bit {3} of ";

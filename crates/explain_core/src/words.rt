@@ -1,14 +1,12 @@
 //! Why words are no command: which word, and how the command is used.
 
-use crate::near::nearest;
-use crate::text::{Safe, Several};
-use std::alloc::AllocError;
-use std::fmt::Write;
+use crate::line::{Line, Part};
+use crate::near::{nearest, say_list};
 use std::rt::Env;
 use words_core::COMMANDS;
 
-// The names of the forms.
-const FORMS: [&str; 3] = ["dsdiff", "dsf", "dsf8"];
+// The names of the commands.
+const NAMES: [&str; 5] = ["info", "convert", "play", "edit", "check"];
 
 // The most words that are looked at, and the most bytes of one.
 const MOST_WORDS: usize = 64;
@@ -16,52 +14,39 @@ const MOST_WORDS: usize = 64;
 const MOST_BYTES: usize = 4096;
 
 /// Adds why words are no command. The first is the program's name.
-pub(crate) fn tell_words(text: &mut String, words: &[String]) -> Result<(), AllocError> {
+pub(crate) fn explain_words(line: &mut Line, words: &[String]) {
     let Some((_, [name, rest @ ..])) = words.split_first() else {
-        text.push_str("no command is named: ")?;
-        return tell_commands(text);
+        line.say("no command is named: ", &[]);
+        return say_commands(line);
     };
     let name = name.as_str();
-    match usage_of(name) {
-        Some((name, parts)) => tell_usage(text, rest, name, parts),
-        None => tell_unknown(text, name),
-    }
-}
-
-// A command, and the names of its words.
-fn usage_of(name: &str) -> Option<(&'static str, &'static [&'static str])> {
     for (command, parts) in COMMANDS {
         if command == name {
-            return Some((command, parts));
+            return explain_usage(line, rest, command, parts);
         }
     }
-    None
+    explain_unknown(line, name);
 }
 
-fn tell_usage(
-    text: &mut String,
-    rest: &[String],
-    name: &str,
-    parts: &[&str],
-) -> Result<(), AllocError> {
+fn explain_usage(line: &mut Line, rest: &[String], name: &str, parts: &[&str]) {
     match option_in(rest) {
         Some(word) => {
-            let word = Safe(word);
-            write!(
-                text,
-                "{word} begins with -; as a name it is written ./{word}"
-            )?;
+            let word = Part::Text(word);
+            line.say("{0} begins with -; as a name it is written ./{0}", &[word]);
         }
         None => {
-            let words = Several(parts.len() as u64, "word");
-            write!(text, "{name} takes {words} and got {}", rest.len())?;
+            let (wanted, got) = (parts.len() as u64, Part::Number(rest.len() as u64));
+            let wanted = Part::Several(wanted, "word");
+            line.say(
+                "{0} takes {1} and got {2}",
+                &[Part::Text(name), wanted, got],
+            );
         }
     }
-    write!(text, "; usage: dsdarc {name}")?;
+    line.say("; usage: dsdarc {0}", &[Part::Text(name)]);
     for part in parts {
-        write!(text, " {part}")?;
+        line.say(" {0}", &[Part::Text(part)]);
     }
-    Ok(())
 }
 
 // The first word that is taken for an option.
@@ -78,64 +63,54 @@ fn option_in(words: &[String]) -> Option<&str> {
     None
 }
 
-fn tell_unknown(text: &mut String, name: &str) -> Result<(), AllocError> {
-    write!(text, "\"{}\" is no command", Safe(name))?;
-    match nearest(name, &COMMANDS.map(|(command, _)| command)) {
-        Some(meant) => write!(text, "; did you mean {meant}?"),
+fn explain_unknown(line: &mut Line, name: &str) {
+    line.say("\"{0}\" is no command", &[Part::Text(name)]);
+    match nearest(name, &NAMES) {
+        Some(meant) => line.say("; did you mean {0}?", &[Part::Text(meant)]),
         None => {
-            text.push_str(": ")?;
-            tell_commands(text)
+            line.say(": ", &[]);
+            say_commands(line);
         }
     }
 }
 
-fn tell_commands(text: &mut String) -> Result<(), AllocError> {
-    text.push_str("the commands are ")?;
-    for (number, (name, _)) in COMMANDS.iter().enumerate() {
-        if number > 0 {
-            text.push_str(", ")?;
-        }
-        text.push_str(name)?;
-    }
-    text.push_str("; dsdarc --help prints the usage")
+fn say_commands(line: &mut Line) {
+    line.say("the commands are ", &[]);
+    say_list(line, &NAMES);
+    line.say("; dsdarc --help prints the usage", &[]);
 }
 
 /// Adds which form there may be in place of one that isn't known.
-pub(crate) fn tell_form(text: &mut String, words: &[String]) -> Result<(), AllocError> {
+pub(crate) fn explain_form(line: &mut Line, words: &[String]) {
     let Some((_, [_, form, ..])) = words.split_first() else {
-        return Ok(());
+        return;
     };
     let form = form.as_str();
-    write!(
-        text,
-        "\"{}\" is no form: FORM is dsdiff, dsf or dsf8",
-        Safe(form)
-    )?;
+    line.say(
+        "\"{0}\" is no form: FORM is dsdiff, dsf or dsf8",
+        &[Part::Text(form)],
+    );
     match form {
-        "dff" | "DFF" => text.push_str("; did you mean dsdiff?"),
-        "wav" | "WAV" | "wave" | "flac" => text.push_str("; play writes WAVE files"),
-        _ => match nearest(form, &FORMS) {
-            Some(meant) => write!(text, "; did you mean {meant}?"),
-            None => Ok(()),
-        },
+        "dff" | "DFF" => line.say("; did you mean dsdiff?", &[]),
+        "wav" | "WAV" | "wave" | "flac" => line.say("; play writes WAVE files", &[]),
+        _ => {
+            if let Some(meant) = nearest(form, &["dsdiff", "dsf", "dsf8"]) {
+                line.say("; did you mean {0}?", &[Part::Text(meant)]);
+            }
+        }
     }
 }
 
 /// Adds which word is not UTF-8.
-pub(crate) fn tell_no_text<R: Env>(text: &mut String, rt: &R) -> Result<(), AllocError> {
+pub(crate) fn explain_no_text<R: Env>(line: &mut Line, rt: &R) {
     let mut bytes = [0u8; MOST_BYTES];
     for number in 1..MOST_WORDS {
         let Ok(count) = rt.arg(number, &mut bytes) else {
-            return Ok(());
+            return;
         };
         let word = bytes.get(..count).unwrap_or(&[]);
         if std::str::from_utf8(word).is_err() {
-            return write!(
-                text,
-                "a name has to be UTF-8, and {} is not",
-                word.escape_ascii()
-            );
+            return line.say("a name has to be UTF-8, and {0} is not", &[Part::Raw(word)]);
         }
     }
-    Ok(())
 }

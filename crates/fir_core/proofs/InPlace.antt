@@ -1,4 +1,4 @@
--- A list that is written from the front on.
+-- A list that is written from its start on.
 use Rattle.std.proofs.Common.{◌≡◌, ℕ, ◌+◌, ◌<◌, ◌≤◌, ◌≢◌, ◌^◌, ℤ, pos, unsigned_abs, List, map, length, get_or, sym, ap, ◌∙◌, ◌-◌, inl, inr, arith, below_more, get_or-set_other, get_or-set_same, to_z, of_z, w32}
 use Rattle.std.proofs.Math.ListN.{set, length-set}
 use Rattle.std.proofs.lemmas.Int.{to_z-of_z, fits_signed_from_abs}
@@ -18,13 +18,13 @@ module _ (f g : ℕ → ℤ) (xs : List ℤ) (i : ℕ) (r : ℤ) (within : i < l
   pub one_less : (k : ℕ) → i + 1 ≤ k → k < length (set xs i (to_z w32 (of_z w32 r))) → get_or (set xs i (to_z w32 (of_z w32 r))) k (pos 0) ≡ g k
   one_less k h l = let ne : k ≢ i = omega arith in rw get_or-set_other (rest k (omega arith) (omega (arith, length-set {A = ℤ})))
 
--- of so many values those below i are f's and the others g's
+-- of n values those below i are f's and the others g's
 pub record Written (f g : ℕ → ℤ) (number i : ℕ) (xs : List ℤ) : Type 0 where
   pub long : length xs ≡ number
   pub done : (k : ℕ) → k < i → get_or xs k (pos 0) ≡ f k
   pub rest : (k : ℕ) → i ≤ k → k < number → get_or xs k (pos 0) ≡ g k
 
--- so many more are written at once
+-- n more are written at once
 pub chunk_written : (f g : ℕ → ℤ) (number i n : ℕ) (xs ys : List ℤ) → length ys ≡ n → i + n ≤ number → ((k : ℕ) → k < n → get_or ys k (pos 0) ≡ f (i + k)) → Written f g number i xs → Written f g number (i + n) (put_chunk i xs ys)
 chunk_written f g number i n xs ys many within each w =
     let room : i + length ys ≤ length xs = omega (arith, w.long) in
@@ -32,7 +32,7 @@ chunk_written f g number i n xs ys many within each w =
       long = length-put_chunk i xs ys ∙ w.long;
       done = λ k h. elim (cases_lt k i) [
         | inl below ↦ get_or-put_chunk_below i xs ys k (pos 0) below ∙ w.done k below
-        | inr behind ↦
+        | inr after ↦
             let inside : k - i < length ys = omega arith in
             let place : i + (k - i) ≡ k = omega arith in
             ap (λ m. get_or (put_chunk i xs ys) m (pos 0)) (sym place) ∙ get_or-put_chunk_at i xs ys (k - i) (pos 0) inside room ∙ each (k - i) (omega arith) ∙ ap f place
@@ -48,6 +48,6 @@ mapped f xs ys long each =
 pub stored_back : (z : ℤ) → unsigned_abs z ≤ 2 ^ 30 → to_z w32 (of_z w32 z) ≡ z
 stored_back z small = to_z-of_z w32 z (fits_signed_from_abs w32 z (omega arith))
 
--- so is one that is known to be equal to another
+-- and one that is known to be equal to another
 pub read_back : (z y : ℤ) → z ≡ y → unsigned_abs y ≤ 2 ^ 30 → to_z w32 (of_z w32 z) ≡ y
 read_back z y is small = ap (λ x. to_z w32 (of_z w32 x)) is ∙ stored_back y small

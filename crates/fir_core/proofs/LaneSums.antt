@@ -96,7 +96,7 @@ module _ (xs : List ℕ) (ys : List ℤ) (k : ℕ) (eight : length xs ≡ 8) (wi
       ∙ ap (wrap_add (get_or xs l 0)) (get_or-map (of_z w32) (take 8 (drop k ys)) l (pos 0) 0 (omega (arith, length-take-le 8 (drop k ys) (omega (arith, length-drop k ys))))
       ∙ ap (of_z w32) (get_or-take 8 (drop k ys) l (pos 0) h ∙ get_or-drop k ys l (pos 0)))
 
--- the same of numbers
+-- the same for numbers
 module _ (xs ys : List ℤ) (k : ℕ) (eight : length xs ≡ 8) (within : k + 8 ≤ length ys) where
   long_words : length (map (of_z w32) xs) ≡ 8
   long_words = length-map xs (of_z w32) ∙ eight

@@ -8,7 +8,7 @@ pub mod StreamLaws
 pub mod SumOrder
 pub mod Dot
 pub mod TileLaws
-pub mod TurnLaws
+pub mod StrideLaws
 pub mod WindowLaws
 pub mod LaneLaws
 pub mod LaneSigns

@@ -1,4 +1,4 @@
--- Sums from rows: a byte at a time, in each window that it stands in.
+-- Sums from rows: a byte at a time, in each window that contains it.
 use Rattle.std.proofs.Common.{[], ◌∷◌, ◌≡◌, ℕ, zero, suc, ◌+◌, ◌-◌, ◌*◌, ◌/◌, ◌%◌, ◌^◌, ◌<◌, ◌≤◌, ◌⊎◌, ℤ, pos, ◌+ℤ◌, inl, inr, map, unsigned_abs, List, length, get_or, take, drop, sum_by, refl, sym, ap, ap₂, ◌∙◌, arith, subst, length-drop, FitsSigned, to_z, of_z, w32}
 use Rattle.std.proofs.Math.Nat.{mul-le-mul_right}
 use Rattle.std.proofs.lemmas.Bool.{cases_lt}
@@ -6,10 +6,10 @@ use Rattle.std.specs.Simd.Lanes.{zip2}
 use Rattle.std.proofs.lemmas.List.{drop_all, get_or-drop, take_all}
 use Rattle.std.proofs.lemmas.List.FromFn.{get_or-map-range_with_len, length-map-range_with_len}
 use Rattle.std.proofs.lemmas.Nat.{div-mul-add, mod-mul-add, mul-le}
-use Rattle.fir_core.specs.Blocks.{ArePlaces, HasEntries, IsBehind, IsReached, sum_within}
-use Rattle.fir_core.specs.Rows.{AreRowEntries, IsLaid, IsSpot, entry_of, groups_at, last_group, row_entry, row_place, rows, sum_before}
-use Rattle.fir_core.specs.declared.rows.Block.{Block}
-use Rattle.fir_core.specs.declared.rows.Spot.{Spot}
+use Rattle.fir_core.specs.Blocks.{ArePlaces, HasEntries, IsAfter, IsReached, sum_within}
+use Rattle.fir_core.specs.Lookup.{AreRowEntries, IsLaid, IsSpot, entry_of, groups_at, last_group, lookup, row_entry, row_place, sum_before}
+use Rattle.fir_core.specs.declared.lookup.Block.{Block}
+use Rattle.fir_core.specs.declared.lookup.Spot.{Spot}
 use Rattle.fir_core.specs.Signed.{dot, bits_of, bits_of_byte}
 use Rattle.fir_core.specs.Windows.{aligned, window_sum}
 use Rattle.fir_core.proofs.Dot.{abs_sum_split, dot_bound, part_small, dot_group}
@@ -19,7 +19,7 @@ use Rattle.fir_core.proofs.LaneSums.{AreLanes, lane_is, length-lanes, words_adde
 use Rattle.fir_core.proofs.TileLaws.{whole_step}
 use Rattle.fir_core.proofs.WindowLaws.{abs_sum_aligned, length-aligned}
 
--- no group adds nothing, nor does one behind the taps
+-- without a group nothing is added, and a group after the taps adds nothing
 pub no_last : (hs : List ℤ) (number byte : ℕ) → length hs % 8 ≡ 0 → (number ≡ 0) ⊎ (length hs / 8 < number) → pos 0 ≡ last_group hs number byte
 no_last hs zero byte whole none = refl
 no_last hs (suc group) byte whole (inl none) = absurd (omega (arith, none))
@@ -29,7 +29,7 @@ pub last_small : (hs : List ℤ) (number byte : ℕ) → sum_by unsigned_abs hs 
 last_small hs zero byte small = omega arith
 last_small hs (suc group) byte small = omega (arith, dot_bound (take 8 (drop (8 * group) hs)) (bits_of_byte byte), part_small hs (8 * group) 8 small)
 
--- byte p in the sum of the window that begins at byte i: nothing where the byte stands before the window
+-- byte p in the sum of the window that begins at byte i: nothing if the byte is before the window
 pub one_more_byte : (hs : List ℤ) (bytes : List ℕ) (p i : ℕ) → p < length bytes
     → window_sum (take (8 * (p + 1 - i)) hs) bytes i ≡ window_sum (take (8 * (p - i)) hs) bytes i +ℤ last_group hs (p + 1 - i) (get_or bytes p 0)
 one_more_byte hs bytes p i within = elim (cases_lt p i) [
@@ -58,7 +58,7 @@ ends_after d step p window place j spot back = let f = ap (λ (n : ℕ). n * ste
 -- how many groups of window j a byte ends
 pub ends_groups : (step span p window place j : ℕ) → IsSpot step p window place → window < j + span → groups_at step span place (j + span - (window + 1)) ≡ p + 1 - j * step
 ends_groups step span p window place j spot reached = elim (cases_lt window j) [
-  | inl behind ↦
+  | inl after ↦
       let none : span - (j + span - (window + 1)) ≡ 0 = omega arith in
       let begins : (window + 1) * step ≤ j * step = mul-le-mul_right step (omega arith) in
       ap (λ (n : ℕ). n * step + (place + 1) - step) none ∙ omega (arith, spot.at, spot.inside)
@@ -67,17 +67,17 @@ ends_groups step span p window place j spot reached = elim (cases_lt window j) [
       ap (λ (n : ℕ). n * step + (place + 1) - step) turned ∙ ends_after (window + 1 - j) step p window place j spot (omega arith)
 ]
 
-pub length-rows : (hs : List ℤ) (step span : ℕ) → length (rows hs step span) ≡ 256 * step * (span + 8) + 4
-length-rows hs step span = length-map-range_with_len (row_entry hs step span) 0 (256 * step * (span + 8) + 4)
+pub length-lookup : (hs : List ℤ) (step span : ℕ) → length (lookup hs step span) ≡ 256 * step * (span + 8) + 4
+length-lookup hs step span = length-map-range_with_len (row_entry hs step span) 0 (256 * step * (span + 8) + 4)
 
 pub row_within : (step place byte : ℕ) → place < step → byte < 256 → 256 * place + byte < 256 * step
 row_within step place byte inside small = omega arith
 
--- where a byte's row begins, and what stands in a column of it
+-- where a byte's row begins, and what is in a column of it
 module _ (hs entries : List ℤ) (step span place byte : ℕ) (laid : IsLaid hs entries step span) (inside : place < step) (small : byte < 256) where
   pub row_fits : 4 + (256 * place + byte) * (span + 8) + (span + 8) ≤ length entries
   row_fits =
-      let long : length entries ≡ 256 * step * (span + 8) + 4 = ap length laid.laid ∙ length-rows hs step span in
+      let long : length entries ≡ 256 * step * (span + 8) + 4 = ap length laid.laid ∙ length-lookup hs step span in
       let below : 256 * place + byte + 1 ≤ 256 * step = omega (arith, row_within step place byte inside small) in
       let row : (256 * place + byte + 1) * (span + 8) ≤ (256 * step) * (span + 8) = mul-le-mul_right (span + 8) below in
       omega arith
@@ -89,35 +89,35 @@ module _ (hs entries : List ℤ) (step span place byte : ℕ) (laid : IsLaid hs 
       let r : row < 256 * step = row_within step place byte inside small in
       let q : row / 256 ≡ place = omega arith in
       let b : row % 256 ≡ byte = omega arith in
-      let behind : (4 + row * (span + 8) + column) - 4 ≡ at = omega arith in
+      let after : (4 + row * (span + 8) + column) - 4 ≡ at = omega arith in
       let within : at < 256 * step * (span + 8) = in_rows row (256 * step) (span + 8) column r below in
       ap (λ t. get_or t (4 + row * (span + 8) + column) (pos 0)) laid.laid
       ∙ get_or-map-range_with_len (row_entry hs step span) 0 (256 * step * (span + 8) + 4) (4 + row * (span + 8) + column) (4 + row * (span + 8) + column) (pos 0) (omega arith) (omega arith)
-      ∙ ap (λ i. last_group hs (groups_at step span (i / (span + 8) / 256) (i % (span + 8))) (i / (span + 8) % 256)) behind
+      ∙ ap (λ i. last_group hs (groups_at step span (i / (span + 8) / 256) (i % (span + 8))) (i / (span + 8) % 256)) after
       ∙ ap₂ (λ (m n : ℕ). last_group hs (groups_at step span (m / 256) n) (m % 256)) (div-mul-add row (span + 8) column below) (mod-mul-add row (span + 8) column below)
       ∙ ap₂ (λ (m n : ℕ). last_group hs (groups_at step span m column) n) q b
 
 pub few_entries : (hs entries : List ℤ) (step span : ℕ) → IsLaid hs entries step span → length entries ≤ 2 ^ 26
-few_entries hs entries step span laid = omega (arith, ap length laid.laid ∙ length-rows hs step span, mul-le (256 * step) (span + 8) 32768 1032 (omega (arith, laid.most)) (omega (arith, laid.narrow)))
+few_entries hs entries step span laid = omega (arith, ap length laid.laid ∙ length-lookup hs step span, mul-le (256 * step) (span + 8) 32768 1032 (omega (arith, laid.most)) (omega (arith, laid.narrow)))
 
 -- what it has from the column of a window on
-pub place_has : (spot : Spot) (j byte : ℕ) → byte ≡ get_or spot.bytes.now spot.p 0 → byte < 256 → IsReached spot j → HasEntries spot j (row_place spot.rows.span spot.window spot.place byte j)
+pub place_has : (spot : Spot) (j byte : ℕ) → byte ≡ get_or spot.bytes.now spot.p 0 → byte < 256 → IsReached spot j → HasEntries spot j (row_place spot.lookup.span spot.window spot.place byte j)
 unfolding entry_of
 place_has spot j byte is small reached number last =
-    let rows = spot.rows in
-    let row = 4 + (256 * spot.place + byte) * (rows.span + 8) in
+    let lookup = spot.lookup in
+    let row = 4 + (256 * spot.place + byte) * (lookup.span + 8) in
     record {
-      within = omega (arith, row_fits rows.taps.now rows.entries.now rows.step rows.span spot.place byte rows.laid spot.spot.inside small, reached.begun, last);
+      within = omega (arith, row_fits lookup.taps.now lookup.entries.now lookup.step lookup.span spot.place byte lookup.laid spot.spot.inside small, reached.begun, last);
       each = λ k h.
-          let next : row_place rows.span spot.window spot.place byte j + k ≡ row + (j + k + rows.span - (spot.window + 1)) = omega (arith, reached.begun) in
-          ap (λ i. get_or rows.entries.now i (pos 0)) next
-          ∙ column_is rows.taps.now rows.entries.now rows.step rows.span spot.place byte rows.laid spot.spot.inside small (j + k + rows.span - (spot.window + 1)) (omega (arith, reached.begun, h, last))
-          ∙ ap₂ (last_group rows.taps.now) (ends_groups rows.step rows.span spot.p spot.window spot.place (j + k) spot.spot (omega (arith, reached.begun))) is;
+          let next : row_place lookup.span spot.window spot.place byte j + k ≡ row + (j + k + lookup.span - (spot.window + 1)) = omega (arith, reached.begun) in
+          ap (λ i. get_or lookup.entries.now i (pos 0)) next
+          ∙ column_is lookup.taps.now lookup.entries.now lookup.step lookup.span spot.place byte lookup.laid spot.spot.inside small (j + k + lookup.span - (spot.window + 1)) (omega (arith, reached.begun, h, last))
+          ∙ ap₂ (last_group lookup.taps.now) (ends_groups lookup.step lookup.span spot.p spot.window spot.place (j + k) spot.spot (omega (arith, reached.begun))) is;
     }
 
 -- a window begins with each byte at most
-pub windows_rise : (step p d window place next behind : ℕ) → IsSpot step p window place → IsSpot step (p + d) next behind → (window ≤ next) × (next ≤ window + d)
-windows_rise step p d window place next behind spot then =
+pub windows_rise : (step p d window place next after : ℕ) → IsSpot step p window place → IsSpot step (p + d) next after → (window ≤ next) × (next ≤ window + d)
+windows_rise step p d window place next after spot then =
     let most : d ≤ d * step = omega (arith, mul-le d 1 d step (omega arith) (omega (arith, spot.inside))) in (
       elim (cases_lt next window) [
         | inl less ↦ let e : (next + 1) * step ≤ window * step = mul-le-mul_right step (omega arith) in absurd (omega (arith, spot.at, then.at, then.inside))
@@ -129,28 +129,28 @@ windows_rise step p d window place next behind spot then =
       ],
     )
 
--- a byte behind another, by its place from the first
-pub spot_of : (d : ℕ) (one two : Spot) → IsBehind d one two → IsSpot one.rows.step (one.p + d) two.window two.place
-spot_of d one two behind = rw (← behind.rows, ← behind.p) two.spot
+-- a byte after another, by its place from the first
+pub spot_of : (d : ℕ) (one two : Spot) → IsAfter d one two → IsSpot one.lookup.step (one.p + d) two.window two.place
+spot_of d one two after = rw (← after.lookup, ← after.p) two.spot
 
-pub spots_rise : (d : ℕ) (one two : Spot) → IsBehind d one two → (one.window ≤ two.window) × (two.window ≤ one.window + d)
-spots_rise d one two behind = windows_rise one.rows.step one.p d one.window one.place two.window two.place one.spot (spot_of d one two behind)
+pub spots_rise : (d : ℕ) (one two : Spot) → IsAfter d one two → (one.window ≤ two.window) × (two.window ≤ one.window + d)
+spots_rise d one two after = windows_rise one.lookup.step one.p d one.window one.place two.window two.place one.spot (spot_of d one two after)
 
-pub behind_more : (d e : ℕ) (one two three : Spot) → IsBehind d one two → IsBehind e two three → IsBehind (d + e) one three
-behind_more d e one two three first second = record { rows = second.rows ∙ first.rows; bytes = second.bytes ∙ first.bytes; p = omega (arith, first.p, second.p) }
+pub after_more : (d e : ℕ) (one two three : Spot) → IsAfter d one two → IsAfter e two three → IsAfter (d + e) one three
+after_more d e one two three first second = record { lookup = second.lookup ∙ first.lookup; bytes = second.bytes ∙ first.bytes; p = omega (arith, first.p, second.p) }
 
-pub entries_behind : (d : ℕ) (one two : Spot) (j number at : ℕ) → IsBehind d one two → HasEntries two j at → j + number ≤ one.window + 9 → AreRowEntries one.rows.taps.now one.bytes.now one.rows.step one.rows.entries.now (one.p + d) j number at
-entries_behind d one two j number at behind has last = rw (← behind.rows, ← behind.bytes, ← behind.p) (has number (omega (arith, last, spots_rise d one two behind)))
+pub entries_after : (d : ℕ) (one two : Spot) (j number at : ℕ) → IsAfter d one two → HasEntries two j at → j + number ≤ one.window + 9 → AreRowEntries one.lookup.taps.now one.bytes.now one.lookup.step one.lookup.entries.now (one.p + d) j number at
+entries_after d one two j number at after has last = rw (← after.lookup, ← after.bytes, ← after.p) (has number (omega (arith, last, spots_rise d one two after)))
 
-pub places_behind : (d : ℕ) (spot one : Spot) (j number : ℕ) (at : List ℕ) → IsBehind d spot one → ArePlaces one j at → j + number ≤ spot.window + 9
-    → (b : ℕ) → b < 4 → AreRowEntries spot.rows.taps.now spot.bytes.now spot.rows.step spot.rows.entries.now (spot.p + (d + b)) j number (get_or at b 0)
-places_behind d spot one j number at behind has last b h =
-    let place : one.p + b ≡ spot.p + (d + b) = omega (arith, behind.p) in
-    rw (← place, ← behind.rows, ← behind.bytes) (has b number h (omega (arith, last, spots_rise d spot one behind)))
+pub places_after : (d : ℕ) (spot one : Spot) (j number : ℕ) (at : List ℕ) → IsAfter d spot one → ArePlaces one j at → j + number ≤ spot.window + 9
+    → (b : ℕ) → b < 4 → AreRowEntries spot.lookup.taps.now spot.bytes.now spot.lookup.step spot.lookup.entries.now (spot.p + (d + b)) j number (get_or at b 0)
+places_after d spot one j number at after has last b h =
+    let place : one.p + b ≡ spot.p + (d + b) = omega (arith, after.p) in
+    rw (← place, ← after.lookup, ← after.bytes) (has b number h (omega (arith, last, spots_rise d spot one after)))
 
--- the windows of a byte's row, and those of a byte behind it
-pub is_reached : (k start : ℕ) (here last : Spot) → IsBehind k here last → k ≤ 7 → start ≡ last.window + 1 - here.rows.span → IsReached here start
-is_reached k start here last behind few is = record { begun = omega (arith, is, spots_rise k here last behind); near = omega (arith, is, few, spots_rise k here last behind) }
+-- the windows of a byte's row, and those of a byte after it
+pub is_reached : (k start : ℕ) (here last : Spot) → IsAfter k here last → k ≤ 7 → start ≡ last.window + 1 - here.lookup.span → IsReached here start
+is_reached k start here last after few is = record { begun = omega (arith, is, spots_rise k here last after); near = omega (arith, is, few, spots_rise k here last after) }
 
 pub by_four : (P : ℕ → ℕ → Type 0) (a b c d : ℕ) → P 0 a → P 1 b → P 2 c → P 3 d → (k : ℕ) → k < 4 → P k (get_or (a ∷ b ∷ c ∷ d ∷ []) k 0)
 by_four P a b c d p q r s zero h = p
@@ -159,7 +159,7 @@ by_four P a b c d p q r s (suc (suc zero)) h = r
 by_four P a b c d p q r s (suc (suc (suc zero))) h = s
 by_four P a b c d p q r s (suc (suc (suc (suc k)))) h = absurd (omega (arith, h))
 
--- ---- the windows in which eight bytes stand
+-- ---- the windows that contain eight bytes
 -- where steps are eights of bytes, the last of eight has at least seven before it in its step
 seven_before : (step p window place : ℕ) → p % 8 ≡ 0 → step % 8 ≡ 0 → p + 7 ≡ window * step + place → window * step ≤ p
 seven_before step p window place eights whole at = omega (arith, whole_step window step whole)
@@ -177,11 +177,11 @@ ends_before step span size p window place j eights spot wide loose early =
 pub window_before : (step p window place : ℕ) → IsSpot step p window place → window ≤ p
 window_before step p window place spot = omega (arith, spot.at, mul-le window 1 window step (omega arith) (omega (arith, spot.inside)))
 
--- a window that begins behind them
-pub begins_behind : (step p window place j : ℕ) → IsSpot step p window place → window < j → p < j * step
-begins_behind step p window place j spot late = let e : (window + 1) * step ≤ j * step = mul-le-mul_right step (omega arith) in omega (arith, spot.at, spot.inside)
+-- a window that begins after them
+pub begins_after : (step p window place j : ℕ) → IsSpot step p window place → window < j → p < j * step
+begins_after step p window place j spot late = let e : (window + 1) * step ≤ j * step = mul-le-mul_right step (omega arith) in omega (arith, spot.at, spot.inside)
 
--- the last of so many windows is among those that a byte before its end can reach
+-- the last of n windows is among those that a byte before its end can reach
 pub window_reaches : (step span size p window place limit : ℕ) → IsSpot step p window place → size ≤ span * step → p + 1 + step ≤ limit * step + size → window + 1 ≤ limit + span
 window_reaches step span size p window place limit spot wide reached = elim (cases_lt window (limit + span)) [
   | inl before ↦ omega arith
@@ -214,20 +214,20 @@ module _ (hs : List ℤ) (bytes : List ℕ) (step p j : ℕ) (small : sum_by uns
 
 -- the entry of a byte of a block for one of the block's windows
 pub block_entry : (block : Block) (b j : ℕ) → b < 8 → block.start ≤ j → j < block.start + block.number
-    → get_or block.rows.entries.now (get_or block.at b 0 + (j - block.start)) (pos 0) ≡ entry_of block.rows.taps.now block.bytes.now block.rows.step (block.p + b) j
+    → get_or block.lookup.entries.now (get_or block.at b 0 + (j - block.start)) (pos 0) ≡ entry_of block.lookup.taps.now block.bytes.now block.lookup.step (block.p + b) j
 block_entry block b j below from to =
     let window : block.start + (j - block.start) ≡ j = omega (arith, from) in
-    (block.block.each b below).each (j - block.start) (omega (arith, from, to)) ∙ ap (entry_of block.rows.taps.now block.bytes.now block.rows.step (block.p + b)) window
+    (block.block.each b below).each (j - block.start) (omega (arith, from, to)) ∙ ap (entry_of block.lookup.taps.now block.bytes.now block.lookup.step (block.p + b)) window
 
 -- lanes that hold eight sums, to which the entries of a byte are added
 pub lanes_added : (block : Block) (b j : ℕ) (lanes : List ℕ) → b < 8 → block.start ≤ j → j + 8 ≤ block.start + block.number → AreLanes (sum_within block b) j lanes
-    → AreLanes (sum_within block (b + 1)) j (zip2 wrap_add lanes (map (of_z w32) (take 8 (drop (get_or block.at b 0 + (j - block.start)) block.rows.entries.now))))
+    → AreLanes (sum_within block (b + 1)) j (zip2 wrap_add lanes (map (of_z w32) (take 8 (drop (get_or block.at b 0 + (j - block.start)) block.lookup.entries.now))))
 lanes_added block b j lanes below from to before =
-    let hs = block.rows.taps.now in
+    let hs = block.lookup.taps.now in
     let bytes = block.bytes.now in
-    let step = block.rows.step in
-    let entries = block.rows.entries.now in
-    let small = block.rows.laid.small in
+    let step = block.lookup.step in
+    let entries = block.lookup.entries.now in
+    let small = block.lookup.laid.small in
     let p = block.p + b in
     let k = get_or block.at b 0 + (j - block.start) in
     let within : p < length bytes = omega (arith, block.block.within, below) in
@@ -244,13 +244,13 @@ lanes_added block b j lanes below from to before =
           ∙ ap (of_z w32) (next_sum hs bytes step p (j + l) within ∙ ap (λ m. sum_before hs bytes step m (j + l)) next);
     }
 
--- ---- the sums before and behind
+-- ---- the sums before and after
 -- before the first byte
 pub none_before : (hs : List ℤ) (bytes : List ℕ) (step j : ℕ) → sum_before hs bytes step 0 j ≡ pos 0
 unfolding sum_before
 none_before hs bytes step j = let none : 0 - j * step ≡ 0 = omega arith in ap (λ (n : ℕ). window_sum (take (8 * n) hs) bytes (j * step)) none
 
--- the window begins behind byte p
+-- the window begins after byte p
 pub not_begun : (hs : List ℤ) (bytes : List ℕ) (step p q j : ℕ) → p ≤ j * step → q ≤ j * step → sum_before hs bytes step p j ≡ sum_before hs bytes step q j
 unfolding sum_before
 not_begun hs bytes step p q j before then =
@@ -266,7 +266,7 @@ pub all_before : (hs : List ℤ) (bytes : List ℕ) (step p q j : ℕ) → lengt
 all_before hs bytes step p q j whole past then = whole_window hs bytes step p j whole past ∙ sym (whole_window hs bytes step q j whole then)
 
 -- taps with their rows
-pub is_laid : (h taps entries : List ℤ) (n step span : ℕ) → taps ≡ aligned h n → 1 ≤ length h → length h ≤ 4096 → sum_by unsigned_abs h ≤ 2 ^ 30 → 1 ≤ step → step ≤ 128 → length taps / 8 ≤ span * step → (0 < step % 8 → length taps / 8 + 7 ≤ span * step) → span ≤ 1024 → span % 8 ≡ 0 → entries ≡ rows taps step span
+pub is_laid : (h taps entries : List ℤ) (n step span : ℕ) → taps ≡ aligned h n → 1 ≤ length h → length h ≤ 4096 → sum_by unsigned_abs h ≤ 2 ^ 30 → 1 ≤ step → step ≤ 128 → length taps / 8 ≤ span * step → (0 < step % 8 → length taps / 8 + 7 ≤ span * step) → span ≤ 1024 → span % 8 ≡ 0 → entries ≡ lookup taps step span
     → IsLaid taps entries step span
 is_laid h taps entries n step span e some few small least most wide loose narrow eights made =
     let size = ap length e ∙ length-aligned h n in

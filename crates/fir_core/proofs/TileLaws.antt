@@ -147,11 +147,11 @@ pub tile_length : (start end : ℕ) (xs : List ℤ) → end ≤ length xs → le
 tile_length start end xs within = omega (arith, length-take (end - start) (drop start xs), length-drop start xs)
 
 -- the convolution at a place whose window lies within the bytes, by the taps in the order of the bits
-pub conv_at : (h turned : List ℤ) (bits : List Bool) (bytes : List ℕ) (count n delay : ℕ) → turned ≡ aligned h delay → n % 8 ≡ delay % 8 → bits ≡ unpacked bytes count → length turned / 8 ≤ n / 8 + 1 → n < count → count ≤ 8 * length bytes
-    → conv h bits n ≡ dot turned (bits_of (drop (n / 8 + 1 - length turned / 8) bytes))
-conv_at h turned bits bytes count n delay is phase packed early late enough =
-    let at = n / 8 + 1 - length turned / 8 in
-    let size : length turned ≡ 8 * window_size (length h) delay = ap length is ∙ length-aligned h delay in
+pub conv_at : (h reversed : List ℤ) (bits : List Bool) (bytes : List ℕ) (count n delay : ℕ) → reversed ≡ aligned h delay → n % 8 ≡ delay % 8 → bits ≡ unpacked bytes count → length reversed / 8 ≤ n / 8 + 1 → n < count → count ≤ 8 * length bytes
+    → conv h bits n ≡ dot reversed (bits_of (drop (n / 8 + 1 - length reversed / 8) bytes))
+conv_at h reversed bits bytes count n delay is phase packed early late enough =
+    let at = n / 8 + 1 - length reversed / 8 in
+    let size : length reversed ≡ 8 * window_size (length h) delay = ap length is ∙ length-aligned h delay in
     let place : n / 8 + 1 ≡ at + window_size (length h) n = omega (arith, size, same_size (length h) n delay phase) in
     ap (λ bs. conv h bs n) packed ∙ conv_by_window h bytes count n at place late enough ∙ ap (λ hs. window_sum hs bytes at) (aligned_by_phase h n delay phase ∙ sym is)
 
@@ -170,5 +170,5 @@ numbers_reach j number count factor delay some few near limit within =
     omega arith
 
 -- a sample by its sum, and the sum that was rounded
-pub sample_told : (d e : Decimator) (bits : List Bool) (index : ℕ) (sum most : ℤ) → d ≡ e → sum ≡ conv d.taps bits (index * d.factor + d.delay) → most ≡ rounded sum d.shift → saturate_to_bits (d.width - 1) most ≡ sample_at e bits index
-sample_told d e bits index sum most same s m = ap (saturate_to_bits (d.width - 1)) (m ∙ ap (λ z. rounded z d.shift) s) ∙ ap (λ (f : Decimator). sample_at f bits index) same
+pub sample_stated : (d e : Decimator) (bits : List Bool) (index : ℕ) (sum most : ℤ) → d ≡ e → sum ≡ conv d.taps bits (index * d.factor + d.delay) → most ≡ rounded sum d.shift → saturate_to_bits (d.width - 1) most ≡ sample_at e bits index
+sample_stated d e bits index sum most same s m = ap (saturate_to_bits (d.width - 1)) (m ∙ ap (λ z. rounded z d.shift) s) ∙ ap (λ (f : Decimator). sample_at f bits index) same

@@ -17,7 +17,7 @@ use Rattle.fir_core.proofs.SumOrder.{sum_below_same, sum_below_turned}
 use Rattle.fir_core.proofs.Sums.{signal_inside, term}
 
 -- ---- the aligned taps
--- zeros before and behind the taps add nothing
+-- zeros before and after the taps add nothing
 dot_aligned : (h : List ℤ) (n : ℕ) (bs : List Bool) → dot (aligned h n) bs ≡ dot (reverse h) (drop (bits_preceding (length h) n) bs)
 dot_aligned h n bs =
     let before = bits_preceding (length h) n in
@@ -38,13 +38,13 @@ length-aligned h n =
     let rest : List ℤ = replicate (bits_following n) (pos 0) in
     length-append (zeros ++ reverse h) rest ∙ ap₂ ◌+◌ (length-append zeros (reverse h) ∙ ap₂ ◌+◌ (length-replicate before (pos 0)) (length-reverse h)) (length-replicate (bits_following n) (pos 0)) ∙ omega arith
 
--- as they are put together: zeros, the taps turned, and zeros
+-- as they are put together: zeros, the reversed taps, and zeros
 pub aligned_made : (h start front back both all : List ℤ) (n filled size none long : ℕ) → filled ≡ length h + bits_following n → size ≡ 8 * div_ceil filled 8 → start ≡ [] → none ≡ 0
     → front ≡ take (size - filled) start ++ replicate (size - filled - none) (pos 0) → back ≡ reverse h → both ≡ front ++ back → long ≡ length both → all ≡ take size both ++ replicate (size - long) (pos 0)
     → all ≡ aligned h n
-aligned_made h start front back both all n filled size none long f s empty zero front_is back_is both_is l is =
+aligned_made h start front back both all n filled size none long f s empty zero prefix_is back_is both_is l is =
     let before = bits_preceding (length h) n in
-    let zeros : front ≡ replicate before (pos 0) = front_is ∙ ap₂ ◌++◌ (ap (take (size - filled)) empty ∙ take_all (size - filled) [] (omega arith)) (ap (λ m. replicate m (pos 0)) (omega (arith, ap (λ m. 8 * div_ceil m 8 - m) f))) in
+    let zeros : front ≡ replicate before (pos 0) = prefix_is ∙ ap₂ ◌++◌ (ap (take (size - filled)) empty ∙ take_all (size - filled) [] (omega arith)) (ap (λ m. replicate m (pos 0)) (omega (arith, ap (λ m. 8 * div_ceil m 8 - m) f))) in
     let whole : both ≡ replicate before (pos 0) ++ reverse h = both_is ∙ ap₂ ◌++◌ zeros back_is in
     let long_is : long + bits_following n ≡ size = omega (arith, l, ap length whole, length-append (replicate before (pos 0)) (reverse h), length-replicate before (pos 0), length-reverse h, (div_ceil_times filled 8 (omega arith)).0, ap (λ m. 8 * div_ceil m 8 - m) f) in
     is ∙ ap₂ ◌++◌ (take_all size both (omega arith) ∙ whole) (ap (λ m. replicate m (pos 0)) (omega arith))

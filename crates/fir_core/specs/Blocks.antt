@@ -1,43 +1,43 @@
 -- Neighbouring bytes, by the windows that contain them, and the sums that they contribute to.
 use Rattle.std.specs.Prelude.{◌≡◌, ℕ, ◌+◌, ◌*◌, ◌/◌, ◌<◌, ◌≤◌, ℤ, pos, List, length, slice_index, slice_index_or}
-use Rattle.fir_core.specs.Rows.{AreRowEntries, sum_before}
-use Rattle.fir_core.specs.declared.rows.Block.{Block}
-use Rattle.fir_core.specs.declared.rows.Spot.{Spot}
+use Rattle.fir_core.specs.Lookup.{AreRowEntries, sum_before}
+use Rattle.fir_core.specs.declared.lookup.Block.{Block}
+use Rattle.fir_core.specs.declared.lookup.Spot.{Spot}
 
 -- the byte n places after another
-pub record IsBehind (number : ℕ) (one two : Spot) : Type 0 where
-  pub rows : two.rows ≡ one.rows
+pub record IsAfter (number : ℕ) (one two : Spot) : Type 0 where
+  pub lookup : two.lookup ≡ one.lookup
   pub bytes : two.bytes ≡ one.bytes
   pub p : two.p ≡ one.p + number
 
 -- a byte and the three after it
 pub record AreFour (spot one two three four : Spot) : Type 0 where
   pub first : one ≡ spot
-  pub second : IsBehind 1 spot two
-  pub third : IsBehind 2 spot three
-  pub fourth : IsBehind 3 spot four
+  pub second : IsAfter 1 spot two
+  pub third : IsAfter 2 spot three
+  pub fourth : IsAfter 3 spot four
 
 -- window j is among those that a byte's row has
 pub record IsReached (spot : Spot) (j : ℕ) : Type 0 where
-  pub begun : spot.window < j + spot.rows.span
+  pub begun : spot.window < j + spot.lookup.span
   pub near : j ≤ spot.window + 8
 
 -- a byte's row has at a place what the byte adds to the windows from window j on
 abbrev pub HasEntries : Spot → ℕ → ℕ → Type 0
-HasEntries spot j at = (number : ℕ) → j + number ≤ spot.window + 9 → AreRowEntries spot.rows.taps.now spot.bytes.now spot.rows.step spot.rows.entries.now spot.p j number at
+HasEntries spot j at = (number : ℕ) → j + number ≤ spot.window + 9 → AreRowEntries spot.lookup.taps.now spot.bytes.now spot.lookup.step spot.lookup.entries.now spot.p j number at
 
 -- the rows of a byte and of the three after it have at these places what each of them adds
 abbrev pub ArePlaces : Spot → ℕ → List ℕ → Type 0
-ArePlaces spot j at = (b number : ℕ) → b < 4 → j + number ≤ spot.window + 9 → AreRowEntries spot.rows.taps.now spot.bytes.now spot.rows.step spot.rows.entries.now (spot.p + b) j number (slice_index at b)
+ArePlaces spot j at = (b number : ℕ) → b < 4 → j + number ≤ spot.window + 9 → AreRowEntries spot.lookup.taps.now spot.bytes.now spot.lookup.step spot.lookup.entries.now (spot.p + b) j number (slice_index at b)
 
 -- the block of the eight bytes from a byte on, with all windows below a limit that contain one of them
 pub record IsBlockOf (spot : Spot) (limit : ℕ) (block : Block) : Type 0 where
-  pub rows : block.rows ≡ spot.rows
+  pub lookup : block.lookup ≡ spot.lookup
   pub bytes : block.bytes ≡ spot.bytes
   pub p : block.p ≡ spot.p
   pub within : block.limit ≡ limit
-  pub done : (j : ℕ) → j < block.start → length spot.rows.taps.now / 8 + j * spot.rows.step ≤ spot.p
-  pub rest : (j : ℕ) → block.start + block.number ≤ j → j < limit → spot.p + 8 ≤ j * spot.rows.step
+  pub done : (j : ℕ) → j < block.start → length spot.lookup.taps.now / 8 + j * spot.lookup.step ≤ spot.p
+  pub rest : (j : ℕ) → block.start + block.number ≤ j → j < limit → spot.p + 8 ≤ j * spot.lookup.step
 
 -- n windows from window j on are among those of a block
 pub record AreOf (block : Block) (j number : ℕ) : Type 0 where
@@ -46,11 +46,11 @@ pub record AreOf (block : Block) (j number : ℕ) : Type 0 where
 
 -- the sums of the windows over the bytes before a byte
 abbrev pub AreSummed : Spot → List ℤ → Type 0
-AreSummed spot sums = (j : ℕ) → j < length sums → slice_index_or sums j (pos 0) ≡ sum_before spot.rows.taps.now spot.bytes.now spot.rows.step spot.p j
+AreSummed spot sums = (j : ℕ) → j < length sums → slice_index_or sums j (pos 0) ≡ sum_before spot.lookup.taps.now spot.bytes.now spot.lookup.step spot.p j
 
 -- the sum of a window over the bytes before a block and n of the block's
 abbrev pub sum_within : Block → ℕ → ℕ → ℤ
-sum_within block number j = sum_before block.rows.taps.now block.bytes.now block.rows.step (block.p + number) j
+sum_within block number j = sum_before block.lookup.taps.now block.bytes.now block.lookup.step (block.p + number) j
 
 -- the sums of the windows before window j include a block's bytes, and the others those before it
 pub record AreAdded (block : Block) (j : ℕ) (sums : List ℤ) : Type 0 where

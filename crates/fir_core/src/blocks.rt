@@ -1,9 +1,9 @@
 //! Eight neighbouring bytes, and the places in their rows of what they add.
 
 ghost use Rattle.std.specs.Prelude.{◌≡◌, ◌+◌, ◌*◌, ◌/◌, ◌%◌, ◌<◌, ◌≤◌, length};
-ghost use Rattle.fir_core.specs.Blocks.{ArePlaces, AreFour, HasEntries, IsBehind, IsBlockOf, IsReached};
+ghost use Rattle.fir_core.specs.Blocks.{ArePlaces, AreFour, HasEntries, IsAfter, IsBlockOf, IsReached};
 
-use crate::rows::{Block, Spot};
+use crate::lookup::{Block, Spot};
 
 /// Four neighbouring bytes.
 #[derive(Clone, Copy)]
@@ -18,12 +18,12 @@ struct Spots<'a> {
 /// The byte `number` places after another one, in the same step.
 #[inline(always)]
 fn on<'a>(spot: Spot<'a>, number: usize) -> Spot<'a>
-    requires inside { spot.place + number < spot.rows.step }
+    requires inside { spot.place + number < spot.lookup.step }
     requires within { spot.p + number ≤ length spot.bytes.now }
-    ensures { IsBehind number spot.entry result }
+    ensures { IsAfter number spot.entry result }
 {
     Spot {
-        rows: spot.rows,
+        lookup: spot.lookup,
         bytes: spot.bytes,
         p: spot.p + number,
         window: spot.window,
@@ -35,13 +35,13 @@ fn on<'a>(spot: Spot<'a>, number: usize) -> Spot<'a>
 #[inline(always)]
 pub(crate) fn next<'a>(spot: Spot<'a>) -> Spot<'a>
     requires { spot.p < length spot.bytes.now }
-    ensures { IsBehind 1 spot.entry result }
+    ensures { IsAfter 1 spot.entry result }
 {
-    if spot.place + 1 < spot.rows.step {
+    if spot.place + 1 < spot.lookup.step {
         return on(spot, 1);
     }
     Spot {
-        rows: spot.rows,
+        lookup: spot.lookup,
         bytes: spot.bytes,
         p: spot.p + 1,
         window: spot.window + 1,
@@ -55,7 +55,7 @@ fn spots_from<'a>(spot: Spot<'a>) -> Spots<'a>
     requires { spot.p + 4 ≤ length spot.bytes.now }
     ensures { AreFour spot.entry result.one result.two result.three result.four }
 {
-    if spot.place + 3 < spot.rows.step {
+    if spot.place + 3 < spot.lookup.step {
         return Spots {
             one: spot,
             two: on(spot, 1),
@@ -82,7 +82,7 @@ pub(crate) fn row_place(spot: Spot<'_>, j: usize) -> usize
     ensures { HasEntries spot.entry j result }
 {
     let row = 256 * spot.place + spot.bytes[spot.p] as usize;
-    4 + row * (spot.rows.span + 8) + (j + spot.rows.span - (spot.window + 1))
+    4 + row * (spot.lookup.span + 8) + (j + spot.lookup.span - (spot.window + 1))
 }
 
 /// The places in the rows of what each of four bytes adds.
@@ -107,19 +107,19 @@ fn places_of(spots: Spots<'_>, j: usize) -> [usize; 4]
 pub(crate) fn block_of<'a>(spot: Spot<'a>, limit: usize) -> (Block<'a>, Spot<'a>)
     requires eights { spot.p % 8 ≡ 0 }
     requires within { spot.p + 8 ≤ length spot.bytes.now }
-    requires reached { spot.p + 8 + spot.rows.step ≤ limit * spot.rows.step + length spot.rows.taps.now / 8 }
+    requires reached { spot.p + 8 + spot.lookup.step ≤ limit * spot.lookup.step + length spot.lookup.taps.now / 8 }
     ensures block { IsBlockOf spot.entry limit result.0 }
-    ensures next { IsBehind 8 spot.entry result.1 }
+    ensures next { IsAfter 8 spot.entry result.1 }
 {
     let front = spots_from(spot);
     let back = spots_from(next(front.four));
-    let behind = back.four.window + 1;
-    let start = behind.saturating_sub(spot.rows.span);
-    let number = behind.min(limit) - start;
+    let after = back.four.window + 1;
+    let start = after.saturating_sub(spot.lookup.span);
+    let number = after.min(limit) - start;
     let [a, b, c, d] = places_of(front, start);
     let [e, f, g, h] = places_of(back, start);
     let block = Block {
-        rows: spot.rows,
+        lookup: spot.lookup,
         bytes: spot.bytes,
         p: spot.p,
         start,

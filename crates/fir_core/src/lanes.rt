@@ -18,11 +18,11 @@ use std::simd::prelude::*;
 
 // A decimator, and its taps in the order of the bits.
 #[derive(Clone, Copy)]
-struct Turned<'a> {
+struct Reversed<'a> {
     taps: &'a Taps,
-    turned: &'a [i32],
-    ghost are: { turned.now ≡ aligned taps.now.taps taps.now.delay },
-    ghost small: { sum_by unsigned_abs turned.now ≤ 2 ^ 30 },
+    reversed: &'a [i32],
+    ghost are: { reversed.now ≡ aligned taps.now.taps taps.now.delay },
+    ghost small: { sum_by unsigned_abs reversed.now ≤ 2 ^ 30 },
 }
 
 /// All samples of a channel, each sum in lanes of eight taps.
@@ -35,43 +35,43 @@ pub(crate) fn decimate_by_lanes(
 {
     let aligned = aligned_taps(alloc, taps)?;
     let number = bits.len().div_ceil(taps.factor() as usize);
-    let turned = Turned {
+    let reversed = Reversed {
         taps,
-        turned: aligned.as_slice(),
+        reversed: aligned.as_slice(),
     };
     let mut made = Vec::with_capacity(alloc, number)?;
     for j in 0..number {
-        made.push(sample_by_lanes(turned, bits, j))?;
+        made.push(sample_by_lanes(reversed, bits, j))?;
     }
     Ok(made)
 }
 
 // Sample `j` of a channel, by the taps in the order of the bits.
-fn sample_by_lanes(turned: Turned<'_>, bits: &Bits, j: usize) -> i32
-    requires { j * turned.taps.now.factor < length bits.now }
-    ensures { result ≡ sample_at turned.entry.taps.now bits.now j }
+fn sample_by_lanes(reversed: Reversed<'_>, bits: &Bits, j: usize) -> i32
+    requires { j * reversed.taps.now.factor < length bits.now }
+    ensures { result ≡ sample_at reversed.entry.taps.now bits.now j }
 {
     let _count = bits.len();
-    let taps = turned.taps;
+    let taps = reversed.taps;
     let n = j * taps.factor as usize + taps.delay as usize;
     clip(
-        round(sum_at_by_lanes(turned, bits, n), taps.shift),
+        round(sum_at_by_lanes(reversed, bits, n), taps.shift),
         taps.width,
     )
 }
 
 // The convolution at a place: in lanes if its window is within the recording, else bit by bit.
-fn sum_at_by_lanes(turned: Turned<'_>, bits: &Bits, n: usize) -> i32
-    requires phase { n % 8 ≡ turned.taps.now.delay % 8 }
+fn sum_at_by_lanes(reversed: Reversed<'_>, bits: &Bits, n: usize) -> i32
+    requires phase { n % 8 ≡ reversed.taps.now.delay % 8 }
     requires place { n < 2 ^ 37 }
-    ensures value { result ≡ conv turned.entry.taps.now.taps bits.now n }
+    ensures value { result ≡ conv reversed.entry.taps.now.taps bits.now n }
     ensures bound { unsigned_abs result ≤ 2 ^ 30 }
 {
-    let size = turned.turned.len() / 8;
+    let size = reversed.reversed.len() / 8;
     if n / 8 + 1 < size || bits.len() <= n {
-        return sum_at(turned.taps, bits, n);
+        return sum_at(reversed.taps, bits, n);
     }
-    dot_by_lanes(turned.turned, &bits.as_bytes()[n / 8 + 1 - size..])
+    dot_by_lanes(reversed.reversed, &bits.as_bytes()[n / 8 + 1 - size..])
 }
 
 // The sum of the taps, each with its bit's sign: whole groups of eight in lanes, the rest one by one.

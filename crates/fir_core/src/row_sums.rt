@@ -2,11 +2,11 @@
 //! adds to each window that contains it.
 
 ghost use Rattle.std.specs.Prelude.{◌≡◌, ◌+◌, ◌*◌, ◌/◌, ◌%◌, ◌<◌, ◌≤◌, length};
-ghost use Rattle.fir_core.specs.Blocks.{AreAdded, AreOf, AreSummed, IsBehind, sum_within};
+ghost use Rattle.fir_core.specs.Blocks.{AreAdded, AreOf, AreSummed, IsAfter, sum_within};
 ghost use Rattle.fir_core.specs.Windows.{AreWithin, window_sums};
 
 use crate::blocks::{block_of, next, row_place};
-use crate::rows::{Block, Rows, Spot, with_step};
+use crate::lookup::{Block, Lookup, Spot, with_step};
 use std::simd::prelude::*;
 
 /// Adds eight bytes to the sum of window `j`.
@@ -17,7 +17,7 @@ fn add_one(block: Block<'_>, j: usize, sum: i32) -> i32
 {
     let mut all = sum;
     for b in 0..8 {
-        all += block.rows.entries[block.at[b] + (j - block.start)];
+        all += block.lookup.entries[block.at[b] + (j - block.start)];
     }
     all
 }
@@ -29,7 +29,7 @@ fn add_eight(block: Block<'_>, j: usize, sums: &mut [i32])
     requires added { AreAdded block j sums.old }
     ensures { AreAdded block.entry (j + 8) sums.new }
 {
-    let entries = block.rows.entries;
+    let entries = block.lookup.entries;
     let mut lanes = i32x8::from_slice(&sums[j..]);
     for b in 0..8 {
         let at = block.at[b] + (j - block.start);
@@ -66,86 +66,86 @@ fn add_rest(block: Block<'_>, sums: &mut [i32])
 fn add_block<'a>(spot: Spot<'a>, sums: &mut [i32]) -> Spot<'a>
     requires eights { spot.p % 8 ≡ 0 }
     requires within { spot.p + 8 ≤ length spot.bytes.now }
-    requires reached { spot.p + 8 + spot.rows.step ≤ length sums.old * spot.rows.step + length spot.rows.taps.now / 8 }
+    requires reached { spot.p + 8 + spot.lookup.step ≤ length sums.old * spot.lookup.step + length spot.lookup.taps.now / 8 }
     requires so_far { AreSummed spot sums.old }
     ensures len { length sums.new ≡ length sums.old }
     ensures sums { AreSummed result sums.new }
-    ensures next { IsBehind 8 spot.entry result }
+    ensures next { IsAfter 8 spot.entry result }
 {
-    let (block, behind) = block_of(spot, sums.len());
+    let (block, after) = block_of(spot, sums.len());
     add_eights(block, sums);
     if block.number % 8 != 0 {
         add_rest(block, sums);
     }
-    behind
+    after
 }
 
 /// Adds a byte to the sum of each window, and returns the byte after it.
 #[inline(always)]
 fn add_last<'a>(spot: Spot<'a>, sums: &mut [i32]) -> Spot<'a>
     requires within { spot.p < length spot.bytes.now }
-    requires reached { spot.p + 1 + spot.rows.step ≤ length sums.old * spot.rows.step + length spot.rows.taps.now / 8 }
+    requires reached { spot.p + 1 + spot.lookup.step ≤ length sums.old * spot.lookup.step + length spot.lookup.taps.now / 8 }
     requires so_far { AreSummed spot sums.old }
     ensures len { length sums.new ≡ length sums.old }
     ensures sums { AreSummed result sums.new }
-    ensures next { IsBehind 1 spot.entry result }
+    ensures next { IsAfter 1 spot.entry result }
 {
-    let start = (spot.window + 1).saturating_sub(spot.rows.span);
+    let start = (spot.window + 1).saturating_sub(spot.lookup.span);
     let number = (spot.window + 1).min(sums.len()) - start;
     let at = row_place(spot, start);
     for k in 0..number {
-        sums[start + k] += spot.rows.entries[at + k];
+        sums[start + k] += spot.lookup.entries[at + k];
     }
     next(spot)
 }
 
 /// The sums of windows that begin at each step's first byte.
 #[inline(always)]
-fn sum_steps(rows: Rows<'_>, bytes: &[u8], sums: &mut [i32])
-    requires { AreWithin (length rows.taps.now / 8) rows.step (length sums.old) bytes.now }
-    ensures { sums.new ≡ window_sums rows.entry.taps.now bytes.now rows.entry.step (length sums.old) }
+fn sum_steps(lookup: Lookup<'_>, bytes: &[u8], sums: &mut [i32])
+    requires { AreWithin (length lookup.taps.now / 8) lookup.step (length sums.old) bytes.now }
+    ensures { sums.new ≡ window_sums lookup.entry.taps.now bytes.now lookup.entry.step (length sums.old) }
 {
     sums.fill(0);
-    let reach = (sums.len() - 1) * rows.step + rows.taps.len() / 8;
+    let reach = (sums.len() - 1) * lookup.step + lookup.taps.len() / 8;
     let blocks = reach / 8;
     let mut window = 0;
     let mut place = 0;
     for block in 0..blocks {
         let p = 8 * block;
         let spot = Spot {
-            rows,
+            lookup,
             bytes,
             p,
             window,
             place,
         };
-        let behind = add_block(spot, sums);
-        window = behind.window;
-        place = behind.place;
+        let after = add_block(spot, sums);
+        window = after.window;
+        place = after.place;
     }
     for p in 8 * blocks..reach {
         let spot = Spot {
-            rows,
+            lookup,
             bytes,
             p,
             window,
             place,
         };
-        let behind = add_last(spot, sums);
-        window = behind.window;
-        place = behind.place;
+        let after = add_last(spot, sums);
+        window = after.window;
+        place = after.place;
     }
 }
 
 /// The same, with short steps as constants, so that the compiler knows where each byte is in its own.
-pub(crate) fn sum_rows(rows: Rows<'_>, bytes: &[u8], sums: &mut [i32])
-    requires { AreWithin (length rows.taps.now / 8) rows.step (length sums.old) bytes.now }
-    ensures { sums.new ≡ window_sums rows.entry.taps.now bytes.now rows.entry.step (length sums.old) }
+pub(crate) fn sum_by_lookup(lookup: Lookup<'_>, bytes: &[u8], sums: &mut [i32])
+    requires { AreWithin (length lookup.taps.now / 8) lookup.step (length sums.old) bytes.now }
+    ensures { sums.new ≡ window_sums lookup.entry.taps.now bytes.now lookup.entry.step (length sums.old) }
 {
-    match rows.step {
-        1 => sum_steps(with_step(rows, 1), bytes, sums),
-        2 => sum_steps(with_step(rows, 2), bytes, sums),
-        4 => sum_steps(with_step(rows, 4), bytes, sums),
-        _ => sum_steps(rows, bytes, sums),
+    match lookup.step {
+        1 => sum_steps(with_step(lookup, 1), bytes, sums),
+        2 => sum_steps(with_step(lookup, 2), bytes, sums),
+        4 => sum_steps(with_step(lookup, 4), bytes, sums),
+        _ => sum_steps(lookup, bytes, sums),
     }
 }

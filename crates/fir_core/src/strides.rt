@@ -6,18 +6,18 @@ ghost use Rattle.std.specs.Int.{div_ceil};
 ghost use Rattle.fir_core.specs.Strides.{Adds, AreColumns, AreSevenOn, AreStrided, IsAddedAt, Moves, near_step};
 ghost use Rattle.fir_core.specs.Windows.{AreWithin, window_sums};
 
-use crate::row_sums::sum_rows;
-use crate::rows::{Rows, with_step};
+use crate::lookup::{Lookup, with_step};
+use crate::row_sums::sum_by_lookup;
 use std::simd::prelude::*;
 
 /// Rows of which no byte reaches more than `most` groups of eight windows.
 #[derive(Clone, Copy)]
 struct Near<'a, const N: usize> {
-    rows: Rows<'a>,
+    lookup: Lookup<'a>,
     ghost some: { 1 ≤ N },
     ghost few: { N ≤ 128 },
-    ghost span: { 8 * N ≤ rows.span },
-    ghost wide: { length rows.taps.now / 8 ≤ 8 * N * rows.step },
+    ghost span: { 8 * N ≤ lookup.span },
+    ghost wide: { length lookup.taps.now / 8 ≤ 8 * N * lookup.step },
 }
 
 /// Adds groups of eight numbers to as many vectors.
@@ -36,28 +36,28 @@ fn add_row<const N: usize>(near: &mut [[i32; 8]; N], row: &[i32])
 
 /// The last columns of the row of a byte at a place in its step.
 #[inline(always)]
-fn last_columns<'a>(rows: Rows<'a>, place: usize, byte: u8, number: usize) -> &'a [i32]
-    requires place { place < rows.step }
-    requires few { number ≤ rows.span }
-    ensures { AreColumns rows.entry place byte number result.now }
+fn last_columns<'a>(lookup: Lookup<'a>, place: usize, byte: u8, number: usize) -> &'a [i32]
+    requires place { place < lookup.step }
+    requires few { number ≤ lookup.span }
+    ensures { AreColumns lookup.entry place byte number result.now }
 {
-    let row = 4 + (256 * place + byte as usize) * (rows.span + 8);
-    let at = row + (rows.span - number);
-    &rows.entries[at..at + number]
+    let row = 4 + (256 * place + byte as usize) * (lookup.span + 8);
+    let at = row + (lookup.span - number);
+    &lookup.entries[at..at + number]
 }
 
 /// Adds what the bytes of step `u` hold in the last columns of their rows.
 #[inline(always)]
 fn add_step<const N: usize>(of: Near<'_, N>, bytes: &[u8], u: usize, near: &mut [[i32; 8]; N])
-    requires { u * of.rows.step + of.rows.step ≤ length bytes.now }
+    requires { u * of.lookup.step + of.lookup.step ≤ length bytes.now }
     ensures len { length near.new ≡ N }
-    ensures sums { Adds N (near_step of.entry.rows bytes.now N u) near.old near.new }
+    ensures sums { Adds N (near_step of.entry.lookup bytes.now N u) near.old near.new }
 {
-    let first = u * of.rows.step;
-    for place in 0..of.rows.step {
+    let first = u * of.lookup.step;
+    for place in 0..of.lookup.step {
         add_row(
             near,
-            last_columns(of.rows, place, bytes[first + place], 8 * N),
+            last_columns(of.lookup, place, bytes[first + place], 8 * N),
         );
     }
 }
@@ -93,8 +93,8 @@ fn add_eight(near: [i32; 8], sums: &mut [i32], at: usize)
 fn add_stride<const N: usize>(of: Near<'_, N>, bytes: &[u8], s: usize, sums: &mut [i32])
     requires turn { s < 8 }
     requires room { 8 ≤ length sums.old }
-    requires enough { (8 * (length sums.old / 8 + N) - 16) * of.rows.step ≤ length bytes.now }
-    ensures { AreStrided of.entry.rows bytes.now N s sums.old sums.new }
+    requires enough { (8 * (length sums.old / 8 + N) - 16) * of.lookup.step ≤ length bytes.now }
+    ensures { AreStrided of.entry.lookup bytes.now N s sums.old sums.new }
 {
     let mut near = [[0; 8]; N];
     for early in 0..N - 1 {
@@ -112,10 +112,10 @@ fn add_stride<const N: usize>(of: Near<'_, N>, bytes: &[u8], s: usize, sums: &mu
 #[inline(always)]
 fn add_strides<const N: usize>(of: Near<'_, N>, bytes: &[u8], sums: &mut [i32])
     requires room { 8 ≤ length sums.old }
-    requires enough { (8 * (length sums.old / 8 + N) - 16) * of.rows.step ≤ length bytes.now }
+    requires enough { (8 * (length sums.old / 8 + N) - 16) * of.lookup.step ≤ length bytes.now }
     requires zeros { (i : ℕ) → i < length sums.old → slice_index_or sums.old i (pos 0) ≡ pos 0 }
     ensures len { length sums.new ≡ length sums.old }
-    ensures sums { AreSevenOn of.entry.rows bytes.now sums.new }
+    ensures sums { AreSevenOn of.entry.lookup bytes.now sums.new }
 {
     for s in 0..8 {
         add_stride(of, bytes, s, sums);
@@ -127,8 +127,8 @@ fn add_strides<const N: usize>(of: Near<'_, N>, bytes: &[u8], sums: &mut [i32])
 #[inline(always)]
 fn sum_tile<const N: usize>(of: Near<'_, N>, bytes: &[u8], sums: &mut [i32])
     requires tile { length sums.old ≤ 4096 }
-    requires enough { (length sums.old + 8 * N + 7) * of.rows.step ≤ length bytes.now }
-    ensures { sums.new ≡ window_sums of.entry.rows.taps.now bytes.now of.entry.rows.step (length sums.old) }
+    requires enough { (length sums.old + 8 * N + 7) * of.lookup.step ≤ length bytes.now }
+    ensures { sums.new ≡ window_sums of.entry.lookup.taps.now bytes.now of.entry.lookup.step (length sums.old) }
 {
     let mut wide = [0; 4120];
     let (used, _) = wide.split_at_mut((sums.len() + 14) / 8 * 8 + 8);
@@ -140,12 +140,12 @@ fn sum_tile<const N: usize>(of: Near<'_, N>, bytes: &[u8], sums: &mut [i32])
 #[inline(never)]
 fn sum_first<const N: usize>(of: Near<'_, N>, bytes: &[u8], sums: &mut [i32])
     requires tile { length sums.old ≤ 4096 }
-    requires enough { (length sums.old + 8 * N + 7) * of.rows.step ≤ length bytes.now }
-    ensures { sums.new ≡ window_sums of.entry.rows.taps.now bytes.now of.entry.rows.step (length sums.old) }
+    requires enough { (length sums.old + 8 * N + 7) * of.lookup.step ≤ length bytes.now }
+    ensures { sums.new ≡ window_sums of.entry.lookup.taps.now bytes.now of.entry.lookup.step (length sums.old) }
 {
-    if of.rows.step == 1 {
-        let rows = with_step(of.rows, 1);
-        sum_tile(Near::<N> { rows }, bytes, sums);
+    if of.lookup.step == 1 {
+        let lookup = with_step(of.lookup, 1);
+        sum_tile(Near::<N> { lookup }, bytes, sums);
     } else {
         sum_tile(of, bytes, sums);
     }
@@ -153,37 +153,37 @@ fn sum_first<const N: usize>(of: Near<'_, N>, bytes: &[u8], sums: &mut [i32])
 
 /// The sums of windows that begin at each step's first byte: the first strided, as far as enough bytes follow them, and
 /// the rest eight bytes at a time.
-fn sum_near<const N: usize>(rows: Rows<'_>, bytes: &[u8], sums: &mut [i32])
-    requires number { N ≡ div_ceil (div_ceil (length rows.taps.now / 8) rows.step) 8 }
-    requires within { AreWithin (length rows.taps.now / 8) rows.step (length sums.old) bytes.now }
-    ensures { sums.new ≡ window_sums rows.entry.taps.now bytes.now rows.entry.step (length sums.old) }
+fn sum_near<const N: usize>(lookup: Lookup<'_>, bytes: &[u8], sums: &mut [i32])
+    requires number { N ≡ div_ceil (div_ceil (length lookup.taps.now / 8) lookup.step) 8 }
+    requires within { AreWithin (length lookup.taps.now / 8) lookup.step (length sums.old) bytes.now }
+    ensures { sums.new ≡ window_sums lookup.entry.taps.now bytes.now lookup.entry.step (length sums.old) }
 {
-    let steps = bytes.len() / rows.step;
+    let steps = bytes.len() / lookup.step;
     let many = steps.saturating_sub(8 * N + 7).min(sums.len()).min(4096);
     if many == 0 {
-        sum_rows(rows, bytes, sums);
+        sum_by_lookup(lookup, bytes, sums);
         return;
     }
     let (front, back) = sums.split_at_mut(many);
-    sum_first(Near::<N> { rows }, bytes, front);
+    sum_first(Near::<N> { lookup }, bytes, front);
     if back.len() > 0 {
-        sum_rows(rows, &bytes[many * rows.step..], back);
+        sum_by_lookup(lookup, &bytes[many * lookup.step..], back);
     }
 }
 
 /// The sums of windows that begin at each step's first byte: strided, if a row spans few enough windows for their sums
 /// to stay in registers. The compiler splits up to six vectors into numbers, but for six if each step is a byte: there
 /// eight bytes at a time are faster.
-pub(crate) fn sum_all(rows: Rows<'_>, bytes: &[u8], sums: &mut [i32])
-    requires { AreWithin (length rows.taps.now / 8) rows.step (length sums.old) bytes.now }
-    ensures { sums.new ≡ window_sums rows.entry.taps.now bytes.now rows.entry.step (length sums.old) }
+pub(crate) fn sum_all(lookup: Lookup<'_>, bytes: &[u8], sums: &mut [i32])
+    requires { AreWithin (length lookup.taps.now / 8) lookup.step (length sums.old) bytes.now }
+    ensures { sums.new ≡ window_sums lookup.entry.taps.now bytes.now lookup.entry.step (length sums.old) }
 {
-    match (rows.taps.len() / 8).div_ceil(rows.step).div_ceil(8) {
-        6 if rows.step == 1 => sum_near::<6>(rows, bytes, sums),
-        7 => sum_near::<7>(rows, bytes, sums),
-        8 => sum_near::<8>(rows, bytes, sums),
-        9 => sum_near::<9>(rows, bytes, sums),
-        10 => sum_near::<10>(rows, bytes, sums),
-        _ => sum_rows(rows, bytes, sums),
+    match (lookup.taps.len() / 8).div_ceil(lookup.step).div_ceil(8) {
+        6 if lookup.step == 1 => sum_near::<6>(lookup, bytes, sums),
+        7 => sum_near::<7>(lookup, bytes, sums),
+        8 => sum_near::<8>(lookup, bytes, sums),
+        9 => sum_near::<9>(lookup, bytes, sums),
+        10 => sum_near::<10>(lookup, bytes, sums),
+        _ => sum_by_lookup(lookup, bytes, sums),
     }
 }

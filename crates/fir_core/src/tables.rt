@@ -2,12 +2,12 @@
 
 ghost use Rattle.std.specs.Prelude.{◌≡◌, ◌+◌, ◌*◌, ◌%◌, ◌^◌, ◌<◌, ◌≤◌, length, IfOk, unsigned_abs};
 ghost use Rattle.std.specs.List.{sum_by};
-ghost use Rattle.fir_core.specs.Rows as Rows;
-ghost use Rattle.fir_core.specs.Rows.{rows};
+ghost use Rattle.fir_core.specs.Lookup as Lookup;
+ghost use Rattle.fir_core.specs.Lookup.{lookup};
 ghost use Rattle.fir_core.specs.Signed.{bits_of, dot};
 ghost use Rattle.fir_core.specs.Windows.{aligned};
 
-use crate::rows::span_of;
+use crate::lookup::span_of;
 use crate::taps::Taps;
 use std::alloc::{AllocError, Global};
 use std::marker::Model;
@@ -17,7 +17,7 @@ use std::marker::Model;
 #[derive(Drop)]
 pub struct Tables {
     pub(crate) taps: Vec<i32>,
-    pub(crate) rows: Vec<i32>,
+    pub(crate) lookup: Vec<i32>,
     pub(crate) step: usize,
     pub(crate) span: usize,
 }
@@ -37,13 +37,13 @@ struct Layout<'a> {
 impl Model for Tables {
     ghost use Rattle.std.specs.Prelude.{ℤ, List};
     ghost use Rattle.fir_core.specs.TableView.{taps_of};
-    ghost use Rattle.fir_core.specs.Rows.{IsLaid};
+    ghost use Rattle.fir_core.specs.Lookup.{IsLaid};
 
     ghost Value = { List ℤ };
 
     ghost view = { taps_of };
 
-    ghost invariant = { λ a. IsLaid a.taps.items a.rows.items a.step a.span };
+    ghost invariant = { λ a. IsLaid a.taps.items a.lookup.items a.step a.span };
 }
 
 impl Tables {
@@ -63,10 +63,10 @@ impl Tables {
             step,
             span,
         };
-        let rows = rows_of(alloc, layout)?;
+        let lookup = lookup_of(alloc, layout)?;
         Ok(Tables {
             taps: aligned,
-            rows,
+            lookup,
             step,
             span,
         })
@@ -80,18 +80,18 @@ pub(crate) fn aligned_taps(alloc: Global, taps: &Taps) -> Result<Vec<i32>, Alloc
     let number = taps.taps.len();
     let filled = number + (7 - taps.delay as usize % 8);
     let size = 8 * filled.div_ceil(8);
-    let mut turned = Vec::from_slice(alloc, taps.taps.as_slice())?;
-    turned.reverse();
+    let mut reversed = Vec::from_slice(alloc, taps.taps.as_slice())?;
+    reversed.reverse();
     let mut made = Vec::new(alloc);
     made.resize(size - filled, 0)?;
-    made.extend_from_slice(turned.as_slice())?;
+    made.extend_from_slice(reversed.as_slice())?;
     made.resize(size, 0)?;
     Ok(made)
 }
 
 // The rows of all places in a step and all bytes.
-fn rows_of(alloc: Global, layout: Layout<'_>) -> Result<Vec<i32>, AllocError>
-    ensures { IfOk result (λ made. made.items ≡ rows layout.entry.taps.now layout.entry.step layout.entry.span) }
+fn lookup_of(alloc: Global, layout: Layout<'_>) -> Result<Vec<i32>, AllocError>
+    ensures { IfOk result (λ made. made.items ≡ lookup layout.entry.taps.now layout.entry.step layout.entry.span) }
 {
     (0..256 * layout.step * (layout.span + 8) + 4)
         .map(|i| row_entry(layout, i))
@@ -101,7 +101,7 @@ fn rows_of(alloc: Global, layout: Layout<'_>) -> Result<Vec<i32>, AllocError>
 // Entry `i` of the rows.
 fn row_entry(layout: Layout<'_>, i: usize) -> i32
     requires { i < 256 * layout.step * (layout.span + 8) + 4 }
-    ensures { result ≡ Rows.row_entry layout.entry.taps.now layout.entry.step layout.entry.span i }
+    ensures { result ≡ Lookup.row_entry layout.entry.taps.now layout.entry.step layout.entry.span i }
 {
     let width = layout.span + 8;
     let at = i.saturating_sub(4);
@@ -113,7 +113,7 @@ fn row_entry(layout: Layout<'_>, i: usize) -> i32
 // How many groups of its window a byte ends, by its place in a step and a column of its row.
 fn groups_at(layout: Layout<'_>, place: usize, column: usize) -> usize
     requires { place < 2 ^ 32 }
-    ensures { result ≡ Rows.groups_at layout.entry.step layout.entry.span place column }
+    ensures { result ≡ Lookup.groups_at layout.entry.step layout.entry.span place column }
 {
     let step = layout.step;
     (layout.span.saturating_sub(column) * step + (place + 1)).saturating_sub(step)
@@ -121,7 +121,7 @@ fn groups_at(layout: Layout<'_>, place: usize, column: usize) -> usize
 
 // The sum, for a byte, of the last of some groups of taps; 0 for none, and for more than there are.
 fn last_group(layout: Layout<'_>, number: usize, byte: u8) -> i32
-    ensures { result ≡ Rows.last_group layout.entry.taps.now number byte }
+    ensures { result ≡ Lookup.last_group layout.entry.taps.now number byte }
 {
     let taps = layout.taps;
     if number == 0 || taps.len() / 8 < number {

@@ -11,8 +11,8 @@ ghost use Rattle.fir_core.specs.Windows.{AreWithin, aligned, window_size, window
 
 use crate::convolution::sum_over;
 use crate::lanes::dot_by_lanes;
+use crate::lookup::Lookup;
 use crate::rounding::{clip, round};
-use crate::rows::Rows;
 use crate::source::Source;
 use crate::strides::sum_all;
 use crate::tables::Tables;
@@ -30,13 +30,13 @@ fn sum_tile(tables: &Tables, bytes: &[u8], step: usize, sums: &mut [i32])
     ensures { sums.new ≡ window_sums tables.now bytes.now step (length sums.old) }
 {
     if tables.step == step {
-        let rows = Rows {
+        let lookup = Lookup {
             taps: tables.taps.as_slice(),
-            entries: tables.rows.as_slice(),
+            entries: tables.lookup.as_slice(),
             step,
             span: tables.span,
         };
-        sum_all(rows, bytes, sums);
+        sum_all(lookup, bytes, sums);
     } else {
         sum_windows(tables, bytes, step, sums);
     }

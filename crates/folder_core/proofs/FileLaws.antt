@@ -21,12 +21,12 @@ one_file_more view names i name files more file lt is before given next =
     (subst (λ (fs : List (List ℕ)). AreReadOf view (map string_bytes (take i names) ++ string_bytes name ∷ []) fs) (sym next) grown)
 
 -- a created file that was not written whole was given up
-pub given_up : (name : List ℕ) (old new : View) (is_whole : Bool) (held : Option (List ℕ)) {T E : Type 0} (r : Result T E) → is_whole ≡ false → OnOk r (is_whole ≡ true) → OnErr r (IsEnded name old new is_whole held) → IsTrue old.is_told → IsGivenUp name old new held
-given_up name old new is_whole held (Ok x) part whole refused told = let e : false ≡ true = sym part ∙ whole in absurd cc
-given_up name old new is_whole held (Err e) part whole (inl same) told = inl same
-given_up name old new is_whole held (Err e) part whole (inr ended) told = ended.1 told
+pub given_up : (name : List ℕ) (old new : View) (is_whole : Bool) (held : Option (List ℕ)) {T E : Type 0} (r : Result T E) → is_whole ≡ false → OnOk r (is_whole ≡ true) → OnErr r (IsEnded name old new is_whole held) → IsTrue old.is_known → IsGivenUp name old new held
+given_up name old new is_whole held (Ok x) part whole refused stated = let e : false ≡ true = sym part ∙ whole in absurd cc
+given_up name old new is_whole held (Err e) part whole (inl same) stated = inl same
+given_up name old new is_whole held (Err e) part whole (inr ended) stated = ended.1 stated
 
--- one that was written whole and not kept left what was there
+-- a file that was written whole and not kept leaves what was there
 pub not_kept : (name : List ℕ) (old new : View) (is_whole : Bool) (held : Option (List ℕ)) → is_whole ≡ true → IsEnded name old new is_whole held → new.file name ≡ old.file name
 not_kept name old new is_whole held all (inl same) = same
 not_kept name old new is_whole held all (inr ended) = let e : false ≡ true = sym ended.0 ∙ all in absurd cc

@@ -1,4 +1,5 @@
 pub mod Files
+pub mod GappedFiles
 pub mod MemoryFolders
 pub mod ShortFiles
 pub mod WatchedFolders

@@ -10,4 +10,4 @@ files_of folder = λ name. option_map (λ v. v.items) (get_by_text folder.files 
 
 -- its bytes are known, each opening gives those, and an old file is kept
 abbrev pub view_of : MemoryFolder → View
-view_of folder = record { is_told = true; given = λ time. files_of folder; file = files_of folder; keeps_old = true }
+view_of folder = record { is_known = true; given = λ time. files_of folder; file = files_of folder; keeps_old = true }

@@ -10,4 +10,4 @@ IsShort most file None = most ≤ length file
 
 -- the same for bytes that an opening of a name gives, if the folder's bytes are known
 abbrev pub IsShortOf : ℕ → View → List ℕ → Option (Vec ℕ Global) → Type 0
-IsShortOf most view name short = IsTrue view.is_told → (file : List ℕ) × OpensAs view name file × IsShort most file short
+IsShortOf most view name short = IsTrue view.is_known → (file : List ℕ) × OpensAs view name file × IsShort most file short

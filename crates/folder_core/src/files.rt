@@ -1,7 +1,7 @@
 //! Reads and writes whole files of a folder.
 
 ghost use Rattle.std.specs.Prelude.{◌≡◌, ℕ, List, [], ◌∷◌, ◌++◌, IfErr, IfOk, IfSome, IsOk, IsTrue, OnErr, OnOk, is_ok, map, string_bytes};
-ghost use Rattle.folder_core.specs.Files.{AreReadOf, IsEnded, IsFront, IsPut, IsReadFault, IsReadOf, KeepsOthers};
+ghost use Rattle.folder_core.specs.Files.{AreReadOf, IsEnded, IsPut, IsPutInPart, IsReadFault, IsReadOf, KeepsOthers};
 ghost use Rattle.folder_core.specs.declared.fault.FileFault.TheVariants as faults;
 
 use crate::fault::FileFault;
@@ -86,7 +86,7 @@ pub fn read_whole<R: Read + Drop>(alloc: Global, reader: R, most: u64) -> Result
 pub fn write_file<F: Folder>(folder: &mut F, name: &str, bytes: &[u8]) -> Result<(), FileFault>
     ensures others { KeepsOthers name.now (F.view folder.old) (F.view folder.new) }
     ensures bytes { OnOk result (IsPut (F.view folder.new) name.now bytes.now) }
-    ensures refused { OnErr result (IsFront name.now (F.view folder.old) (F.view folder.new) bytes.now) }
+    ensures refused { OnErr result (IsPutInPart name.now (F.view folder.old) (F.view folder.new) bytes.now) }
     ensures fault { IfErr result (λ fault. fault ≡ faults.WriteFailed) }
 {
     let Ok(file) = folder.create(name) else {
@@ -108,7 +108,7 @@ pub fn hand_back<F: Folder, T, E>(
 ) -> Result<(), FileFault>
     ensures others { KeepsOthers name.now (F.view folder.old) (F.view folder.new) }
     ensures whole { OnOk result (IsOk written.now) }
-    ensures bytes { OnOk result (IsTrue (F.view folder.old).is_told
+    ensures bytes { OnOk result (IsTrue (F.view folder.old).is_known
         → (F.view folder.new).file name.now ≡ F.Out.contents made) }
     ensures refused { OnErr result (IsEnded name.now (F.view folder.old) (F.view folder.new) (is_ok written.now)
         (F.Out.contents made)) }

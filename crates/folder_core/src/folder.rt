@@ -1,8 +1,11 @@
 //! Files under names.
 
 ghost use Rattle.std.specs.Prelude.{◌≡◌, [], Some, IfOk, OnOk, OnErr, IsTrue};
+ghost use Rattle.std.specs.Io.KnownBytes.{ReadConsumes};
+ghost use Rattle.std.specs.Io.{ReadsAtMost};
 ghost use Rattle.folder_core.specs.Files.{IsGiven, IsGivenUp, KeepsOthers, View};
 
+use std::io;
 use std::io::{Read, Write};
 use thiserror::Error;
 
@@ -10,6 +13,15 @@ use thiserror::Error;
 #[derive(Clone, Copy, Debug, PartialEq, Eq, Error)]
 #[error("FolderFault")]
 pub struct FolderFault;
+
+/// Work that takes long.
+#[derive(Clone, Copy)]
+pub enum Work {
+    /// Bridges are searched.
+    Search,
+    /// A certificate is written.
+    Certificate,
+}
 
 /// Files under names. A file is opened to be read, and created to be written. A created file ends only with
 /// [`keep`](Folder::keep), which puts it under its name, or [`give_up`](Folder::give_up).
@@ -28,11 +40,28 @@ pub trait Folder {
     // What is known of its files.
     ghost view: { Self → View };
 
-    /// Shows how far work has come that reads and writes no file: so many of all its parts are done. A folder need not
-    /// show it.
+    /// Shows how many bytes a master's file will have, and its certificate at most. A folder need not show it.
+    fn show_sizes(&self, master: u64, most_of_certificate: u64) {
+        let _ = (master, most_of_certificate);
+    }
+
+    /// Long work begins. [`show_work`](Folder::show_work) shows how far it has come, up to
+    /// [`end_work`](Folder::end_work).
+    fn begin_work(&mut self, work: Work)
+        ensures same { view self.new ≡ view self.old }
+    {
+        let _ = work;
+    }
+
+    /// Shows how many of all parts of the work that began are done. A folder need not show it.
     fn show_work(&self, done: usize, all: usize) {
         let _ = (done, all);
     }
+
+    /// The work is over, or failed: what was shown of it is cleared.
+    fn end_work(&mut self)
+        ensures same { view self.new ≡ view self.old }
+    {}
 
     /// The file of a name, from its start.
     ///
@@ -40,6 +69,24 @@ pub trait Folder {
     fn open(&mut self, name: &str) -> Result<Self::In, FolderFault>
         ensures same { view self.new ≡ view self.old }
         ensures bytes { IfOk result (λ r. IsGiven (view self.old) name.now (Self.In.remaining r)) };
+
+    /// Whether the file of a name can be opened again later, and has its bytes again then: not so of a pipe. The answer
+    /// only tells a command which way to take: the bytes may have changed all the same.
+    fn reopens(&self, name: &str) -> bool {
+        let _ = name;
+        true
+    }
+
+    /// One read of a file, for who looks at none of the bytes that come. So a folder whose bytes aren't known may pass
+    /// over them, and leave in the buffer what it held. Where they are known, it is a read as any other.
+    ///
+    /// Refusal: an error of any kind, of which no byte came.
+    fn pass(&self, file: &mut Self::In, buffer: &mut [u8]) -> io::Result<usize>
+        ensures bound { ReadsAtMost result buffer.new }
+        ensures bytes { ReadConsumes (Self.In.remaining file.old) (Self.In.remaining file.new) result buffer.new }
+    {
+        file.read(buffer)
+    }
 
     /// Reserves the memory that is needed to create a file of this name later. A folder reserves nothing if it needs no
     /// memory, or if it lets `create` fail when memory runs out.
@@ -57,14 +104,14 @@ pub trait Folder {
     /// Refusal: `FolderFault` if none can be made.
     fn create(&mut self, name: &str) -> Result<Self::Out, FolderFault>
         ensures same { view self.new ≡ view self.old }
-        ensures empty { IfOk result (λ w. IsTrue (view self.old).is_told → Self.Out.contents w ≡ Some []) };
+        ensures empty { IfOk result (λ w. IsTrue (view self.old).is_known → Self.Out.contents w ≡ Some []) };
 
     /// Puts a created file under its name, as it was written.
     ///
     /// Refusal: `FolderFault` if it can't be kept.
     fn keep(&mut self, name: &str, out: Self::Out) -> Result<(), FolderFault>
         ensures others { KeepsOthers name.now (view self.old) (view self.new) }
-        ensures bytes { OnOk result (IsTrue (view self.old).is_told
+        ensures bytes { OnOk result (IsTrue (view self.old).is_known
             → (view self.new).file name.now ≡ Self.Out.contents out) }
         ensures refused { OnErr result ((view self.new).file name.now ≡ (view self.old).file name.now) };
 
@@ -72,6 +119,6 @@ pub trait Folder {
     /// under the name stays. A folder that keeps old files leaves an old file as it was.
     fn give_up(&mut self, name: &str, out: Self::Out)
         ensures others { KeepsOthers name.now (view self.old) (view self.new) }
-        ensures left { IsTrue (view self.old).is_told
+        ensures left { IsTrue (view self.old).is_known
             → IsGivenUp name.now (view self.old) (view self.new) (Self.Out.contents out) };
 }

@@ -1,13 +1,16 @@
 //! Files under names: a folder of them, and files of it read and written whole.
 //!
 //! A [`Folder`] opens files, creates them and puts what was created under its name. [`MemoryFolder`] is one in memory,
-//! whose bytes are known. The folder of the operating system is in `disk_core`.
+//! whose bytes are known. A [`Disk`] is that of the operating system: its names are paths, and `-` for the standard
+//! streams, what it opens is a [`DiskInput`], and what it creates is a [`DiskFile`], which gets its name only once it
+//! is kept, whole.
 //!
 //! - [`read_file`] reads a file to its end, [`read_files`] several in turn, [`read_short`] only one that is short,
 //!   [`read_whole`] what any reader has left.
 //! - [`write_file`] creates a file and writes it, [`hand_back`] ends one that was written.
-//! - A [`WatchedFolder`] shows on a terminal how far the files of another folder are read, in per cent with the time left
-//!   if their [`KnownLength`] is known, and how far work has come that [`Folder::show_work`] tells of.
+//! - A [`GappedFile`] is read by who looks at no byte of two [`Gaps`] in it: a folder on a disk passes over these.
+//! - A [`WatchedFolder`] shows on a terminal how far the files of another folder are read, in per cent with the time
+//!   left if their [`KnownLength`] is known, and how far [`Work`] has come of which [`Folder::show_work`] is told.
 //!
 //! The words of the contracts, from `specs/Files.antt` but for the last two:
 //!
@@ -17,33 +20,51 @@
 //! - `IsReadOf view name bytes` says that bytes were read under a name: an opening of it gives them, if the folder's
 //!   bytes are known. `AreReadOf view names files` says the same of several names, and `IsPut view name bytes` that
 //!   bytes were put there.
-//! - `KeepsOthers name old new` says that only the file of this name may have changed. `IsFront name old new bytes`
+//! - `KeepsOthers name old new` says that only the file of this name may have changed. `IsPutInPart name old new bytes`
 //!   says that the file is as it was, or holds a prefix of these bytes, and this only if no old file had to be kept.
 //! - `IsShortOf most view name answer` says that an answer is the bytes of a file with fewer than `most`, or None for a
 //!   file with `most` or more (`specs/ShortFiles.antt`).
-//! - `watched_folder` and `watched_file` are what is watched (`specs/WatchedFolders.antt`).
+//! - `watched_folder` and `watched_file` are what is watched (`specs/WatchedFolders.antt`), `gapped_file` is what is
+//!   read but for gaps (`specs/GappedFiles.antt`).
 //!
 //! What it promises, over a folder whose bytes are known: what is read is what an opening of that name gives, and what
 //! was written is what is put under a name. A write that failed leaves the old file, or a prefix if there was none, and
-//! no other file is touched. Every reading ends: a reader that goes on for ever is given up.
+//! no other file is touched. Every reading ends: a reader that goes on for ever is given up. Nothing is known of the
+//! bytes of a disk's files, so its calls have only the clauses of any folder. What is on the disk is tested.
 //!
 //! ```text
 //! let project = read_file(alloc, &mut folder, "project.toml")?;
 //! write_file(&mut folder, "out.dsf", &bytes)?;
+//!
+//! let mut disk = Disk::new(rt, process);
+//! let file = disk.create("out.dsf")?;          // is written as .out.dsf.dsdarc-PROCESS-0
+//! disk.keep("out.dsf", file)?;                 // is out.dsf now
 //! ```
 #![tactic(auto)]
 
+mod direct;
+mod disk;
+mod disk_file;
+mod disk_input;
 mod fault;
 mod files;
 mod folder;
+mod gapped_file;
+mod leftovers;
 mod memory_folder;
+mod opened;
+mod places;
 mod progress;
 mod short_files;
 mod watched_folder;
 
+pub use disk::{Disk, Failure, Step};
+pub use disk_file::DiskFile;
+pub use disk_input::DiskInput;
 pub use fault::FileFault;
 pub use files::{hand_back, read_file, read_files, read_whole, write_file};
-pub use folder::{Folder, FolderFault};
+pub use folder::{Folder, FolderFault, Work};
+pub use gapped_file::{Gap, GappedFile, Gaps};
 pub use memory_folder::MemoryFolder;
 pub use short_files::read_short;
 pub use watched_folder::{KnownLength, WatchedFile, WatchedFolder};

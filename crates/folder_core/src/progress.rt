@@ -2,6 +2,7 @@
 
 ghost use Rattle.std.specs.Prelude.{◌≤◌};
 
+use crate::folder::Work;
 use std::io::Eprint;
 use std::rt::Clock;
 use std::time::{Duration, Instant};
@@ -68,26 +69,107 @@ impl<'a, R: Clock + Eprint> ProgressLine<'a, R> {
     }
 }
 
-// Writes how many of all parts of some work were done since then, in per cent, and how many seconds the others take at
-// this pace: nothing in the first second, then a line for each per cent, which is cleared at the end.
-pub(crate) fn show_work<R: Clock + Eprint>(rt: &R, start: Instant, done: u64, all: u64) {
-    let Ok(now) = Instant::now(rt) else {
+/// Work that is shown: what it is, and when it began.
+#[derive(Clone, Copy)]
+pub(crate) struct Stint {
+    work: Work,
+    began: Instant,
+}
+
+impl Stint {
+    /// Work that begins now; None if the time isn't known.
+    pub(crate) fn new<R: Clock>(rt: &R, work: Work) -> Option<Stint> {
+        let began = Instant::now(rt).ok()?;
+        Some(Stint { work, began })
+    }
+
+    // For how many whole seconds it has been done, if they are at least as many as nothing is shown.
+    fn seconds<R: Clock>(self, rt: &R) -> Option<u64> {
+        let now = Instant::now(rt).ok()?;
+        let seconds = seconds_since(Some(self.began), now);
+        if seconds < QUIET_SECONDS {
+            return None;
+        }
+        Some(seconds)
+    }
+}
+
+/// Writes how many of all parts of some work were done, in per cent, and how many seconds the others take at this pace:
+/// nothing in the first second, then a line for each per cent.
+pub(crate) fn show_stint<R: Clock + Eprint>(rt: &R, stint: Stint, done: u64, all: u64) {
+    let Some(seconds) = stint.seconds(rt) else {
         return;
     };
-    let seconds = seconds_since(Some(start), now);
-    if seconds < QUIET_SECONDS {
-        return;
-    }
-    if done >= all {
-        let _ = eprint!(rt; "{CLEARED}");
-        return;
-    }
     let percent = part_of(done, all);
     if done > 0 && percent == part_of(done.saturating_sub(1), all) {
         return;
     }
+    let what = match stint.work {
+        Work::Search => "searched",
+        Work::Certificate => "certified",
+    };
     let left = seconds_left(seconds, done, all);
-    let _ = eprint!(rt; "\r{percent} % searched, {left} s left  ");
+    let _ = eprint!(rt; "\r{percent} % {what}, {left} s left  ");
+}
+
+/// Clears the line of work that is over, if there may be one.
+pub(crate) fn clear_stint<R: Clock + Eprint>(rt: &R, stint: Stint) {
+    if stint.seconds(rt).is_some() {
+        let _ = eprint!(rt; "{CLEARED}");
+    }
+}
+
+/// Writes how many bytes a master's file will have, and its certificate at most.
+pub(crate) fn show_sizes<R: Eprint>(rt: &R, master: u64, most_of_certificate: u64) {
+    let (master, cert) = (Size::of(master), Size::of(most_of_certificate));
+    let _ = eprintln!(rt;
+        "dsdarc: the master will have {}{} {}, its certificate up to {}{} {}",
+        master.whole, master.tenth, master.unit, cert.whole, cert.tenth, cert.unit
+    );
+}
+
+// A number of bytes in a unit that suits it: a whole number, and a tenth or nothing behind it.
+#[derive(Clone, Copy)]
+struct Size {
+    whole: u64,
+    tenth: &'static str,
+    unit: &'static str,
+}
+
+// Units from the greatest, and how many bytes they are.
+const UNITS: [(u64, &str); 4] = [
+    (1_000_000_000_000, "TB"),
+    (1_000_000_000, "GB"),
+    (1_000_000, "MB"),
+    (1_000, "kB"),
+];
+
+const TENTHS: [&str; 10] = [".0", ".1", ".2", ".3", ".4", ".5", ".6", ".7", ".8", ".9"];
+
+impl Size {
+    // Rounded up to a tenth of its unit; to a whole unit from a hundred on.
+    fn of(bytes: u64) -> Size {
+        for (unit, name) in UNITS {
+            if bytes >= unit {
+                let tenths = bytes.div_ceil(unit / 10);
+                let (whole, tenth) = if tenths < 1000 {
+                    (tenths / 10, TENTHS[(tenths % 10) as usize])
+                } else {
+                    (bytes.div_ceil(unit), "")
+                };
+                return Size {
+                    whole,
+                    tenth,
+                    unit: name,
+                };
+            }
+        }
+        Size {
+            whole: bytes,
+            tenth: "",
+            unit: "bytes",
+        }
+    }
 }
 
 // How many whole seconds passed between both.

@@ -3,21 +3,23 @@
 ghost use Rattle.std.specs.Prelude.{◌≡◌};
 ghost use Rattle.folder_core.specs.WatchedFolders.{watched_file, watched_folder};
 
-use crate::folder::{Folder, FolderFault};
-use crate::progress::{ProgressLine, show_work};
+use crate::folder::{Folder, FolderFault, Work};
+use crate::progress::{ProgressLine, Stint, clear_stint, show_sizes, show_stint};
 use std::io;
 use std::io::{Eprint, Read};
 use std::rt::Clock;
 use std::time::Instant;
 
-/// A folder over another that shows how far each file is read, and how far work has come. It writes a line to standard error, at most ten times a
-/// second, and clears it when the file is dropped. Nothing is shown in the first second after the folder was made. The
-/// same is known of it as of the other folder.
+/// A folder over another that shows on standard error how far each file is read, and how far work has come. It rewrites
+/// one line, and clears it when the file is dropped or the work is over. For a file it does so at most ten times a
+/// second, for work at most once for each per cent. Nothing is shown in the first second after the folder was made, nor
+/// in the first second of work. The same is known of it as of the other folder.
 #[derive(Drop)]
 pub struct WatchedFolder<'a, F, R> {
     folder: F,
     rt: &'a R,
     start: Option<Instant>,
+    work: Option<Stint>,
 }
 
 /// Something whose length may be known before it is read.
@@ -45,7 +47,12 @@ impl<'a, F: Folder, R: Clock> WatchedFolder<'a, F, R> {
         } else {
             None
         };
-        WatchedFolder { folder, rt, start }
+        WatchedFolder {
+            folder,
+            rt,
+            start,
+            work: None,
+        }
     }
 
     /// The other folder.
@@ -56,6 +63,7 @@ impl<'a, F: Folder, R: Clock> WatchedFolder<'a, F, R> {
             folder,
             rt: _,
             start: _,
+            work: _,
         } = self;
         folder
     }
@@ -71,10 +79,30 @@ where
 
     ghost view = { λ w. F.view (watched_folder w) };
 
-    fn show_work(&self, done: usize, all: usize) {
-        if let Some(start) = self.start {
-            show_work(self.rt, start, done as u64, all as u64);
+    fn show_sizes(&self, master: u64, most_of_certificate: u64) {
+        if self.start.is_some() {
+            show_sizes(self.rt, master, most_of_certificate);
         }
+    }
+
+    fn begin_work(&mut self, work: Work) {
+        self.work = match self.start {
+            Some(_) => Stint::new(self.rt, work),
+            None => None,
+        };
+    }
+
+    fn show_work(&self, done: usize, all: usize) {
+        if let Some(stint) = self.work {
+            show_stint(self.rt, stint, done as u64, all as u64);
+        }
+    }
+
+    fn end_work(&mut self) {
+        if let Some(stint) = self.work {
+            clear_stint(self.rt, stint);
+        }
+        self.work = None;
     }
 
     fn open(&mut self, name: &str) -> Result<WatchedFile<'a, F::In, R>, FolderFault> {
@@ -85,6 +113,19 @@ where
             given: 0,
             line: ProgressLine::new(self.rt, self.start),
         })
+    }
+
+    fn reopens(&self, name: &str) -> bool {
+        self.folder.reopens(name)
+    }
+
+    fn pass(&self, file: &mut WatchedFile<'a, F::In, R>, buffer: &mut [u8]) -> io::Result<usize> {
+        let got = self.folder.pass(&mut file.file, buffer);
+        if let Ok(count) = got {
+            file.given = file.given.saturating_add(count as u64);
+            file.line.show(file.given, file.length);
+        }
+        got
     }
 
     fn hold(&mut self, name: &str) -> Result<(), FolderFault> {

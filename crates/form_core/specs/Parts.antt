@@ -36,6 +36,6 @@ tail_in Dsf8 r count = r.tag
 
 -- law: the file of channels is a head, their bytes and a tail; head and tail are the same for any recording with as
 -- many channels and the same other parts
-abbrev pub WrittenInParts : Type 0
-WrittenInParts = (form : Form) (r : Content) (channels : List (List Bool)) → length r.channels ≡ length channels → FitsIn form (count_of channels)
+abbrev pub FormsWrittenInParts : Type 0
+FormsWrittenInParts = (form : Form) (r : Content) (channels : List (List Bool)) → length r.channels ≡ length channels → FitsIn form (count_of channels)
     → text_in form (record r { channels = channels }) ≡ Some (head_in form r (count_of channels) ++ (laced_in (interleaving_in form) channels ++ tail_in form r (count_of channels)))

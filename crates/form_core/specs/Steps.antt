@@ -7,10 +7,10 @@ map_err f (Ok x) = Ok x
 map_err f (Err e) = Err (f e)
 
 -- a call is refused as the steps are, unless memory ran out
-abbrev pub Fails : {Y E : Type 0} → E → E → Result Y E → Type 0
-Fails memory e steps = (e ≡ memory) ⊎ (steps ≡ Err e)
+abbrev pub FailsUnless : {Y E : Type 0} → E → E → Result Y E → Type 0
+FailsUnless memory e steps = (e ≡ memory) ⊎ (steps ≡ Err e)
 
 -- what a call returned, its value as `view` shows it, is the result of the steps, unless memory ran out
-abbrev pub Gives : {X Y E : Type 0} → E → (X → Y) → Result X E → Result Y E → Type 0
-Gives memory view (Ok x) steps = steps ≡ Ok (view x)
-Gives memory view (Err e) steps = Fails memory e steps
+abbrev pub GivesUnless : {X Y E : Type 0} → E → (X → Y) → Result X E → Result Y E → Type 0
+GivesUnless memory view (Ok x) steps = steps ≡ Ok (view x)
+GivesUnless memory view (Err e) steps = FailsUnless memory e steps

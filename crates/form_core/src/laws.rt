@@ -1,7 +1,7 @@
 //! How the words of the contracts are related. The functions do nothing: a caller's proof cites what they ensure.
 
 ghost use Rattle.form_core.specs.Laws.{HeldIsOpened, WrittenIsRead};
-ghost use Rattle.form_core.specs.Parts.{WrittenInParts};
+ghost use Rattle.form_core.specs.Parts.{FormsWrittenInParts};
 
 /// A file holds exactly what reading it in order returns.
 pub fn held_is_opened()
@@ -11,7 +11,7 @@ pub fn held_is_opened()
 /// The file of some channels is what [`crate::ends_in`] returns, put around their sound bytes. It returns the same for
 /// any recording with as many channels and the same other parts.
 pub fn written_in_parts()
-    ensures { WrittenInParts }
+    ensures { FormsWrittenInParts }
 {
     dsdiff_core::written_in_parts();
 }

@@ -1,5 +1,5 @@
 -- Whole groups of blocks, one after the other: how many bytes they are.
-use Rattle.std.proofs.Common.{◌≡◌, ℕ, ◌+◌, ◌-◌, ◌*◌, ◌/◌, ◌%◌, ◌<◌, ◌≤◌, ◌⊎◌, inl, inr, min, sym, ap, ◌∙◌, arith}
+use Rattle.std.proofs.Common.{◌≡◌, ℕ, ◌+◌, ◌-◌, ◌*◌, ◌/◌, ◌%◌, ◌≤◌, ◌⊎◌, inl, inr, min, sym, ap, ◌∙◌, arith}
 use Rattle.std.specs.Int.{div_ceil}
 use Rattle.std.proofs.lemmas.Bool.{cases_lt}
 use Rattle.std.proofs.Math.Nat.{add-mul, mul_assoc, mul_comm, mul-le-mul_right}
@@ -7,7 +7,7 @@ use Rattle.dsd_bits.specs.declared.interleaving.Interleaving.{Interleaving}
 use Rattle.dsd_bits.specs.declared.interleaving.Interleaving.TheVariants.{Bytes, Blocks}
 use Rattle.dsd_bits.specs.Sounds.{sound_size}
 
--- the bytes of whole groups and those behind them are as many as those of all
+-- the bytes of whole groups and those after them are as many as those of all
 pub size_on : (interleaving : Interleaving) (n a b : ℕ) → a % 32768 ≡ 0 → sound_size interleaving n (a + b) ≡ sound_size interleaving n a + sound_size interleaving n b
 size_on Bytes n a b whole = let bytes : (a + b) / 8 ≡ a / 8 + b / 8 = omega arith in ap (λ k. k * n) bytes ∙ add-mul (a / 8) (b / 8) n
 size_on (Blocks order) n a b whole =
@@ -25,11 +25,6 @@ size_fits (Blocks order) n bits most few whole fits =
     let k = most / 32768 in
     let below : div_ceil bits 32768 * n ≤ k * n = mul-le-mul_right n (omega arith) in
     omega (arith, below, fits)
-
--- where more comes, whole groups were read
-pub whole_on : (done bits rest sum : ℕ) → done % 32768 ≡ 0 → (bits % 32768 ≡ 0) ⊎ (rest ≡ 0) → 0 < rest → done + bits ≡ sum → sum % 32768 ≡ 0
-whole_on done bits rest sum whole (inl groups) some is = omega (arith, whole, groups, is)
-whole_on done bits rest sum whole (inr none) some is = absurd (omega (arith, none, some))
 
 -- what is read at a time is whole groups, or all that is left
 pub last_groups : (left most bits : ℕ) → most % 32768 ≡ 0 → bits ≡ min left most → (bits % 32768 ≡ 0) ⊎ (left - bits ≡ 0)

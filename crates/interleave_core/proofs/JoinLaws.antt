@@ -1,4 +1,4 @@
--- Whole groups of sound, and what stands behind them.
+-- Whole groups of sound, and what follows them.
 use Rattle.std.proofs.Common.{◌≡◌, ℕ, zero, suc, ◌+◌, ◌*◌, ◌/◌, ◌%◌, ◌<◌, ◌≤◌, Bool, List, [], ◌++◌, map, length, get_or, sym, ap, ap₂, ◌∙◌, refl, arith}
 use Rattle.std.proofs.lemmas.List.{length-append}
 use Rattle.std.proofs.lemmas.List.FromFn.{length-map-range_with_len, get_or-map-range_with_len}
@@ -17,7 +17,7 @@ use Rattle.dsd_bits.specs.Sounds.{sound_channels, sound_size}
 use Rattle.interleave_core.specs.Reinterleaving.{GroupsJoin, laced_in, reinterleaved}
 use Rattle.interleave_core.proofs.PlaceLaws.{join_by, packed_left, packed_right, unblocked_bits, unblocked_join, unlaced_bits, unlaced_join}
 
--- channels, each the first ones' bits and behind these the others'
+-- channels, each the first ones' bits and then the others'
 pub record Appended (all first more : List (List Bool)) (n a : ℕ) : Type 0 where
   pub all_long : length all ≡ n
   pub first_long : length first ≡ n
@@ -38,7 +38,7 @@ by_channel f fa fb n a each bits =
       bits = λ c h. ap length (at fa c h) ∙ bits c h;
     }
 
--- of whole groups and what stands behind them
+-- of whole groups and what follows them
 pub taken : (from : Interleaving) (n a b : ℕ) (first more : List ℕ) → a % 32768 ≡ 0 → length first ≡ sound_size from n a → length more ≡ sound_size from n b
     → Appended (sound_channels from n (a + b) (first ++ more)) (sound_channels from n a first) (sound_channels from n b more) n a
 taken Bytes n a b first more whole size more_size =

@@ -18,18 +18,18 @@ use Rattle.dsd_bits.proofs.PackingLemmas.{packed-unpacked, past_end}
 use Rattle.interleave_core.proofs.FrameLaws.{frame_byte}
 use Rattle.interleave_core.proofs.TakenLaws.{unlaced_count, unlaced_number}
 
--- ---- a list of which a part behind a front was written
-module _ (old front new : List ℕ) (at : ℕ) (front_is : front ≡ take at old) (front_long : length front ≡ at) where
-  pub before : (p : ℕ) → p < at → slice_index (front ++ new) p ≡ slice_index old p
-  before p h = get_or_append_left front new 0 p (omega arith) ∙ ap (λ xs. slice_index xs p) front_is ∙ get_or-take at old p 0 h
+-- ---- a list of which a part after a prefix was written
+module _ (old prefix new : List ℕ) (at : ℕ) (prefix_is : prefix ≡ take at old) (prefix_long : length prefix ≡ at) where
+  pub before : (p : ℕ) → p < at → slice_index (prefix ++ new) p ≡ slice_index old p
+  before p h = get_or_append_left prefix new 0 p (omega arith) ∙ ap (λ xs. slice_index xs p) prefix_is ∙ get_or-take at old p 0 h
 
-  pub behind : (p q : ℕ) → p ≡ at + q → slice_index (front ++ new) p ≡ slice_index new q
-  behind p q e =
+  pub after : (p q : ℕ) → p ≡ at + q → slice_index (prefix ++ new) p ≡ slice_index new q
+  after p q e =
       let s : p - at ≡ q = omega arith in
-      get_or-append_right front new at p 0 front_long (omega arith) ∙ ap (slice_index new) s
+      get_or-append_right prefix new at p 0 prefix_long (omega arith) ∙ ap (slice_index new) s
 
--- ---- a group more
-module _ (old front new bytes rest : List ℕ) (n frames group count : ℕ) (front_is : front ≡ take (4096 * group * n) old) (front_long : length front ≡ 4096 * group * n) (rest_is : rest ≡ drop (4096 * group * n) bytes)
+-- ---- one group more
+module _ (old prefix new bytes rest : List ℕ) (n frames group count : ℕ) (prefix_is : prefix ≡ take (4096 * group * n) old) (prefix_long : length prefix ≡ 4096 * group * n) (rest_is : rest ≡ drop (4096 * group * n) bytes)
     (inner : 4096 * group < frames) (count_is : count ≡ min (frames - 4096 * group) 4096) where
   rest_at : (p q : ℕ) → p ≡ 4096 * group * n + q → slice_index rest q ≡ slice_index bytes p
   rest_at p q e = ap (λ xs. slice_index xs q) rest_is ∙ get_or-drop (4096 * group * n) bytes q 0 ∙ ap (slice_index bytes) (sym e)
@@ -52,32 +52,32 @@ module _ (old front new bytes rest : List ℕ) (n frames group count : ℕ) (fro
           others (4096 * c + w) (inr r) ∙ zero_at (4096 * c + w) ∙ sym (get_or_past bytes ((4096 * group + w) * n + c) 0 (omega arith))
     ]
 
-    pub more_blocks : (g c w : ℕ) → g < group + 1 → c < n → w < 4096 → slice_index (front ++ new) ((g * n + c) * 4096 + w) ≡ slice_index bytes ((4096 * g + w) * n + c)
+    pub more_blocks : (g c w : ℕ) → g < group + 1 → c < n → w < 4096 → slice_index (prefix ++ new) ((g * n + c) * 4096 + w) ≡ slice_index bytes ((4096 * g + w) * n + c)
     more_blocks g c w h in_list below = elim (cases_lt g group) [
-      | inl low ↦ before old front new (4096 * group * n) front_is front_long _ (omega (arith, place_below group n g c w low in_list below)) ∙ done g c w low in_list below
+      | inl low ↦ before old prefix new (4096 * group * n) prefix_is prefix_long _ (omega (arith, place_below group n g c w low in_list below)) ∙ done g c w low in_list below
       | inr high ↦
           let e : group ≡ g = omega arith in
-          behind old front new (4096 * group * n) front_is front_long _ (4096 * c + w) (ap (λ m. (m * n + c) * 4096 + w) (sym e) ∙ omega arith) ∙ group_byte c w in_list below ∙ ap (λ m. slice_index bytes ((4096 * m + w) * n + c)) e
+          after old prefix new (4096 * group * n) prefix_is prefix_long _ (4096 * c + w) (ap (λ m. (m * n + c) * 4096 + w) (sym e) ∙ omega arith) ∙ group_byte c w in_list below ∙ ap (λ m. slice_index bytes ((4096 * m + w) * n + c)) e
     ]
 
-    pub less_left : (place : ℕ) → 4096 * (group + 1) * n ≤ place → slice_index (front ++ new) place ≡ 0
+    pub less_left : (place : ℕ) → 4096 * (group + 1) * n ≤ place → slice_index (prefix ++ new) place ≡ 0
     less_left place h =
         let q = place - 4096 * group * n in
         let row : n ≤ q / 4096 = omega arith in
-        behind old front new (4096 * group * n) front_is front_long place q (omega arith) ∙ others q (inl row) ∙ zero_at q
+        after old prefix new (4096 * group * n) prefix_is prefix_long place q (omega arith) ∙ others q (inl row) ∙ zero_at q
 
   -- of frames
   module _ (written : (c k : ℕ) → c < n → k < count → slice_index new (k * n + c) ≡ slice_index rest (4096 * c + k))
       (done : (c j : ℕ) → c < n → j < 4096 * group → j < frames → slice_index old (j * n + c) ≡ block_source bytes n c j) where
-    pub more_frames : (c j : ℕ) → c < n → j < 4096 * (group + 1) → j < frames → slice_index (front ++ new) (j * n + c) ≡ block_source bytes n c j
+    pub more_frames : (c j : ℕ) → c < n → j < 4096 * (group + 1) → j < frames → slice_index (prefix ++ new) (j * n + c) ≡ block_source bytes n c j
     more_frames c j in_list h inside = elim (cases_lt j (4096 * group)) [
-      | inl low ↦ before old front new (4096 * group * n) front_is front_long _ (omega (arith, mul-add-lt j n c (4096 * group) low in_list)) ∙ done c j in_list low inside
+      | inl low ↦ before old prefix new (4096 * group * n) prefix_is prefix_long _ (omega (arith, mul-add-lt j n c (4096 * group) low in_list)) ∙ done c j in_list low inside
       | inr high ↦
           let k = j - 4096 * group in
           let e : 4096 * group + k ≡ j = omega arith in
           let q : j / 4096 ≡ group = omega arith in
           let r : j % 4096 ≡ k = omega arith in
-          behind old front new (4096 * group * n) front_is front_long _ (k * n + c) (ap (λ m. m * n + c) (sym e) ∙ omega arith) ∙ written c k in_list (omega arith) ∙ rest_at ((group * n + c) * 4096 + k) (4096 * c + k) (omega arith)
+          after old prefix new (4096 * group * n) prefix_is prefix_long _ (k * n + c) (ap (λ m. m * n + c) (sym e) ∙ omega arith) ∙ written c k in_list (omega arith) ∙ rest_at ((group * n + c) * 4096 + k) (4096 * c + k) (omega arith)
           ∙ sym (ap₂ (λ (g w : ℕ). slice_index bytes ((g * n + c) * 4096 + w)) q r)
     ]
 

@@ -38,11 +38,11 @@ use Rattle.form_core.specs.Forms.{HoldsAs, HoldsSome}
 use Rattle.cert_core.specs.Certificates.{Claim, ShowsAll}
 use Rattle.cert_core.specs.Text.{Entry}
 use Rattle.cut_core.specs.Bridges.{IsPlace, bridges, places_after}
-use Rattle.cut_core.specs.Cuts.{AreAlike, CutContent, FitTakes, IsAlike, IsInside, channel_number, cue_at, cut_with, each_below, no_bridging, source, take_at, window}
+use Rattle.cut_core.specs.Cuts.{AreAlike, CutContent, FitTakes, IsAlike, IsInside, cue_at, cut_with, each_below, no_bridging, source, take_at, take_channels, window}
 use Rattle.cut_core.specs.Keeping.{CanCut}
 use Rattle.cut_core.specs.Opening.{OpensCut}
-use Rattle.cut_core.proofs.BridgeLaws.{behind_none, each_place, behind_some}
-use Rattle.cut_core.proofs.HearingLaws.{below_at, can_cut}
+use Rattle.cut_core.proofs.BridgeLaws.{after_none, each_place, after_some}
+use Rattle.cut_core.proofs.ExcerptLaws.{below_at, can_cut}
 use Rattle.cut_core.proofs.ZipLaws.{zip_at, zip_long, zip_map}
 use Rattle.judge_core.specs.Checking.{IsMasterOf}
 use Rattle.judge_core.specs.Claims.{AreLeastBridges, IsLeastClaim, claim_at, claims, windows_total}
@@ -83,9 +83,9 @@ dsf_shape file r order is =
 -- what a file holds keeps the rules of recordings
 pub plain_shape : (file : List ℕ) (form : Form) (r : Content) → HoldsAs file form r → HasShape (plain r)
 plain_shape file forms.Dsdiff r is =
-    let tells = is.tells in
-    dsdiff.shape_is r.rate is.number r.layout r.channels r.ids is.sound.content [] [] [] [] [] [] tells.rate_low tells.rate_high tells.some_channel tells.six_channels
-    (ap length is.ids ∙ length-map-range_with_len (λ k. take 4 (drop (4 * k) (drop 2 tells.names.content))) 0 is.number) is.channels is.not_long is.layout (All-nil _) refl
+    let states = is.states in
+    dsdiff.shape_is r.rate is.number r.layout r.channels r.ids is.sound.content [] [] [] [] [] [] states.rate_low states.rate_high states.some_channel states.six_channels
+    (ap length is.ids ∙ length-map-range_with_len (λ k. take 4 (drop (4 * k) (drop 2 states.names.content))) 0 is.number) is.channels is.not_long is.layout (All-nil _) refl
 plain_shape file forms.Dsf r is = dsf_shape file r LeastFirst is
 plain_shape file forms.Dsf8 r is = dsf_shape file r MostFirst is
 
@@ -145,20 +145,20 @@ module _ (splice : SpliceContent) (files : List (List ℕ)) (cut : CutContent) (
   same_cut = λ j. record {
     splice = splice;
     first = silent (plain_take 0 j);
-    cued = each_below (length splice.cues) (λ i. each_below (length (plain_take 0 j).channels) (λ c. fades.cued splice i (get_or (plain_take (fades.cue_at splice i).take j).channels c [])));
-    windows = each_below (length splice.cues - 1) (λ i. each_below (length (plain_take 0 j).channels) (λ c. fades.bridging splice i (get_or (plain_take (fades.cue_at splice i).take j).channels c []) (get_or (plain_take (fades.cue_at splice (i + 1)).take j).channels c [])));
+    cued = each_below (length splice.cues) (λ i. each_below (length (plain_take 0 j).channels) (λ c. fades.cued splice i (get_or (plain_take (fades.splice_cue splice i).take j).channels c [])));
+    windows = each_below (length splice.cues - 1) (λ i. each_below (length (plain_take 0 j).channels) (λ c. fades.bridging splice i (get_or (plain_take (fades.splice_cue splice i).take j).channels c []) (get_or (plain_take (fades.splice_cue splice (i + 1)).take j).channels c [])));
   }
 
   can : CanCut (plain_cut cut)
   can = subst (λ k. CanCut (plain_cut k)) (sym opens.cut_is) (subst CanCut same_cut (can_cut splice plains fine fit shaped fades_join))
 
   -- ---- the window of each bridge is within its limits
-  source_long : (c i : ℕ) → c < length (take_at takes 0).channels → i < length splice.cues → (fades.cue_at splice i).stop ≤ length (source splice takes c i)
+  source_long : (c i : ℕ) → c < length (take_at takes 0).channels → i < length splice.cues → (fades.splice_cue splice i).stop ≤ length (source splice takes c i)
   source_long c i there lt =
-      let t = (fades.cue_at splice i).take in
+      let t = (fades.splice_cue splice i).take in
       let in_takes : t < length takes = omega (arith, (cue_fits splice fine i lt).take_is_there, opens.fit.as_many) in
       let alike : IsAlike takes (take_at takes t) = All-get_or (IsAlike takes) takes t _ in_takes opens.fit.alike in
-      let inside : IsInside takes (fades.cue_at splice i) = All-get_or (IsInside takes) splice.cues i _ lt opens.fit.inside in
+      let inside : IsInside takes (fades.splice_cue splice i) = All-get_or (IsInside takes) splice.cues i _ lt opens.fit.inside in
       let level = (shape_at t in_takes).level.same c [] (omega (arith, there, alike.as_many_channels)) in
       omega (arith, level, inside)
 
@@ -170,11 +170,11 @@ module _ (splice : SpliceContent) (files : List (List ℕ)) (cut : CutContent) (
       ap (λ (l : List Bridging). get_or l c no_bridging) (below_at (length splice.cues - 1) (λ i. each_below number (at i)) i [] (omega arith)) ∙ below_at number (at i) c no_bridging there in
       let cue = cue_fits splice fine i (omega arith) in
       let next = cue_fits splice fine (i + 1) lt in
-      subst IsBridging (sym is) (bridging_limits splice fine i (source splice takes c i) (fades.cue_at splice i).stop (source splice takes c (i + 1)) (fades.cue_at splice (i + 1)).start (omega arith)
+      subst IsBridging (sym is) (bridging_limits splice fine i (source splice takes c i) (fades.splice_cue splice i).stop (source splice takes c (i + 1)) (fades.splice_cue splice (i + 1)).start (omega arith)
       (omega (arith, cue.long_enough)) (source_long c i there (omega arith)) (omega (arith, next.long_enough, source_long c (i + 1) there lt)))
 
-  within : (c i : ℕ) → c < channel_number cut → i + 1 < length cut.splice.cues → IsBridging (window cut c i)
-  within = subst (λ (k : CutContent). (c i : ℕ) → c < channel_number k → i + 1 < length k.splice.cues → IsBridging (window k c i)) (sym opens.cut_is)
+  within : (c i : ℕ) → c < take_channels cut → i + 1 < length cut.splice.cues → IsBridging (window cut c i)
+  within = subst (λ (k : CutContent). (c i : ℕ) → c < take_channels k → i + 1 < length k.splice.cues → IsBridging (window k c i)) (sym opens.cut_is)
       (λ c i there lt. window_in c i (omega (arith, there, length-replicate {A = List Bool} (length (take_at takes 0).channels) [])) lt)
 
 -- what a project and files say
@@ -185,7 +185,7 @@ module _ (project : List ℕ) (files : List (List ℕ)) (cut : CutContent) (says
   pub cut_can : CanCut (plain_cut cut)
   cut_can = can says.splice files cut fine says.opens
 
-  pub window_within : (c i : ℕ) → c < channel_number cut → i + 1 < length cut.splice.cues → IsBridging (window cut c i)
+  pub window_within : (c i : ℕ) → c < take_channels cut → i + 1 < length cut.splice.cues → IsBridging (window cut c i)
   window_within = within says.splice files cut fine says.opens
 
 -- ---- the places of a cut
@@ -195,9 +195,9 @@ places_from cut (suc n) a le =
     let here : All (IsPlace cut) (places_after cut a) = elim (cases_lt 0 (cue_at cut a).bridge) [
       | inl some ↦ (
           let ne : (cue_at cut a).bridge ≡ 0 → ⊥ = λ e. omega arith in
-          subst (λ l. All (IsPlace cut) l) (sym (behind_some cut a ne)) (each_place cut a (omega arith) ne 0 (channel_number cut) (omega arith))
+          subst (λ l. All (IsPlace cut) l) (sym (after_some cut a ne)) (each_place cut a (omega arith) ne 0 (take_channels cut) (omega arith))
           )
-      | inr none ↦ subst (λ l. All (IsPlace cut) l) (sym (behind_none cut a (omega arith))) (All-nil (IsPlace cut))
+      | inr none ↦ subst (λ l. All (IsPlace cut) l) (sym (after_none cut a (omega arith))) (All-nil (IsPlace cut))
     ] in
     All-append (IsPlace cut) (places_after cut a) (flat_map (places_after cut) (range_with_len (a + 1) n)) here (places_from cut n (a + 1) (omega arith))
 

@@ -14,11 +14,11 @@ use Rattle.dsd_bits.specs.Sounds.{sound_channels, sound_size}
 use Rattle.dsd_bits.specs.Stretches.{stretch_of, stretches_of}
 use Rattle.form_core.specs.declared.form.Form.{Form}
 use Rattle.interleave_core.proofs.JoinLaws.{Appended, taken}
-use Rattle.cut_core.specs.Cuts.{AreAlike, CutContent, channel_number, master_length}
+use Rattle.cut_core.specs.Cuts.{AreAlike, CutContent, master_length, take_channels}
 use Rattle.judge_core.specs.declared.finding.CuedPlace.{CuedPlace}
 use Rattle.judge_core.specs.Checking.{HaveShape}
 use Rattle.judge_core.specs.Comparing.{FindsOff}
-use Rattle.judge_core.specs.Standing.{FindsCued, IsFoundOf, FindAllOff, bridges_kept}
+use Rattle.judge_core.specs.Kept.{FindsCued, IsFoundOf, FindAllOff, bridges_kept}
 use Rattle.sound_core.specs.Keepers.{Keeps}
 use Rattle.sound_core.specs.Outlines.{AreStated, IsPlacedIn, around_of, with_sound}
 use Rattle.sound_core.specs.Sinks.{IsTakenOf, TakesFile, TakesGiven}
@@ -32,42 +32,42 @@ use Rattle.judge_core.specs.declared.auditing.Audited.{Audited}
 use Rattle.judge_core.specs.declared.auditor.Auditor.{Auditor}
 
 -- ---- before the first byte
-pub audits_none : (cut : CutContent) (s : Sound) (ranges : List BitRange) (stretches : List (List (List Bool))) (firsts : List (Option ℕ)) → Keeps s ranges 0 stretches [] → firsts ≡ replicate (channel_number cut) None → Audits cut s ranges 0 stretches firsts []
+pub audits_none : (cut : CutContent) (s : Sound) (ranges : List BitRange) (stretches : List (List (List Bool))) (firsts : List (Option ℕ)) → Keeps s ranges 0 stretches [] → firsts ≡ replicate (take_channels cut) None → Audits cut s ranges 0 stretches firsts []
 audits_none cut s ranges stretches firsts keeps is = record {
   keeps = keeps;
-  number = ap length is ∙ length-replicate (channel_number cut) None;
-  tells = λ measure c there.
-      let none : get_or firsts c None ≡ None = ap (λ (l : List (Option ℕ)). get_or l c None) is ∙ get_or-replicate (channel_number cut) c None None there in
+  number = ap length is ∙ length-replicate (take_channels cut) None;
+  states = λ measure c there.
+      let none : get_or firsts c None ≡ None = ap (λ (l : List (Option ℕ)). get_or l c None) is ∙ get_or-replicate (take_channels cut) c None None there in
       let z = get_or (sound_channels s.interleaving s.channels 0 []) c [] in
       let long : length z ≡ 0 = channel_bits s.interleaving s.channels 0 [] c keeps.is_sound.some_channel (λ e. refl) (sym (no_size s.interleaving s.channels)) (omega (arith, there, measure.number)) in
       subst (FindsOff cut c z) (sym none) (λ p off. absurd (omega (arith, off.0, long)));
 }
 
 -- ---- channel by channel
--- of the first channels it is told with the parts behind them, and of the others as it was
-pub record ToldUpTo (cut : CutContent) (done : ℕ) (parts : List (List Bool)) (old now : List (Option ℕ)) (n : ℕ) : Type 0 where
+-- of the first channels it is stated with the parts after them, and of the others as it was
+pub record AuditedUpTo (cut : CutContent) (done : ℕ) (parts : List (List Bool)) (old now : List (Option ℕ)) (n : ℕ) : Type 0 where
   pub number : length now ≡ length old
   pub later : (c : ℕ) → n ≤ c → get_or now c None ≡ get_or old c None
-  pub told : (c : ℕ) → c < n → (before : List Bool) → length before ≡ done → FindsOff cut c before (get_or old c None) → FindsOff cut c (before ++ get_or parts c []) (get_or now c None)
+  pub stated : (c : ℕ) → c < n → (before : List Bool) → length before ≡ done → FindsOff cut c before (get_or old c None) → FindsOff cut c (before ++ get_or parts c []) (get_or now c None)
 
-pub told_next : (cut : CutContent) (done : ℕ) (parts : List (List Bool)) (old now : List (Option ℕ)) (n : ℕ) (first : Option ℕ) → ToldUpTo cut done parts old now n → n < length now
-    → ((before : List Bool) → length before ≡ done → FindsOff cut n before (get_or now n None) → FindsOff cut n (before ++ get_or parts n []) first) → ToldUpTo cut done parts old (set now n first) (n + 1)
-told_next cut done parts old now n first so_far low tells = record {
+pub stated_next : (cut : CutContent) (done : ℕ) (parts : List (List Bool)) (old now : List (Option ℕ)) (n : ℕ) (first : Option ℕ) → AuditedUpTo cut done parts old now n → n < length now
+    → ((before : List Bool) → length before ≡ done → FindsOff cut n before (get_or now n None) → FindsOff cut n (before ++ get_or parts n []) first) → AuditedUpTo cut done parts old (set now n first) (n + 1)
+stated_next cut done parts old now n first so_far low states = record {
   number = length-set now n first ∙ so_far.number;
   later = λ c h. get_or-set_other now n c first None (λ same. omega (arith, h, same)) ∙ so_far.later c (omega (arith, h));
-  told = λ c h before long off. elim (cases_lt c n) [
-    | inl less ↦ subst (FindsOff cut c (before ++ get_or parts c [])) (sym (get_or-set_other now n c first None (λ same. omega (arith, less, same)))) (so_far.told c less before long off)
+  stated = λ c h before long off. elim (cases_lt c n) [
+    | inl less ↦ subst (FindsOff cut c (before ++ get_or parts c [])) (sym (get_or-set_other now n c first None (λ same. omega (arith, less, same)))) (so_far.stated c less before long off)
     | inr at ↦ (
         let same : c ≡ n = omega (arith, h, at) in
         let here : FindsOff cut n before (get_or now n None) = subst (FindsOff cut n before) (sym (so_far.later n (omega arith))) (subst (λ k. FindsOff cut k before (get_or old k None)) same off) in
-        subst (λ k. FindsOff cut k (before ++ get_or parts k []) (get_or (set now n first) k None)) (sym same) (subst (FindsOff cut n (before ++ get_or parts n [])) (sym (get_or-set_same now n first None low)) (tells before long here)))
+        subst (λ k. FindsOff cut k (before ++ get_or parts k []) (get_or (set now n first) k None)) (sym same) (subst (FindsOff cut n (before ++ get_or parts n [])) (sym (get_or-set_same now n first None low)) (states before long here)))
   ];
 }
 
-pub told_all : (cut : CutContent) (done : ℕ) (parts : List (List Bool)) (old now : List (Option ℕ)) (n : ℕ) → ToldUpTo cut done parts old now n → channel_number cut ≤ n → FindMoreOff cut done parts old now
-told_all cut done parts old now n so_far enough = record { number = so_far.number; tells = λ c there. so_far.told c (omega (arith, there, enough)) }
+pub stated_all : (cut : CutContent) (done : ℕ) (parts : List (List Bool)) (old now : List (Option ℕ)) (n : ℕ) → AuditedUpTo cut done parts old now n → take_channels cut ≤ n → FindMoreOff cut done parts old now
+stated_all cut done parts old now n so_far enough = record { number = so_far.number; states = λ c there. so_far.stated c (omega (arith, there, enough)) }
 
--- ---- a part more
+-- ---- one part more
 module _ (cut : CutContent) (part : SoundPart) (ranges : List BitRange) (stretches : List (List (List Bool))) (firsts : List (Option ℕ)) (before bytes : List ℕ)
     (audits : Audits cut part.sound ranges part.done stretches firsts before) (size : length bytes ≡ sound_size part.sound.interleaving part.sound.channels part.bits) where
   abbrev s : Sound
@@ -89,14 +89,14 @@ module _ (cut : CutContent) (part : SoundPart) (ranges : List BitRange) (stretch
   }
 
   pub audits_more : (kept : List (List (List Bool))) → Keeps s ranges (part.done + part.bits) kept (before ++ bytes) → HasMeasure cut s → (next : List (Option ℕ)) → FindMoreOff cut part.done parts firsts next → Audits cut s ranges (part.done + part.bits) kept next (before ++ bytes)
-  audits_more kept keeps measure next tells = record {
+  audits_more kept keeps measure next states = record {
     keeps = keeps;
-    number = tells.number ∙ audits.number;
-    tells = λ own c there.
+    number = states.number ∙ audits.number;
+    states = λ own c there.
         let low : c < s.channels = omega (arith, there, measure.number) in
         let first = get_or next c None in
-        let told = tells.tells c there (get_or (sound_channels s.interleaving s.channels part.done before) c []) (joined.bits c low) (audits.tells measure c there) in
-        subst (λ z. FindsOff cut c z first) (sym (joined.each c low)) told;
+        let stated = states.states c there (get_or (sound_channels s.interleaving s.channels part.done before) c []) (joined.bits c low) (audits.states measure c there) in
+        subst (λ z. FindsOff cut c z first) (sym (joined.each c low)) stated;
   }
 
 -- ---- all of it
@@ -113,15 +113,15 @@ module _ (first a : Auditor) (outline : Outline) (cut : CutContent) (own : first
   abbrev t : Sound
   t = outline.sound
 
-  module _ (told : AreStated (around_of outline)) (file sound : List ℕ) (stands : IsPlacedIn (around_of outline) file sound) (is : IsAuditing first a t t.count sound) where
+  module _ (stated : AreStated (around_of outline)) (file sound : List ℕ) (stands : IsPlacedIn (around_of outline) file sound) (is : IsAuditing first a t t.count sound) where
     abbrev held : Content
     held = with_sound outline.recording t sound
 
     own_shape : HasShape held
-    own_shape = held_shape outline shape told file sound stands
+    own_shape = held_shape outline shape stated file sound stands
 
     measure : AreAlike cut.first held → count_of held.channels ≡ master_length cut.splice.cues → HasMeasure cut t
-    measure alike long = record { number = sym (held_number outline shape told file sound stands) ∙ alike.as_many_channels; long = sym (held_count outline shape told file sound stands) ∙ long }
+    measure alike long = record { number = sym (held_number outline shape stated file sound stands) ∙ alike.as_many_channels; long = sym (held_count outline shape stated file sound stands) ∙ long }
 
     have_shape : AreAlike cut.first held → count_of held.channels ≡ master_length cut.splice.cues → HaveShape cut held.channels
     have_shape alike long = record { as_many = alike.as_many_channels; long = λ k d lt. own_shape.level.same k d lt ∙ long }
@@ -132,20 +132,20 @@ module _ (first a : Auditor) (outline : Outline) (cut : CutContent) (own : first
     found : (form : Form) → IsFoundOf cut (found_in form made) held
     found form = record {
       shaped = own_shape;
-      recording_is = held_silent outline shape told file sound stands;
-      count_is = sym (held_count outline shape told file sound stands);
-      cued = λ alike long. lowest held (have_shape alike long) (own_audits.tells (measure alike long));
+      recording_is = held_silent outline shape stated file sound stands;
+      count_is = sym (held_count outline shape stated file sound stands);
+      cued = λ alike long. lowest held (have_shape alike long) (own_audits.states (measure alike long));
       kept = λ alike long.
           same_stretches (sound_channels t.interleaving t.channels t.count sound) a.keeper.ranges.now (items_of a.keeper.stretches.items) is.audits.keeps.kept
           ∙ ap (stretches_of held.channels) (is.ranges ∙ ranges_are) ∙ bridges_are cut held.channels;
     }
 
   taken_audit : AreStated (around_of outline) → (file : List ℕ) → IsTakenOf (IsAuditing first a) (around_of outline) file → IsAuditOf cut made file
-  taken_audit told file (sound, stands, is) = (sound, stands, found told file sound stands is)
+  taken_audit stated file (sound, stands, is) = (sound, stands, found stated file sound stands is)
 
   pub file_audited : (left : Option (List ℕ)) → TakesFile (IsAuditing first a) left (around_of outline) → AuditsFile left cut made
-  file_audited None (told, h) = (told, tt)
-  file_audited (Some file) (told, h) = (told, taken_audit told file h)
+  file_audited None (stated, h) = (stated, tt)
+  file_audited (Some file) (stated, h) = (stated, taken_audit stated file h)
 
   pub given_audited : {R : Type 0} (left : R → Option (List ℕ)) (i j : Inlet R) → AreStated (around_of outline) → TakesGiven (IsAuditing first a) left i j (around_of outline) → AuditsGiven left i j cut made
-  given_audited left i j told (read, reads, h) = (read, reads, taken_audit told read h)
+  given_audited left i j stated (read, reads, h) = (read, reads, taken_audit stated read h)

@@ -1,4 +1,4 @@
--- A channel of a master, part by part, and where its bridges stand.
+-- A channel of a master, part by part, and where its bridges are.
 use Rattle.std.proofs.Common.{◌≡◌, ℕ, zero, suc, ◌+◌, ◌-◌, ◌<◌, Bool, List, [], ◌∷◌, ◌++◌, length, get_or, map, slice_get, take, drop, slice_range, sum_by, append_assoc, refl, sym, ap, subst, ◌∙◌, arith}
 use Rattle.std.specs.List.{range_with_len}
 use Rattle.std.proofs.Math.Seq.{drop-append_seam, take-append_seam}
@@ -9,13 +9,13 @@ use Rattle.std.proofs.lemmas.Option.{slice_get-get_or}
 use Rattle.splice_core.specs.Cues.{bridge_or, last_bridge}
 use Rattle.cost_core.specs.Channels.{AreJoined, HaveLengths, Part, channel}
 use Rattle.cost_core.specs.Least.{IsFirstLeast, NotAfter}
-use Rattle.cut_core.specs.Cuts.{CutContent, channel_number, cue_at, cue_bits, master_length, span}
+use Rattle.cut_core.specs.Cuts.{CutContent, cue_at, cue_bits, master_length, span, take_channels}
 use Rattle.cut_core.specs.Keeping.{CanCut}
 use Rattle.judge_core.specs.Checking.{rebuilt}
 use Rattle.judge_core.specs.Claims.{bridge_bits, bridge_start}
 use Rattle.judge_core.specs.Masters.{master_channel, part_at, parts_of}
 
--- a part more
+-- one part more
 pub channel_on : (cue : List Bool) (ps : List Part) (xs : List (List Bool)) (p : Part) (x : List Bool) → length xs ≡ length ps → channel cue (ps ++ p ∷ []) (xs ++ x ∷ []) ≡ channel cue ps xs ++ (x ++ p.cue)
 unfolding channel
 channel_on cue [] [] p x h = refl
@@ -39,7 +39,7 @@ length_at (p ∷ ps) [] i d e h lt = absurd h
 length_at (p ∷ ps) (x ∷ xs) zero d e h lt = h.0
 length_at (p ∷ ps) (x ∷ xs) (suc i) d e h lt = length_at ps xs i d e h.1 (omega arith)
 
--- what stands before a bridge, the bridge, and what stands behind it
+-- what is before a bridge, the bridge, and what follows it
 split_at : (cue : List Bool) (ps : List Part) (xs : List (List Bool)) (i : ℕ) → length xs ≡ length ps → i < length ps → (rest : List Bool) × (channel cue ps xs ≡ channel cue (take i ps) (take i xs) ++ (get_or xs i [] ++ rest))
 unfolding channel
 split_at cue [] xs i e lt = absurd (omega arith)
@@ -48,8 +48,8 @@ split_at cue (p ∷ ps) (x ∷ xs) zero e lt = (channel p.cue ps xs, refl)
 split_at cue (p ∷ ps) (x ∷ xs) (suc i) e lt =
     let (rest, is) = split_at p.cue ps xs i (omega arith) (omega arith) in
     let before = channel p.cue (take i ps) (take i xs) in
-    let behind = get_or xs i [] ++ rest in
-    (rest, ap (λ l. cue ++ (x ++ l)) is ∙ ap (λ l. cue ++ l) (sym (append_assoc x before behind)) ∙ sym (append_assoc cue (x ++ before) behind))
+    let after = get_or xs i [] ++ rest in
+    (rest, ap (λ l. cue ++ (x ++ l)) is ∙ ap (λ l. cue ++ l) (sym (append_assoc x before after)) ∙ sym (append_assoc cue (x ++ before) after))
 
 -- a part of a list
 part_of : (a x rest : List Bool) (n m : ℕ) → length a ≡ n → length x ≡ m → slice_range (a ++ (x ++ rest)) n (n + m) ≡ x
@@ -77,7 +77,7 @@ whole_length cut can i e =
     last_place : (n i : ℕ) → i + 1 ≡ n → n - 1 ≡ i
     last_place n i e = omega arith
 
-module _ (cut : CutContent) (can : CanCut cut) (c : ℕ) (there : c < channel_number cut) where
+module _ (cut : CutContent) (can : CanCut cut) (c : ℕ) (there : c < take_channels cut) where
   abbrev ps : List Part
   ps = parts_of cut c
 
@@ -90,7 +90,7 @@ module _ (cut : CutContent) (can : CanCut cut) (c : ℕ) (there : c < channel_nu
   pub cue_long : (i : ℕ) → i < length cut.splice.cues → length (cue_bits cut c i) ≡ (cue_at cut i).stop - (cue_at cut i).start
   cue_long i lt = can.long c i there lt
 
-  -- what stands before the bridge behind cue i has as many bits as are before it in the master
+  -- what is before the bridge after cue i has as many bits as are before it in the master
   pub before_long : (xs : List (List Bool)) → HaveLengths ps xs → (i : ℕ) → i < length cut.splice.cues → length (channel (cue_bits cut c 0) (take i ps) (take i xs)) ≡ bridge_start cut i
   unfolding channel
   before_long xs h zero lt = omega (arith, cue_long 0 lt)
@@ -111,7 +111,7 @@ module _ (cut : CutContent) (can : CanCut cut) (c : ℕ) (there : c < channel_nu
       omega (arith, ap length one, length-append (channel (cue_bits cut c 0) (take i ps) (take i xs)) (x ++ cue_bits cut c (i + 1)), length-append x (cue_bits cut c (i + 1)), long, before_long xs h i below, cue_long (i + 1) (omega arith), sums) in
       subst (λ n. length (channel (cue_bits cut c 0) (take n ps) (take n xs)) ≡ bridge_start cut n) next whole
 
-  -- the bits that stand in the master for a bridge are the bridge's
+  -- the bits at the place of a bridge in the master are the bridge's
   pub bridge_in_channel : (z : List Bool) (xs : List (List Bool)) → HaveLengths ps xs → z ≡ master_channel cut c xs → (i : ℕ) → i < length cut.splice.cues - 1 → bridge_bits cut z i ≡ get_or xs i []
   bridge_in_channel z xs h is i lt =
       let inside : i < length ps = omega (arith, part_number) in
@@ -120,7 +120,7 @@ module _ (cut : CutContent) (can : CanCut cut) (c : ℕ) (there : c < channel_nu
       let long : length (get_or xs i []) ≡ (cue_at cut i).bridge = length_at ps xs i d [] h inside ∙ ap (λ (q : Part). q.bridging.levels) (part_is i d lt) ∙ (can.windowed c i there (omega arith)).levels in
       ap (λ l. slice_range l (bridge_start cut i) (bridge_start cut i + (cue_at cut i).bridge)) (is ∙ split) ∙ part_of (channel (cue_bits cut c 0) (take i ps) (take i xs)) (get_or xs i []) rest (bridge_start cut i) (cue_at cut i).bridge (before_long xs h i (omega arith)) long
 
-  -- a channel of cues and bridges is rebuilt of them
+  -- a channel of cues and bridges is rebuilt from them
   pub is_rebuilt : (z : List Bool) (xs : List (List Bool)) → HaveLengths ps xs → z ≡ master_channel cut c xs → z ≡ rebuilt cut c z
   is_rebuilt z xs h is =
       let n = length cut.splice.cues - 1 in

@@ -19,16 +19,16 @@ use Rattle.sound_core.specs.Faults.{failed_reads}
 use Rattle.sound_core.specs.declared.fault.StreamFault.TheVariants.{ReadFailed}
 use Rattle.transfer_core.specs.Faults.{as_stream}
 use Rattle.transfer_core.specs.declared.fault.Fault.TheVariants.{Memory, Stream}
-use Rattle.judge_core.specs.Accepting.{Accepts, CostsLeast, CostsWindows, IfAccepted, IfRejected, IsAcceptedAt, IsLeastMaster, IsMaster, RejectsFirst, fault_of_check}
+use Rattle.judge_core.specs.Accepting.{Accepts, CostsLeast, CostsWindows, IfMasterAccepted, IfMasterRejected, IsAcceptedAt, IsLeastMaster, IsMaster, RejectsFirst, fault_of_check}
 use Rattle.judge_core.specs.Cutting.{SaysCut}
 use Rattle.judge_core.proofs.CuttingLaws.{one_cut, says_cut}
 
--- what follows of known bytes, and what stands of all
+-- what follows for known bytes, and what holds for all
 known_on : (known : Option (List ℕ)) (P Q : List ℕ → Type 0) → ((bytes : List ℕ) → P bytes → Q bytes) → IfSome known P → IfSome known Q
 known_on None P Q f p = tt
 known_on (Some bytes) P Q f p = f bytes p
 
--- a certificate that wasn't judged
+-- a certificate that was not judged
 pub not_judged : (fault : CheckFault) → (fault_of_check fault ≡ Stream ReadFailed) ⊎ (fault_of_check fault ≡ Memory)
 not_judged certs.Device = inl refl
 not_judged certs.Memory = inr refl
@@ -49,28 +49,28 @@ module _ (project : List ℕ) (files : List (List ℕ)) (master : List ℕ) (cut
   abbrev Judges : Verdict → List ℕ → Type 0
   Judges v cert = JudgesMaster cut form r cert v
 
-  pub file_accepts : (known : Option (List ℕ)) (v : Verdict) → IfSome known (Judges v) → IfAccepted (Ok v) (λ cost. IfSome known (λ cert. Accepts project files master cert cost))
+  pub file_accepts : (known : Option (List ℕ)) (v : Verdict) → IfSome known (Judges v) → IfMasterAccepted (Ok v) (λ cost. IfSome known (λ cert. Accepts project files master cert cost))
   file_accepts known (Accepted cost) h =
       known_on known (Judges (Accepted cost)) (λ cert. Accepts project files master cert cost) (λ cert j. record { cut = cut; says = says; form = form; recording = r; master_holds = holds; is_master = j.0; shown = j.1; cost_is = j.2 }) h
   file_accepts known (Rejected reason) h = tt
 
-  pub file_windows : (known : Option (List ℕ)) (v : Verdict) → IfSome known (Judges v) → IfAccepted (Ok v) (λ cost. IfSome known (λ cert. CostsWindows project files master cost))
+  pub file_windows : (known : Option (List ℕ)) (v : Verdict) → IfSome known (Judges v) → IfMasterAccepted (Ok v) (λ cost. IfSome known (λ cert. CostsWindows project files master cost))
   file_windows known (Accepted cost) h = known_on known (Judges (Accepted cost)) (λ cert. CostsWindows project files master cost) (λ cert j. record { cut = cut; says = says; form = form; recording = r; file_holds = holds; cost_is = j.3 }) h
   file_windows known (Rejected reason) h = tt
 
-  pub file_rejects : (known : Option (List ℕ)) (v : Verdict) → IfSome known (Judges v) → IfRejected (Ok v) (λ reason. IfSome known (λ cert. RejectsFirst project files master cert reason))
+  pub file_rejects : (known : Option (List ℕ)) (v : Verdict) → IfSome known (Judges v) → IfMasterRejected (Ok v) (λ reason. IfSome known (λ cert. RejectsFirst project files master cert reason))
   file_rejects known (Accepted cost) h = tt
   file_rejects known (Rejected reason) h = known_on known (Judges (Rejected reason)) (λ cert. RejectsFirst project files master cert reason) (λ cert j. record { cut = cut; says = says; stands = inr (form, r, holds, j) }) h
 
-  pub file_master : (v : Verdict) → AtCost v (IsLeastOf cut form r) → IfAccepted (Ok v) (λ _. IsMaster project files master)
+  pub file_master : (v : Verdict) → AtCost v (IsLeastOf cut form r) → IfMasterAccepted (Ok v) (λ _. IsMaster project files master)
   file_master (Accepted cost) h = record { cut = cut; says = says; form = form; recording = r; file_holds = holds; same_rate = h.is_master.shape.same_rate; made = h.made; titled = h.is_master.titled }
   file_master (Rejected reason) h = tt
 
-  pub file_least : (v : Verdict) → AtCost v (IsLeastOf cut form r) → IfAccepted (Ok v) (λ _. IsLeastMaster project files master)
+  pub file_least : (v : Verdict) → AtCost v (IsLeastOf cut form r) → IfMasterAccepted (Ok v) (λ _. IsLeastMaster project files master)
   file_least (Accepted cost) h = record { cut = cut; says = says; form = form; recording = r; file_holds = holds; least = h.least }
   file_least (Rejected reason) h = tt
 
-  pub file_joint : (v : Verdict) → AtCost v (IsLeastOf cut form r) → IfAccepted (Ok v) (CostsLeast project files master)
+  pub file_joint : (v : Verdict) → AtCost v (IsLeastOf cut form r) → IfMasterAccepted (Ok v) (CostsLeast project files master)
   file_joint (Accepted cost) h = record { cut = cut; says = says; form = form; recording = r; file_holds = holds; made = h.made; least = h.joint }
   file_joint (Rejected reason) h = tt
 

@@ -26,7 +26,7 @@ use Rattle.judge_core.specs.declared.verdict.Verdict.TheVariants.{Rejected}
 use Rattle.judge_core.specs.Checking.{CertReasons}
 use Rattle.judge_core.specs.Judging.{IsWrongFrom, JudgesCert, JudgesClaim, JudgesClaims, JudgesHead, LacksClaim, ReadsEntries, ShowsBridges, ShowsClaims}
 use Rattle.judge_core.specs.Claims.{IsCertOf, claim_at, claim_cost, claim_of, claims}
-use Rattle.judge_core.specs.Standing.{AreBitsOf, claim_from}
+use Rattle.judge_core.specs.Kept.{AreBitsOf, claim_from}
 
 -- what was read, and then more
 consumes_more : (a b d : Option (List ℕ)) (xs ys : List ℕ) → Consumes a b xs → Consumes b d ys → Consumes a d (xs ++ ys)
@@ -105,10 +105,10 @@ map_alike f g xs d same = ext_get_or (f d) (map f xs) (map g xs) (length-map xs 
     get_or-map f xs k d (f d) inside ∙ same k inside ∙ sym (get_or-map g xs k d (f d) inside))
 
 -- what is to be shown of kept bits is what is to be shown of the channels that have them
-pub same_claims : (cut : CutContent) (rows : List (List (List Bool))) (zs : List (List Bool)) (places : List BridgePlace) → places ≡ bridges cut → All (IsPlace cut) places → AreBitsOf cut rows zs → map (claim_from cut rows) places ≡ claims cut zs
-same_claims cut rows zs places are each bits =
+pub same_claims : (cut : CutContent) (held_bits : List (List (List Bool))) (zs : List (List Bool)) (places : List BridgePlace) → places ≡ bridges cut → All (IsPlace cut) places → AreBitsOf cut held_bits zs → map (claim_from cut held_bits) places ≡ claims cut zs
+same_claims cut held_bits zs places are each bits =
     let d : BridgePlace = record { cue = 0; channel = 0 } in
-    map_alike (claim_from cut rows) (claim_at cut zs) places d (λ k lt. ap (claim_of cut (get_or places k d)) (bits (get_or places k d) (each k d lt))) ∙ ap (map (claim_at cut zs)) are
+    map_alike (claim_from cut held_bits) (claim_at cut zs) places d (λ k lt. ap (claim_of cut (get_or places k d)) (bits (get_or places k d) (each k d lt))) ∙ ap (map (claim_at cut zs)) are
 
 -- ---- the whole certificate
 module _ (cut : CutContent) (zs : List (List Bool)) where

@@ -20,17 +20,17 @@ found a = found_in (form_in a.outline.sound.interleaving) a
 -- it was found of the recording that the file holds
 pub audit_held : (cut : CutContent) (a : Audited) (left : Option (List ℕ)) → AuditsFile left cut a → IfSome left (λ file. FindsHeld cut file (found a))
 audit_held cut a None h = tt
-audit_held cut a (Some file) (told, (sound, stands, is)) =
+audit_held cut a (Some file) (stated, (sound, stands, is)) =
     let r = with_sound a.outline.recording a.outline.sound sound in
     record {
       recording = r;
-      master_holds = holds_as a.outline.sound.interleaving file r (told.holds file sound stands);
+      master_holds = holds_as a.outline.sound.interleaving file r (stated.holds file sound stands);
       found_of = is (form_in a.outline.sound.interleaving);
     }
 
--- and of bytes that were read, whether the reader tells its own or not
+-- and of bytes that were read, whether the reader's bytes are known or not
 pub audit_given : {R : Type 0} (left : R → Option (List ℕ)) (i j : Inlet R) (cut : CutContent) (a : Audited) → AreStated (around_of a.outline) → AuditsGiven left i j cut a → IsFoundGiven left i j cut (Some (found a))
-audit_given left i j cut a told (read, reads, is) = (read, reads, audit_held cut a (Some read) (told, is))
+audit_given left i j cut a stated (read, reads, is) = (read, reads, audit_held cut a (Some read) (stated, is))
 
 -- what was found of a file, or that it holds none
 pub held_there : (cut : CutContent) (file : List ℕ) (o : Option Found) → IsFoundHeld cut file o → IfSome o (FindsHeld cut file)

@@ -7,7 +7,7 @@ use Rattle.dsd_bits.specs.Contents.{Content}
 use Rattle.dsd_bits.specs.Shape.{HasShape}
 use Rattle.form_core.specs.declared.form.Form.{Form}
 use Rattle.cut_core.specs.Bridges.{IsPlace}
-use Rattle.cut_core.specs.Cuts.{AreAlike, CutContent, channel_number}
+use Rattle.cut_core.specs.Cuts.{AreAlike, CutContent, take_channels}
 use Rattle.cut_core.specs.declared.bridges.BridgePlace.{BridgePlace}
 use Rattle.judge_core.specs.declared.finding.CuedPlace.{CuedPlace}
 use Rattle.judge_core.specs.declared.finding.Found.{Found}
@@ -16,10 +16,10 @@ use Rattle.judge_core.specs.declared.verdict.Reason.TheVariants.{MasterUnread, M
 use Rattle.judge_core.specs.Checking.{HaveShape, HoldCues, IsLike, IsMasterOf, MasterReason, OuterReason}
 use Rattle.judge_core.specs.Claims.{bridge_bits}
 use Rattle.judge_core.specs.Masters.{channel_numbers}
-use Rattle.judge_core.specs.Standing.{AreKept, FindsCued, IsFoundOf, bridges_kept, kept_at, rows_of}
+use Rattle.judge_core.specs.Kept.{AreKept, FindsCued, IsFoundOf, bridges_kept, kept_at, kept_items}
 use Rattle.judge_core.proofs.TotalLaws.{own_long}
 
--- ---- a recording q tells what another one, r, has beside its bits
+-- ---- a recording q has what another one, r, has besides its bits
 module _ (cut : CutContent) (form : Form) (q r : Content) (count : ℕ) (rate : q.rate ≡ r.rate) (many : length q.channels ≡ length r.channels) (marks : q.marks ≡ r.marks) (count_is : count ≡ count_of r.channels) where
   alike : AreAlike cut.first q → AreAlike cut.first r
   alike a = record { same_rate = sym rate ∙ a.same_rate; as_many_channels = sym many ∙ a.as_many_channels }
@@ -40,7 +40,7 @@ module _ (cut : CutContent) (form : Form) (q r : Content) (count : ℕ) (rate : 
   reason_whole (Cert k reason) h = absurd h
   reason_whole CertExtra h = absurd h
 
--- ---- where none of those reasons stands
+-- ---- where none of those reasons applies
 module _ (cut : CutContent) (form : Form) (r : Content) (like : IsLike cut form r (count_of r.channels)) where
   pub like_shape : HasShape r → HaveShape cut r.channels
   like_shape shape = record { as_many = like.shape.as_many_channels; long = λ k d lt. shape.level.same k d lt ∙ like.long }
@@ -49,7 +49,7 @@ module _ (cut : CutContent) (form : Form) (r : Content) (like : IsLike cut form 
   holds_cues cued = record { shape = like.shape; long = like.long; titled = like.titled; cued = cued }
 
 -- ---- bits that are kept
--- those of each channel for the bridge behind cue i
+-- those of each channel for the bridge after cue i
 rows_at : (cut : CutContent) (zs : List (List Bool)) (i : ℕ) → i + 1 < length cut.splice.cues → get_or (bridges_kept cut zs) i [] ≡ map (λ z. bridge_bits cut z i) zs
 rows_at cut zs i lt = get_or-map-range_with_len (λ n. map (λ z. bridge_bits cut z n) zs) 0 (length cut.splice.cues - 1) i i [] (omega (arith, lt)) (omega arith)
 
@@ -66,12 +66,12 @@ kept_shape cut zs shape = record {
       ap length (bits_kept cut zs c i inside lt) ∙ own_long cut zs shape c i inside lt;
 }
 
--- bits that are those of these channels are as many as the bridges have, and stand in them
-pub kept_whole : (cut : CutContent) (zs : List (List Bool)) → HaveShape cut zs → (rows : List (List (List Bool))) → rows ≡ bridges_kept cut zs → AreKept cut rows
-kept_whole cut zs shape rows is = subst (AreKept cut) (sym is) (kept_shape cut zs shape)
+-- bits of these channels are as many as the bridges have, and are theirs
+pub kept_whole : (cut : CutContent) (zs : List (List Bool)) → HaveShape cut zs → (held_bits : List (List (List Bool))) → held_bits ≡ bridges_kept cut zs → AreKept cut held_bits
+kept_whole cut zs shape held_bits is = subst (AreKept cut) (sym is) (kept_shape cut zs shape)
 
-pub kept_bits : (cut : CutContent) (zs : List (List Bool)) → length zs ≡ channel_number cut → (rows : List (List (List Bool))) → rows ≡ bridges_kept cut zs → (p : BridgePlace) → IsPlace cut p → kept_at rows p.channel p.cue ≡ bridge_bits cut (get_or zs p.channel []) p.cue
-kept_bits cut zs many rows is p at = ap (λ (l : List (List (List Bool))). kept_at l p.channel p.cue) is ∙ bits_kept cut zs p.channel p.cue (omega (arith, many, at.channel_there)) at.cue_there
+pub kept_bits : (cut : CutContent) (zs : List (List Bool)) → length zs ≡ take_channels cut → (held_bits : List (List (List Bool))) → held_bits ≡ bridges_kept cut zs → (p : BridgePlace) → IsPlace cut p → kept_at held_bits p.channel p.cue ≡ bridge_bits cut (get_or zs p.channel []) p.cue
+kept_bits cut zs many held_bits is p at = ap (λ (l : List (List (List Bool))). kept_at l p.channel p.cue) is ∙ bits_kept cut zs p.channel p.cue (omega (arith, many, at.channel_there)) at.cue_there
 
 -- ---- what was found of it
 module _ (cut : CutContent) (found : Found) (r : Content) (is : IsFoundOf cut found r) where
@@ -94,5 +94,5 @@ module _ (cut : CutContent) (found : Found) (r : Content) (is : IsFoundOf cut fo
     pub found_some : (p : CuedPlace) → found.differs ≡ Some p → MasterReason cut found.form r (CuedBit p.channel p.place)
     found_some p some = (whole.shape, whole.long, whole.titled, subst (λ (o : Option CuedPlace). FindsCued cut r o) some (is.cued whole.shape whole.long))
 
-    pub found_kept : AreKept cut (rows_of found.kept.items)
-    found_kept = kept_whole cut r.channels (like_shape cut found.form r whole is.shaped) (rows_of found.kept.items) (is.kept whole.shape whole.long)
+    pub found_kept : AreKept cut (kept_items found.kept.items)
+    found_kept = kept_whole cut r.channels (like_shape cut found.form r whole is.shaped) (kept_items found.kept.items) (is.kept whole.shape whole.long)

@@ -13,10 +13,10 @@ use Rattle.cost_core.specs.Channels.{LeastTogether, Part, PlacesAreWindows}
 use Rattle.cost_core.specs.Least.{IsLeast}
 use Rattle.form_core.specs.declared.form.Form.{Form}
 use Rattle.cut_core.specs.Bridges.{bridges, places_after}
-use Rattle.cut_core.specs.Cuts.{CutContent, channel_number, cue_at, window}
+use Rattle.cut_core.specs.Cuts.{CutContent, cue_at, take_channels, window}
 use Rattle.cut_core.specs.Keeping.{CanCut}
 use Rattle.cut_core.specs.declared.bridges.BridgePlace.{BridgePlace}
-use Rattle.cut_core.proofs.BridgeLaws.{all_in_flat, behind_some, place_of}
+use Rattle.cut_core.proofs.BridgeLaws.{after_some, all_in_flat, place_of}
 use Rattle.cut_core.proofs.ZipLaws.{zip_from, zip_number, zip_numbers}
 use Rattle.judge_core.specs.declared.verdict.Reason.{Reason}
 use Rattle.judge_core.specs.declared.verdict.Reason.TheVariants.{MasterUnread, MasterShape, MasterLength, MasterMarks, CuedBit, CertHead, Cert, CertExtra}
@@ -36,7 +36,7 @@ reason_against cut form r MasterShape h is = h is.shape
 reason_against cut form r MasterLength h is = h.1 is.long
 reason_against cut form r MasterMarks h is = h.3 (is.titled h.2)
 reason_against cut form r (CuedBit c place) h is =
-    let same = zip_number (λ k z. z ≡ rebuilt cut k z) (channel_number cut) r.channels c [] is.cued (omega (arith, h.3.there, is.shape.as_many_channels)) in
+    let same = zip_number (λ k z. z ≡ rebuilt cut k z) (take_channels cut) r.channels c [] is.cued (omega (arith, h.3.there, is.shape.as_many_channels)) in
     h.3.differs.differs (ap (λ (l : List Bool). get_or l place false) same)
 reason_against cut form r MasterUnread h is = h
 reason_against cut form r (CertHead reason) h is = h
@@ -48,14 +48,14 @@ all_before_map : {X Y : Type 0} (P : Y → Type 0) (f : X → Y) (xs : List X) �
 all_before_map P f xs h = λ k d lt. subst P (get_or-map f xs k d (f d) lt) (h k (f d) (omega (arith, length-map xs f)))
 
 -- the claim of a bridge is among those of a master
-least_at : (cut : CutContent) (zs : List (List Bool)) → AreLeastBridges cut zs → (i c : ℕ) → i < length cut.splice.cues - 1 → c < channel_number cut → ((cue_at cut i).bridge ≡ 0 → ⊥)
+least_at : (cut : CutContent) (zs : List (List Bool)) → AreLeastBridges cut zs → (i c : ℕ) → i < length cut.splice.cues - 1 → c < take_channels cut → ((cue_at cut i).bridge ≡ 0 → ⊥)
     → IsLeastBridge (window cut c i) (bridge_bits cut (get_or zs c []) i)
 least_at cut zs least i c lt there bridged =
-    let number = channel_number cut in
+    let number = take_channels cut in
     let P : BridgePlace → Type 0 = λ p. IsLeastBridge (claim_at cut zs p).bridging (claim_at cut zs p).bits in
     let each = all_before_map IsLeastClaim (claim_at cut zs) (bridges cut) least in
-    let behind = all_in_flat P (places_after cut) (length cut.splice.cues - 1) 0 i (omega arith) (omega arith) each in
-    let all = subst (λ l. All P l) (behind_some cut i bridged) behind in
+    let after = all_in_flat P (places_after cut) (length cut.splice.cues - 1) 0 i (omega arith) (omega arith) each in
+    let all = subst (λ l. All P l) (after_some cut i bridged) after in
     let d : BridgePlace = place_of i c in
     subst P (get_or-map-range_with_len {X = BridgePlace} (place_of i) 0 number c c d there (omega arith)) (all c d (omega (arith, length-map-range_with_len {X = BridgePlace} (place_of i) 0 number)))
 
@@ -66,7 +66,7 @@ nothing_least levels cost x long none = let empty : x ≡ [] = nil_from_length x
 pub some_is : {X : Type 0} (P : Type 0) (Q : X → Type 0) (o : Option X) (x : X) → o ≡ Some x → MatchOption o P Q → Q x
 some_is P Q o x e h = subst (λ k. MatchOption k P Q) e h
 
--- what stands of all bytes stands of known ones
+-- what holds for all bytes holds for known ones
 pub for_known : (known : Option (List ℕ)) (P : List ℕ → Type 0) → ((bytes : List ℕ) → P bytes) → IfSome known P
 for_known None P p = tt
 for_known (Some bytes) P p = p bytes
@@ -76,14 +76,14 @@ module _ (cut : CutContent) (can : CanCut cut) (form : Form) (r : Content) (is :
   pub have_shape : HaveShape cut r.channels
   have_shape = record { as_many = is.shape.as_many_channels; long = λ k d lt. shape.level.same k d lt ∙ is.long }
 
-  rebuilt_at : (c : ℕ) → c < channel_number cut → get_or r.channels c [] ≡ rebuilt cut c (get_or r.channels c [])
-  rebuilt_at c lt = zip_number (λ k x. x ≡ rebuilt cut k x) (channel_number cut) r.channels c [] is.cued lt
+  rebuilt_at : (c : ℕ) → c < take_channels cut → get_or r.channels c [] ≡ rebuilt cut c (get_or r.channels c [])
+  rebuilt_at c lt = zip_number (λ k x. x ≡ rebuilt cut k x) (take_channels cut) r.channels c [] is.cued lt
 
   pub channels_made : AreMasterChannels cut r.channels
-  channels_made = zip_numbers (IsMasterChannel cut) (channel_number cut) r.channels [] is.shape.as_many_channels (λ c lt. record { bridges = _; lengths = own_lengths cut r.channels can have_shape c lt; made = rebuilt_at c lt })
+  channels_made = zip_numbers (IsMasterChannel cut) (take_channels cut) r.channels [] is.shape.as_many_channels (λ c lt. record { bridges = _; lengths = own_lengths cut r.channels can have_shape c lt; made = rebuilt_at c lt })
 
   pub channels_least : AreLeastBridges cut r.channels → AreLeastChannels cut r.channels
-  channels_least least = zip_numbers (IsLeastChannel cut) (channel_number cut) r.channels [] is.shape.as_many_channels (λ c there.
+  channels_least least = zip_numbers (IsLeastChannel cut) (take_channels cut) r.channels [] is.shape.as_many_channels (λ c there.
       let n = length cut.splice.cues - 1 in
       let z = get_or r.channels c [] in
       let ps = parts_of cut c in

@@ -1,9 +1,9 @@
--- Least bridges make a master than which none costs less.
+-- Least bridges make a master that costs least.
 use Rattle.std.proofs.Common.{◌≡◌, ℕ, zero, suc, ◌+◌, ◌-◌, ◌<◌, ◌≤◌, Bool, List, [], ◌∷◌, length, get_or, sum_by, arith}
 use Rattle.std.specs.List.{AllZip, range_with_len}
 use Rattle.std.proofs.lemmas.List.Sums.{sum_by-cons}
 use Rattle.cost_core.specs.Channels.{AreLeast, HaveLengths, LeastTogether, Part}
-use Rattle.cut_core.specs.Cuts.{CutContent, channel_number, cue_bits}
+use Rattle.cut_core.specs.Cuts.{CutContent, cue_bits, take_channels}
 use Rattle.cut_core.specs.Keeping.{CanCut}
 use Rattle.cut_core.proofs.ZipLaws.{zip_number}
 use Rattle.judge_core.specs.Masters.{AreLeastChannels, CostLeast, IsLeastChannel, IsLeastPart, IsMasterChannel, cost_of, parts_of, total_cost}
@@ -25,7 +25,7 @@ sums_at_most f g a (suc n) h =
     omega (arith, sum_by-cons f a (range_with_len (a + 1) n), sum_by-cons g a (range_with_len (a + 1) n), h a (omega arith) (omega arith), rest)
 
 module _ (cut : CutContent) (can : CanCut cut) (together : LeastTogether) where
-  channel_least : (c : ℕ) → c < channel_number cut → (z y : List Bool) → IsLeastChannel cut c z → IsMasterChannel cut c y → cost_of cut c z ≤ cost_of cut c y
+  channel_least : (c : ℕ) → c < take_channels cut → (z y : List Bool) → IsLeastChannel cut c z → IsMasterChannel cut c y → cost_of cut c z ≤ cost_of cut c y
   channel_least c there z y own other =
       let parts = least_parts (parts_of cut c) own.bridges own.least in
       let are = joined cut can c there (length cut.splice.cues - 1) 0 (omega (arith, can.splicing.some_cues)) in
@@ -37,8 +37,8 @@ module _ (cut : CutContent) (can : CanCut cut) (together : LeastTogether) where
     least = λ others made. omega (
       arith,
       is,
-      sums_at_most (λ c. cost_of cut c (get_or zs c [])) (λ c. cost_of cut c (get_or others c [])) 0 (channel_number cut) (λ c ge lt.
-          let there : c < channel_number cut = omega arith in
-          channel_least c there (get_or zs c []) (get_or others c []) (zip_number (IsLeastChannel cut) (channel_number cut) zs c [] least there) (zip_number (IsMasterChannel cut) (channel_number cut) others c [] made there)),
+      sums_at_most (λ c. cost_of cut c (get_or zs c [])) (λ c. cost_of cut c (get_or others c [])) 0 (take_channels cut) (λ c ge lt.
+          let there : c < take_channels cut = omega arith in
+          channel_least c there (get_or zs c []) (get_or others c []) (zip_number (IsLeastChannel cut) (take_channels cut) zs c [] least there) (zip_number (IsMasterChannel cut) (take_channels cut) others c [] made there)),
     );
   }

@@ -4,7 +4,7 @@ use Rattle.std.proofs.Math.Bool.{beq}
 use Rattle.std.proofs.lemmas.Bool.{cases_lt}
 use Rattle.std.proofs.lemmas.List.{get_or-append_right, get_or_append_left, length-append}
 use Rattle.std.proofs.lemmas.List.Sums.{sum_by_more}
-use Rattle.cut_core.specs.Cuts.{CutContent, channel_number, cue_at, cue_bits, span}
+use Rattle.cut_core.specs.Cuts.{CutContent, cue_at, cue_bits, span, take_channels}
 use Rattle.cut_core.specs.Keeping.{CanCut}
 use Rattle.judge_core.specs.Comparing.{FindsFirst, IsFirst, IsOffAt, IsOffCue, IsOffPart, FindsOff, cue_start}
 use Rattle.judge_core.proofs.ChannelLaws.{cue_long}
@@ -21,13 +21,13 @@ rises cut (suc k) j lt =
     let same : j + 1 + suc k ≡ j + 1 + k + 1 = omega arith in
     omega (arith, sums, ap (cue_start cut) same, rises cut k j (omega (arith, lt)))
 
-ends_before : (cut : CutContent) → CanCut cut → (c j i : ℕ) → c < channel_number cut → j < i → i < length cut.splice.cues → cue_start cut j + length (cue_bits cut c j) ≤ cue_start cut i
+ends_before : (cut : CutContent) → CanCut cut → (c j i : ℕ) → c < take_channels cut → j < i → i < length cut.splice.cues → cue_start cut j + length (cue_bits cut c j) ≤ cue_start cut i
 ends_before cut can c j i there lt inside =
     let same : j + 1 + (i - (j + 1)) ≡ i = omega (arith, lt) in
     omega (arith, cue_long cut can c there j (omega (arith, lt, inside)), rises cut (i - (j + 1)) j (omega (arith, lt, inside)), ap (cue_start cut) same)
 
 -- the first in a cue, where there is none in the cues before it, is the first
-pub first_of_all : (cut : CutContent) → CanCut cut → (c done : ℕ) (part : List Bool) (k place : ℕ) → c < channel_number cut → k < length cut.splice.cues → ((i : ℕ) → i < k → (p : ℕ) → IsOffAt cut c i done part p → ⊥)
+pub first_of_all : (cut : CutContent) → CanCut cut → (c done : ℕ) (part : List Bool) (k place : ℕ) → c < take_channels cut → k < length cut.splice.cues → ((i : ℕ) → i < k → (p : ℕ) → IsOffAt cut c i done part p → ⊥)
     → IsFirst (IsOffAt cut c k done part) place → IsFirst (IsOffPart cut c done part) place
 first_of_all cut can c done part k place there lt none first = record {
   here = (k, lt, first.here);
@@ -40,7 +40,7 @@ first_of_all cut can c done part k place there lt none first = record {
   ];
 }
 
--- where a part of a channel has the bits of a cue from a place on, there is none before the place behind them
+-- if a part of a channel has the bits of a cue from a place on, no bit before the place after them differs
 pub none_alike : (cut : CutContent) (c i done : ℕ) (part bits : List Bool) (start stop from alike : ℕ) → slice_range bits start stop ≡ cue_bits cut c i → from ≡ max (cue_start cut i) done → from - cue_start cut i + alike ≤ stop - start
     → ((k : ℕ) → k < alike → get_or part (from - done + k) false ≡ get_or bits (start + (from - cue_start cut i) + k) false) → (p : ℕ) → p < from + alike → IsOffAt cut c i done part p → ⊥
 none_alike cut c i done part bits start stop from alike is first few same p lt off =
@@ -78,7 +78,7 @@ module _ (cut : CutContent) (c i done : ℕ) (part bits : List Bool) (start stop
         )
   ]
 
--- ---- a part more
+-- ---- one part more
 module _ (cut : CutContent) (c : ℕ) (before part : List Bool) where
   long : length (before ++ part) ≡ length before + length part
   long = length-append before part
@@ -110,12 +110,12 @@ module _ (cut : CutContent) (c : ℕ) (before part : List Bool) where
   pub next_first : FindsOff cut c before None → (found : Option ℕ) → FindsFirst (IsOffPart cut c (length before) part) found → FindsOff cut c (before ++ part) found
   next_first none None h = λ p off. elim (cases_lt p (length before)) [
     | inl below ↦ none p (below, back p below off.1)
-    | inr behind ↦ h p (part_back p behind off.0 off.1)
+    | inr after ↦ h p (part_back p after off.0 off.1)
   ]
   next_first none (Some place) h = record {
     here = part_on place h.here;
     before = λ earlier sooner off. elim (cases_lt earlier (length before)) [
       | inl below ↦ none earlier (below, back earlier below off.1)
-      | inr behind ↦ h.before earlier sooner (part_back earlier behind off.0 off.1)
+      | inr after ↦ h.before earlier sooner (part_back earlier after off.0 off.1)
     ];
   }

@@ -50,7 +50,7 @@ slice_all xs =
     let l = length-slice xs 0 (length xs) in
     ext_get_or false _ _ (omega (arith, l)) (λ i lt. (let inside : i < length xs - 0 = omega (arith, l) in let e : 0 + i ≡ i = omega arith in slice_at xs 0 (length xs) i inside ∙ ap (λ m. get_or xs m false) e))
 
--- a front, and what stands behind it
+-- a prefix, and what follows it
 pub slice_join : (xs : List Bool) (s t : ℕ) → s ≤ t → slice_range xs 0 t ≡ slice_range xs 0 s ++ slice_range xs s t
 slice_join xs s t order =
     let all : t - 0 ≡ s - 0 + (t - s) = omega (arith, order) in

@@ -8,9 +8,9 @@ use Rattle.dsd_bits.proofs.PackingLemmas.{length-slice_range}
 use Rattle.cost_core.specs.Bridges.{bridge_cost}
 use Rattle.cost_core.specs.Channels.{HaveLengths, Part, PlacesAreWindows, channel_cost, unless_cut, windows_cost}
 use Rattle.cut_core.specs.Bridges.{bridges, places_after}
-use Rattle.cut_core.specs.Cuts.{CutContent, channel_number, cue_at, cue_bits, master_length, span}
+use Rattle.cut_core.specs.Cuts.{CutContent, cue_at, cue_bits, master_length, span, take_channels}
 use Rattle.cut_core.specs.Keeping.{CanCut}
-use Rattle.cut_core.proofs.BridgeLaws.{behind_none, behind_some, place_of}
+use Rattle.cut_core.proofs.BridgeLaws.{after_none, after_some, place_of}
 use Rattle.cut_core.proofs.ZipLaws.{zip_number}
 use Rattle.judge_core.specs.Checking.{HaveShape, HoldCues, rebuilt}
 use Rattle.judge_core.specs.Claims.{bridge_bits, bridge_start, claim_at, claim_cost, windows_total}
@@ -74,19 +74,19 @@ module _ (cut : CutContent) (zs : List (List Bool)) where
   abbrev last : ℕ
   last = length cut.splice.cues - 1
 
-  -- what the bridge behind a cue costs in a channel
+  -- what the bridge after a cue costs in a channel
   abbrev at : ℕ → ℕ → ℕ
   at c i = unless_cut (part_at cut c i).bridging (bridge_cost (part_at cut c i).bridging (bridge_bits cut (get_or zs c []) i))
 
-  behind_sum : CanCut cut → (i : ℕ) → i < last → sum_by (λ p. claim_cost (claim_at cut zs p)) (places_after cut i) ≡ sum_by (λ c. at c i) (channel_numbers cut)
-  behind_sum can i lt = elim (cases_lt 0 (cue_at cut i).bridge) [
+  after_sum : CanCut cut → (i : ℕ) → i < last → sum_by (λ p. claim_cost (claim_at cut zs p)) (places_after cut i) ≡ sum_by (λ c. at c i) (channel_numbers cut)
+  after_sum can i lt = elim (cases_lt 0 (cue_at cut i).bridge) [
     | inl some ↦ (
         let ne : (cue_at cut i).bridge ≡ 0 → ⊥ = λ e. omega arith in
-        rw (behind_some cut i ne) (map_sum (λ p. claim_cost (claim_at cut zs p)) (place_of i) (channel_numbers cut) ∙ same_sums (λ c. claim_cost (claim_at cut zs (place_of i c))) (λ c. at c i) 0 (channel_number cut) (λ c ge there. dear_bridge (part_at cut c i).bridging.levels _ (λ e. ne (omega (arith, e, (can.windowed c i (omega arith) (omega arith)).levels)))))
+        rw (after_some cut i ne) (map_sum (λ p. claim_cost (claim_at cut zs p)) (place_of i) (channel_numbers cut) ∙ same_sums (λ c. claim_cost (claim_at cut zs (place_of i c))) (λ c. at c i) 0 (take_channels cut) (λ c ge there. dear_bridge (part_at cut c i).bridging.levels _ (λ e. ne (omega (arith, e, (can.windowed c i (omega arith) (omega arith)).levels)))))
         )
     | inr none ↦ (
         let e : (cue_at cut i).bridge ≡ 0 = omega arith in
-        rw (behind_none cut i e) (sym (zero_sum (channel_numbers cut)) ∙ same_sums (λ c. 0) (λ c. at c i) 0 (channel_number cut) (λ c ge there. free_cut (part_at cut c i).bridging.levels _ ((can.windowed c i (omega arith) (omega arith)).levels ∙ e)))
+        rw (after_none cut i e) (sym (zero_sum (channel_numbers cut)) ∙ same_sums (λ c. 0) (λ c. at c i) 0 (take_channels cut) (λ c ge there. free_cut (part_at cut c i).bridging.levels _ ((can.windowed c i (omega arith) (omega arith)).levels ∙ e)))
         )
   ]
 
@@ -94,10 +94,10 @@ module _ (cut : CutContent) (zs : List (List Bool)) where
   by_places can =
       map_sum claim_cost (claim_at cut zs) (bridges cut)
       ∙ flat_sum (λ p. claim_cost (claim_at cut zs p)) (places_after cut) (range_with_len 0 last)
-      ∙ same_sums (λ i. sum_by (λ p. claim_cost (claim_at cut zs p)) (places_after cut i)) (λ i. sum_by (λ c. at c i) (channel_numbers cut)) 0 last (λ i ge lt. behind_sum can i (omega arith))
+      ∙ same_sums (λ i. sum_by (λ p. claim_cost (claim_at cut zs p)) (places_after cut i)) (λ i. sum_by (λ c. at c i) (channel_numbers cut)) 0 last (λ i ge lt. after_sum can i (omega arith))
       ∙ exchange (λ i c. at c i) (range_with_len 0 last) (channel_numbers cut)
 
-  -- the bits that stand for a bridge are as many as it has
+  -- a bridge has as many bits as it says
   pub own_long : HaveShape cut zs → (c i : ℕ) → c < length zs → i + 1 < length cut.splice.cues → length (bridge_bits cut (get_or zs c []) i) ≡ (cue_at cut i).bridge
   own_long shape c i there lt =
       let start = bridge_start cut i in
@@ -107,21 +107,21 @@ module _ (cut : CutContent) (zs : List (List Bool)) where
       let one : length (bridge_bits cut z i) ≡ start + (cue_at cut i).bridge - start = length-slice_range z start (start + (cue_at cut i).bridge) (omega arith) in
       omega arith
 
-  pub own_lengths : CanCut cut → HaveShape cut zs → (c : ℕ) → c < channel_number cut → HaveLengths (parts_of cut c) (map (bridge_bits cut (get_or zs c [])) (range_with_len 0 last))
+  pub own_lengths : CanCut cut → HaveShape cut zs → (c : ℕ) → c < take_channels cut → HaveLengths (parts_of cut c) (map (bridge_bits cut (get_or zs c [])) (range_with_len 0 last))
   own_lengths can shape c there =
       have_lengths (part_at cut c) (bridge_bits cut (get_or zs c [])) 0 last (λ i ge lt. own_long shape c i (omega (arith, shape.as_many, there)) (omega arith) ∙ sym (can.windowed c i there (omega arith)).levels)
 
   module _ (can : CanCut cut) (shape : HaveShape cut zs) (held : HoldCues cut (channel_numbers cut) zs) (places : PlacesAreWindows) where
-    row : (c : ℕ) → c < channel_number cut → sum_by (at c) (range_with_len 0 last) ≡ cost_of cut c (get_or zs c [])
+    row : (c : ℕ) → c < take_channels cut → sum_by (at c) (range_with_len 0 last) ≡ cost_of cut c (get_or zs c [])
     row c there =
         let z = get_or zs c [] in
         let cue = cue_bits cut c 0 in
         let ps = parts_of cut c in
         let own = map (bridge_bits cut z) (range_with_len 0 last) in
         let some = can.splicing.some_cues in
-        let holds : z ≡ rebuilt cut c z = zip_number (λ k y. y ≡ rebuilt cut k y) (channel_number cut) zs c [] held there in
+        let holds : z ≡ rebuilt cut c z = zip_number (λ k y. y ≡ rebuilt cut k y) (take_channels cut) zs c [] held there in
         sym (ap (λ l. channel_cost l (length cue) ps) holds ∙ places cue ps own (joined cut can c there last 0 (omega arith)) (own_lengths can shape c there) ∙ windows_sum (part_at cut c) (bridge_bits cut z) 0 last)
 
     -- the sum over all bridges is that over all channels
     pub windows_are_total : windows_total cut zs ≡ total_cost cut zs
-    windows_are_total = by_places can ∙ same_sums (λ c. sum_by (at c) (range_with_len 0 last)) (λ c. cost_of cut c (get_or zs c [])) 0 (channel_number cut) (λ c ge lt. row c (omega arith))
+    windows_are_total = by_places can ∙ same_sums (λ c. sum_by (at c) (range_with_len 0 last)) (λ c. cost_of cut c (get_or zs c [])) 0 (take_channels cut) (λ c ge lt. row c (omega arith))

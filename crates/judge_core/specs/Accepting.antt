@@ -63,7 +63,8 @@ pub record CostsLeast (project : List ℕ) (files : List (List ℕ)) (file : Lis
   pub made : AreMasterChannels cut recording.channels
   pub least : CostLeast cut recording.channels cost
 
--- the sum over all bridges of a master, by rising cue and then by rising channel, of what its bits there cost over their windows
+-- the sum over all bridges of a master, by rising cue and then by rising channel, of what its bits there cost over
+-- their windows
 pub record CostsWindows (project : List ℕ) (files : List (List ℕ)) (file : List ℕ) (cost : ℕ) : Type 0 where
   pub cut : CutContent
   pub says : SaysCut project files None cut
@@ -81,16 +82,16 @@ pub record RejectsFirst (project : List ℕ) (files : List (List ℕ)) (master c
       ⊎ ((form : Form) × (r : Content) × HoldsAs master form r × IsFirstAgainst cut form r cert reason)
 
 -- P holds of the cost, if the master was accepted
-abbrev pub IfAccepted : Result Verdict Fault → (ℕ → Type 0) → Type 0
-IfAccepted (Ok (Accepted cost)) P = P cost
-IfAccepted (Ok (Rejected reason)) P = Unit {0}
-IfAccepted (Err fault) P = Unit {0}
+abbrev pub IfMasterAccepted : Result Verdict Fault → (ℕ → Type 0) → Type 0
+IfMasterAccepted (Ok (Accepted cost)) P = P cost
+IfMasterAccepted (Ok (Rejected reason)) P = Unit {0}
+IfMasterAccepted (Err fault) P = Unit {0}
 
 -- P holds of the reason, if it was rejected
-abbrev pub IfRejected : Result Verdict Fault → (Reason → Type 0) → Type 0
-IfRejected (Ok (Accepted cost)) P = Unit {0}
-IfRejected (Ok (Rejected reason)) P = P reason
-IfRejected (Err fault) P = Unit {0}
+abbrev pub IfMasterRejected : Result Verdict Fault → (Reason → Type 0) → Type 0
+IfMasterRejected (Ok (Accepted cost)) P = Unit {0}
+IfMasterRejected (Ok (Rejected reason)) P = P reason
+IfMasterRejected (Err fault) P = Unit {0}
 
 -- it was accepted at this cost
 abbrev pub IsAcceptedAt : ℕ → Verdict → Type 0

@@ -6,11 +6,11 @@ use Rattle.dsd_bits.specs.declared.sound.Sound.{Sound}
 use Rattle.dsd_bits.specs.declared.stretches.BitRange.{BitRange}
 use Rattle.dsd_bits.specs.Sounds.{sound_channels}
 use Rattle.form_core.specs.declared.form.Form.{Form}
-use Rattle.cut_core.specs.Cuts.{CutContent, channel_number, cue_at, master_length}
+use Rattle.cut_core.specs.Cuts.{CutContent, cue_at, master_length, take_channels}
 use Rattle.judge_core.specs.declared.finding.Found.{Found}
 use Rattle.judge_core.specs.Claims.{bridge_start}
 use Rattle.judge_core.specs.Comparing.{FindsOff}
-use Rattle.judge_core.specs.Standing.{IsFoundOf, FindAllOff}
+use Rattle.judge_core.specs.Kept.{IsFoundOf, FindAllOff}
 use Rattle.sound_core.specs.Keepers.{Keeps}
 use Rattle.sound_core.specs.Outlines.{AreStated, IsPlacedIn, around_of, with_sound}
 use Rattle.sound_core.specs.Reads.{Reads}
@@ -29,27 +29,27 @@ bridge_ranges cut = map (bridge_range cut) (range_with_len 0 (length cut.splice.
 -- ---- a sound that is read
 -- a sound has as many channels as the master, and each as many bits
 pub record HasMeasure (cut : CutContent) (s : Sound) : Type 0 where
-  pub number : s.channels ≡ channel_number cut
+  pub number : s.channels ≡ take_channels cut
   pub long : s.count ≡ master_length cut.splice.cues
 
 -- these are parts of a master's channels, which follow `done` bits
 pub record AreParts (cut : CutContent) (done : ℕ) (parts : List (List Bool)) : Type 0 where
-  pub number : length parts ≡ channel_number cut
-  pub inside : (c : ℕ) → c < channel_number cut → done + length (slice_index_or parts c []) ≤ master_length cut.splice.cues
+  pub number : length parts ≡ take_channels cut
+  pub inside : (c : ℕ) → c < take_channels cut → done + length (slice_index_or parts c []) ≤ master_length cut.splice.cues
 
 -- if the old list has for each channel the first bit that isn't that of the cue there, the new list has it for the
 -- channels with these parts added
 pub record FindMoreOff (cut : CutContent) (done : ℕ) (parts : List (List Bool)) (old new : List (Option ℕ)) : Type 0 where
   pub number : length new ≡ length old
-  pub tells : (c : ℕ) → c < channel_number cut → (before : List Bool) → length before ≡ done → FindsOff cut c before (slice_index_or old c None) → FindsOff cut c (before ++ slice_index_or parts c []) (slice_index_or new c None)
+  pub states : (c : ℕ) → c < take_channels cut → (before : List Bool) → length before ≡ done → FindsOff cut c before (slice_index_or old c None) → FindsOff cut c (before ++ slice_index_or parts c []) (slice_index_or new c None)
 
 -- after these bytes of a sound, which are whole groups of blocks or all of it: the stretches of their channels, and if
 -- the sound has as many channels and bits as the master, for each channel the first bit that isn't that of the cue
 -- there
 pub record Audits (cut : CutContent) (s : Sound) (ranges : List BitRange) (done : ℕ) (stretches : List (List (List Bool))) (firsts : List (Option ℕ)) (bytes : List ℕ) : Type 0 where
   pub keeps : Keeps s ranges done stretches bytes
-  pub number : length firsts ≡ channel_number cut
-  pub tells : HasMeasure cut s → FindAllOff cut (sound_channels s.interleaving s.channels done bytes) firsts
+  pub number : length firsts ≡ take_channels cut
+  pub states : HasMeasure cut s → FindAllOff cut (sound_channels s.interleaving s.channels done bytes) firsts
 
 -- the auditor's cut and ranges are those of the first one, and it holds what these bytes give
 pub record IsAuditing (first a : Auditor) (s : Sound) (done : ℕ) (bytes : List ℕ) : Type 0 where

@@ -12,7 +12,7 @@ use Rattle.cert_core.specs.Reasons.{FirstReason, HeadReason}
 use Rattle.cert_core.specs.Text.{cert_head}
 use Rattle.cert_core.specs.declared.version.Version.{Version}
 use Rattle.cert_core.specs.declared.verdict.CertReason.{CertReason}
-use Rattle.cut_core.specs.Cuts.{AreAlike, CutContent, channel_number, master_length}
+use Rattle.cut_core.specs.Cuts.{AreAlike, CutContent, master_length, take_channels}
 use Rattle.cut_core.specs.Titles.{titles_of}
 use Rattle.judge_core.specs.declared.verdict.Reason.{Reason}
 use Rattle.judge_core.specs.declared.verdict.Reason.TheVariants.{MasterShape, MasterLength, MasterMarks, CuedBit, CertHead, Cert, CertExtra}
@@ -21,7 +21,7 @@ use Rattle.judge_core.specs.Masters.{channel_numbers, master_channel}
 
 -- there are as many channels as a master has, and each is as long
 pub record HaveShape (cut : CutContent) (zs : List (List Bool)) : Type 0 where
-  pub as_many : length zs ≡ channel_number cut
+  pub as_many : length zs ≡ take_channels cut
   pub long : All (λ z. length z ≡ master_length cut.splice.cues) zs
 
 -- a DSDIFF master has the marks of the titles
@@ -101,7 +101,8 @@ MasterReason cut form r (CuedBit c place) =
     AreAlike cut.first r × (count_of r.channels ≡ master_length cut.splice.cues) × IsTitled cut form r × IsFirstCuedBit cut r c place
 MasterReason cut form r _ = ⊥
 
--- a certificate doesn't show a master's bridges to be least for this reason, and for none before it in the order: head, entries, end
+-- a certificate doesn't show a master's bridges to be least for this reason, and for none before it in the order: head,
+-- entries, end
 abbrev pub CertReasons : CutContent → List (List Bool) → List ℕ → Reason → Type 0
 CertReasons cut zs cert (CertHead reason) = HeadReason (length cut.splice.weights) (length (claims cut zs)) cert reason
 CertReasons cut zs cert (Cert k reason) = IsFirstWrong cut zs cert k reason

@@ -12,7 +12,7 @@ use Rattle.cut_core.specs.Excerpts.{AreExcerpts}
 use Rattle.cut_core.specs.Opening.{AreRead, OpensCut, cut_of}
 use Rattle.transfer_core.specs.declared.fault.Fault.{Fault}
 use Rattle.transfer_core.specs.Faults.{fault_of_cut}
-use Rattle.transfer_core.specs.Projects.{SaysSplice, splice_of}
+use Rattle.transfer_core.specs.Projects.{SaysSplice, splice_of_text}
 
 -- the project's text describes a splice, and the files hold takes that it can be cut from, into a file of the form if
 -- one is given
@@ -31,7 +31,7 @@ pub record AreTakes (project : List ℕ) (files : List (List ℕ)) (splice : Spl
 -- the cut of a project and files, or the first fault: project, its splice, the cut
 unfoldable pub said_cut : List ℕ → List (List ℕ) → Option Form → Result CutContent Fault
 said_cut project files form = do
-  splice ← splice_of project
+  splice ← splice_of_text project
   map_err fault_of_cut (cut_of splice files form)
 
 -- a fault of a cut

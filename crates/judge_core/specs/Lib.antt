@@ -8,4 +8,4 @@ pub mod Finding
 pub mod Judging
 pub mod Laws
 pub mod Masters
-pub mod Standing
+pub mod Kept

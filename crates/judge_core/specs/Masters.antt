@@ -3,7 +3,7 @@ use Rattle.std.specs.Prelude.{◌≡◌, ℕ, ◌+◌, ◌-◌, ◌≤◌, Bool,
 use Rattle.std.specs.List.{AllZip, range_with_len, sum_by}
 use Rattle.cost_core.specs.Bridges.{IsLeastBridge}
 use Rattle.cost_core.specs.Channels.{HaveLengths, Part, channel, channel_cost}
-use Rattle.cut_core.specs.Cuts.{CutContent, channel_number, cue_bits, window}
+use Rattle.cut_core.specs.Cuts.{CutContent, cue_bits, take_channels, window}
 
 -- the bridge after cue i in channel c, and the next cue
 abbrev pub part_at : CutContent → ℕ → ℕ → Part
@@ -35,7 +35,7 @@ pub record IsLeastChannel (cut : CutContent) (c : ℕ) (z : List Bool) : Type 0 
 
 -- the numbers of the channels
 abbrev pub channel_numbers : CutContent → List ℕ
-channel_numbers cut = range_with_len 0 (channel_number cut)
+channel_numbers cut = range_with_len 0 (take_channels cut)
 
 -- there are as many channels as the takes have, and each is the cues and some bridges
 abbrev pub AreMasterChannels : CutContent → List (List Bool) → Type 0

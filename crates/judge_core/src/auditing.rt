@@ -1,9 +1,10 @@
 //! The file of a master, read once.
 
 ghost use Rattle.std.specs.Prelude.{◌≡◌, ◌+◌, ◌-◌, ◌<◌, ◌≤◌, ◌^◌, IfErr, IfOk, IsErrOf};
-ghost use Rattle.chunk_core.specs.Inlets.{inlet_failures, inlet_given, inlet_reader, inlet_reads};
+ghost use Rattle.chunk_core.specs.Inlets.{inlet_failures, inlet_reader, inlet_reads};
 ghost use Rattle.sound_core.specs.Faults.{failed_reads};
 ghost use Rattle.sound_core.specs.Outlines.{IsOutlineFault};
+ghost use Rattle.sound_core.specs.Readers.{RunsOut};
 ghost use Rattle.judge_core.specs.Auditing.{AuditsFile, AuditsGiven};
 
 use crate::auditor::Auditor;
@@ -33,18 +34,13 @@ pub(crate) struct Audited {
 /// verdict by the cut needs: the first bit that isn't that of the cue there, and the bits of the bridges. Besides
 /// these, at most three blocks of 65,536 bytes of the sound are held at a time, and the channels of one.
 ///
-/// At entry the inlet must have counted fewer than `2^63` reads and bytes.
-///
 /// Refusals: `FileRefused` if the bytes are neither a DSDIFF nor a DSF file that holds a recording; `ReadFailed`;
-/// `TurnLimit` after `2^40` reads (there are never more, whatever is returned); `Memory`.
+/// `TurnLimit` as for `read_outline` (there are never more than `2^40` reads, whatever is returned); `Memory`.
 pub(crate) fn audit<R: Read>(
     alloc: Global,
     cut: &Cut,
     inlet: &mut Inlet<R>,
 ) -> Result<Audited, StreamFault>
-    requires inlet_ready { inlet_failures inlet.old < 2 ^ 64 - 1 }
-    requires reads_low { inlet_reads inlet.old < 2 ^ 63 }
-    requires given_low { inlet_given inlet.old < 2 ^ 63 }
     // The reader's file is the outline with some sound, and this was found in the recording that it holds.
     ensures ok { IfOk result (AuditsFile (R.remaining (inlet_reader inlet.old)) cut.now) }
     // The same of the bytes that were read, if the reader's bytes aren't known.
@@ -53,7 +49,7 @@ pub(crate) fn audit<R: Read>(
     ensures read_failed { inlet_failures inlet.new ≡ inlet_failures inlet.old + failed_reads result }
     // Whatever is returned, there were at most 2^40 reads.
     ensures reads { inlet_reads inlet.new ≤ inlet_reads inlet.old + 2 ^ 40 }
-    ensures turn_limit { IsErrOf result StreamFault.TurnLimit → inlet_reads inlet.new ≡ inlet_reads inlet.old + 2 ^ 40 }
+    ensures turn_limit { IsErrOf result StreamFault.TurnLimit → RunsOut inlet.old inlet.new }
 {
     let ranges = bridge_ranges(alloc, cut)?;
     let mut auditor = Auditor::new(alloc, cut, &ranges);

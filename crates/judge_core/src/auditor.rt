@@ -1,7 +1,7 @@
 //! The sound of a master, compared with the cues while it is read.
 
 ghost use Rattle.std.specs.Prelude.{◌≡◌, IfOk, false, length, replicate, true};
-ghost use Rattle.cut_core.specs.Cuts.{channel_number};
+ghost use Rattle.cut_core.specs.Cuts.{take_channels};
 ghost use Rattle.judge_core.specs.Auditing.{AreParts, HasMeasure, FindMoreOff};
 
 use crate::cueing::first_off_so_far;
@@ -85,7 +85,7 @@ fn no_firsts(alloc: Global, channels: usize) -> Result<Vec<Option<usize>>, Alloc
 // Records for each channel the first place whose bit isn't that of the cue there, after these parts of them came. The
 // parts follow `done` bits.
 fn note_firsts(firsts: &mut [Option<usize>], cut: &Cut, done: usize, parts: &[Bits])
-    requires number { length firsts.old ≡ channel_number cut.now }
+    requires number { length firsts.old ≡ take_channels cut.now }
     requires parts { AreParts cut.now done parts.now }
     ensures { FindMoreOff cut.now done parts.now firsts.old firsts.new }
 {

@@ -4,8 +4,8 @@ ghost use Rattle.std.specs.Prelude.{◌≡◌, ◌+◌, ◌-◌, ◌^◌, ◌<�
 ghost use Rattle.cert_core.specs.Readers.{cert_inlet};
 ghost use Rattle.cut_core.specs.Opening.{file_bytes};
 ghost use Rattle.chunk_core.specs.Inlets.{inlet_failures, inlet_reader};
-ghost use Rattle.form_core.specs.Steps.{Fails};
-ghost use Rattle.judge_core.specs.Accepting.{Accepts, AnswersAccepted, CostsLeast, CostsWindows, IfAccepted, IfRejected, IsLeastMaster, IsMaster, ReadsAccepted, RejectsFirst, fault_of_check};
+ghost use Rattle.form_core.specs.Steps.{FailsUnless};
+ghost use Rattle.judge_core.specs.Accepting.{Accepts, AnswersAccepted, CostsLeast, CostsWindows, IfMasterAccepted, IfMasterRejected, IsLeastMaster, IsMaster, ReadsAccepted, RejectsFirst, fault_of_check};
 ghost use Rattle.judge_core.specs.Cutting.{SaysCut, said_cut};
 ghost use Rattle.judge_core.specs.Finding.{IsFoundHeld, IsFoundIn, IsFoundInSome};
 ghost use Rattle.sound_core.specs.Faults.{failed_reads};
@@ -42,21 +42,21 @@ pub fn check(
     cert: &[u8],
 ) -> Result<Verdict, Fault>
     // What is accepted is a master with a certificate of its own bits.
-    ensures found { IfAccepted result (Accepts project.now (file_bytes takes.now) master.now cert.now) }
+    ensures found { IfMasterAccepted result (Accepts project.now (file_bytes takes.now) master.now cert.now) }
     // It is a master of the project and the takes, and each of its bridges is least.
-    ensures master { IfAccepted result (λ _. IsMaster project.now (file_bytes takes.now) master.now) }
-    ensures least { IfAccepted result (λ _. IsLeastMaster project.now (file_bytes takes.now) master.now) }
+    ensures master { IfMasterAccepted result (λ _. IsMaster project.now (file_bytes takes.now) master.now) }
+    ensures least { IfMasterAccepted result (λ _. IsLeastMaster project.now (file_bytes takes.now) master.now) }
     // No master of the project and the takes costs less than the reported total.
-    ensures joint { IfAccepted result (CostsLeast project.now (file_bytes takes.now) master.now) }
+    ensures joint { IfMasterAccepted result (CostsLeast project.now (file_bytes takes.now) master.now) }
     // The reported total is the sum over all bridges of what their bits cost over their windows.
-    ensures windows { IfAccepted result (CostsWindows project.now (file_bytes takes.now) master.now) }
+    ensures windows { IfMasterAccepted result (CostsWindows project.now (file_bytes takes.now) master.now) }
     // Such a master and certificate are accepted, unless memory runs out.
     ensures only { (cost : ℕ) → Accepts project.now (file_bytes takes.now) master.now cert.now cost
         → AnswersAccepted result cost }
     // Which reason it is: the first that applies.
-    ensures rejected { IfRejected result (RejectsFirst project.now (file_bytes takes.now) master.now cert.now) }
+    ensures rejected { IfMasterRejected result (RejectsFirst project.now (file_bytes takes.now) master.now cert.now) }
     // Which fault it is: the first of the project, its splice and its cut.
-    ensures refused { IfErr result (λ fault. Fails Fault.Memory fault
+    ensures refused { IfErr result (λ fault. FailsUnless Fault.Memory fault
         (said_cut project.now (file_bytes takes.now) None)) }
 {
     let cut = cut_files(alloc, project, takes, None)?;
@@ -88,18 +88,18 @@ pub fn check_found<R: Read>(
     // reader it was.
     ensures found { (project : List ℕ) (files : List (List ℕ)) (master : List ℕ)
         → IsFoundIn project files cut.now found.now master
-        → IfAccepted result (λ cost. IfSome (R.remaining (inlet_reader (cert_inlet cert.old)))
+        → IfMasterAccepted result (λ cost. IfSome (R.remaining (inlet_reader (cert_inlet cert.old)))
         (λ bytes. Accepts project files master bytes cost)) }
     ensures master { (project : List ℕ) (files : List (List ℕ)) (master : List ℕ)
-        → IsFoundIn project files cut.now found.now master → IfAccepted result (λ _. IsMaster project files master) }
+        → IsFoundIn project files cut.now found.now master → IfMasterAccepted result (λ _. IsMaster project files master) }
     ensures least { (project : List ℕ) (files : List (List ℕ)) (master : List ℕ)
         → IsFoundIn project files cut.now found.now master
-        → IfAccepted result (λ _. IsLeastMaster project files master) }
+        → IfMasterAccepted result (λ _. IsLeastMaster project files master) }
     ensures joint { (project : List ℕ) (files : List (List ℕ)) (master : List ℕ)
-        → IsFoundIn project files cut.now found.now master → IfAccepted result (CostsLeast project files master) }
+        → IsFoundIn project files cut.now found.now master → IfMasterAccepted result (CostsLeast project files master) }
     ensures windows { (project : List ℕ) (files : List (List ℕ)) (master : List ℕ)
         → IsFoundIn project files cut.now found.now master
-        → IfAccepted result (λ cost. IfSome (R.remaining (inlet_reader (cert_inlet cert.old)))
+        → IfMasterAccepted result (λ cost. IfSome (R.remaining (inlet_reader (cert_inlet cert.old)))
         (λ _. CostsWindows project files master cost)) }
     ensures only { (project : List ℕ) (files : List (List ℕ)) (master : List ℕ)
         → SaysCut project files None cut.now → IsFoundHeld cut.now master found.now → (cost : ℕ)
@@ -107,7 +107,7 @@ pub fn check_found<R: Read>(
         → ReadsAccepted result cost) }
     ensures rejected { (project : List ℕ) (files : List (List ℕ)) (master : List ℕ)
         → SaysCut project files None cut.now → IsFoundHeld cut.now master found.now
-        → IfRejected result (λ reason. IfSome (R.remaining (inlet_reader (cert_inlet cert.old)))
+        → IfMasterRejected result (λ reason. IfSome (R.remaining (inlet_reader (cert_inlet cert.old)))
         (λ bytes. RejectsFirst project files master bytes reason)) }
     ensures refused { IfErr result (λ fault. (fault ≡ Fault.Stream StreamFault.ReadFailed) ⊎ (fault ≡ Fault.Memory)) }
     // `ReadFailed` is returned exactly if a read failed.

@@ -2,7 +2,7 @@
 
 ghost use Rattle.std.specs.Prelude.{◌≡◌, ◌+◌, ◌-◌, ◌*◌, ◌^◌, ◌<◌, ◌≤◌, ◌++◌, Bool, List, false, length, slice_index_or, slice_range, ℕ};
 ghost use Rattle.dsd_bits.specs.Shifting as bits;
-ghost use Rattle.cut_core.specs.Cuts.{channel_number, master_length};
+ghost use Rattle.cut_core.specs.Cuts.{master_length, take_channels};
 ghost use Rattle.judge_core.specs.Comparing.{FindsFirst, IsOffAt, IsOffPart, FindsOff, cue_start};
 
 use cut_core::{BridgePlace, CuedBits, Cut};
@@ -17,7 +17,7 @@ pub(crate) fn first_off_so_far(
     part: &Bits,
     first: Option<usize>,
 ) -> Option<usize>
-    requires channel { channel < channel_number cut.now }
+    requires channel { channel < take_channels cut.now }
     requires inside { done + length part.now ≤ master_length cut.now.splice.cues }
     ensures { (before : List Bool) → length before ≡ done → FindsOff cut.now channel before first
         → FindsOff cut.now channel (before ++ part.now) result }
@@ -30,7 +30,7 @@ pub(crate) fn first_off_so_far(
 
 // The first such place of this part.
 fn first_off(cut: &Cut, channel: usize, done: usize, part: &Bits) -> Option<usize>
-    requires channel { channel < channel_number cut.now }
+    requires channel { channel < take_channels cut.now }
     requires inside { done + length part.now ≤ master_length cut.now.splice.cues }
     ensures { FindsFirst (IsOffPart cut.now channel done part.now) result }
 {
@@ -47,7 +47,7 @@ fn first_off(cut: &Cut, channel: usize, done: usize, part: &Bits) -> Option<usiz
 
 // The first such place in a cue that starts at a place of the channel.
 fn first_off_at(cut: &Cut, at: BridgePlace, start: usize, done: usize, part: &Bits) -> Option<usize>
-    requires channel { at.channel < channel_number cut.now }
+    requires channel { at.channel < take_channels cut.now }
     requires cue { at.cue < length cut.now.splice.cues }
     requires start { start ≡ cue_start cut.now at.cue }
     requires inside { done + length part.now ≤ master_length cut.now.splice.cues }

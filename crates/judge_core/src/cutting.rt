@@ -2,7 +2,7 @@
 
 ghost use Rattle.std.specs.Prelude.{IfErr, IfOk, List, ℕ};
 ghost use Rattle.splice_core.specs.Splices.{splice_content};
-ghost use Rattle.form_core.specs.Steps.{Gives};
+ghost use Rattle.form_core.specs.Steps.{GivesUnless};
 ghost use Rattle.cut_core.specs.Excerpts.{AreOfTakes};
 ghost use Rattle.cut_core.specs.Opening.{file_bytes};
 ghost use Rattle.judge_core.specs.Cutting.{AreTakes, IsCutFault, SaysCut, said_cut};
@@ -24,7 +24,7 @@ pub fn cut_files(
     form: Option<Form>,
 ) -> Result<Cut, Fault>
     ensures found { IfOk result (SaysCut project.now (file_bytes takes.now) form) }
-    ensures exact { Gives Fault.Memory (λ cut. cut) result (said_cut project.now (file_bytes takes.now) form) }
+    ensures exact { GivesUnless Fault.Memory (λ cut. cut) result (said_cut project.now (file_bytes takes.now) form) }
 {
     let splice = splice_of(alloc, project)?;
     let takes = excerpts_of_files(alloc, &splice, takes)?;
@@ -42,7 +42,7 @@ pub fn cut_excerpts(splice: Splice, takes: Vec<Excerpts>, form: Option<Form>) ->
         → AreTakes project files (splice_content splice) takes.items → IfOk result (SaysCut project files form) }
     ensures exact { (project : List ℕ) (files : List (List ℕ))
         → AreTakes project files (splice_content splice) takes.items
-        → Gives Fault.Memory (λ cut. cut) result (said_cut project files form) }
+        → GivesUnless Fault.Memory (λ cut. cut) result (said_cut project files form) }
     ensures fault { IfErr result IsCutFault }
 {
     Ok(Cut::of(splice, takes, form)?)

@@ -6,7 +6,7 @@ ghost use Rattle.chunk_core.specs.Inlets.{inlet_failures, inlet_reader};
 ghost use Rattle.cert_core.specs.Readers.{cert_inlet, failed_checks, has_read_head, read_version};
 ghost use Rattle.cut_core.specs.Bridges.{IsPlace};
 ghost use Rattle.judge_core.specs.Judging.{JudgesCert, JudgesClaim, JudgesClaims, JudgesHead};
-ghost use Rattle.judge_core.specs.Standing.{AreBitsOf, AreKept, claim_from, kept_at, rows_of};
+ghost use Rattle.judge_core.specs.Kept.{AreBitsOf, AreKept, claim_from, kept_at, kept_items};
 
 use crate::verdict::{Reason, Verdict};
 use cert_core::{CertReader, CertReason, CertVerdict, CheckFault, cert_goes_on, read_is_cert};
@@ -28,8 +28,8 @@ pub(crate) fn judge_certificate<R: Read>(
     reader: &mut CertReader<R>,
 ) -> Result<Verdict, CheckFault>
     requires ready { inlet_failures (cert_inlet reader.old) < 2 ^ 64 - 1 }
-    requires kept { AreKept cut.now (rows_of kept.now) }
-    ensures judged { (zs : List (List Bool)) → AreBitsOf cut.now (rows_of kept.now) zs
+    requires kept { AreKept cut.now (kept_items kept.now) }
+    ensures judged { (zs : List (List Bool)) → AreBitsOf cut.now (kept_items kept.now) zs
         → IfOk result (JudgesCert cut.now zs (R.remaining (inlet_reader (cert_inlet reader.old)))) }
     ensures failures { inlet_failures (cert_inlet reader.new)
         ≡ inlet_failures (cert_inlet reader.old) + failed_checks result }
@@ -96,11 +96,11 @@ fn judge_entries<R: Read>(
 ) -> Result<Verdict, CheckFault>
     requires ready { inlet_failures (cert_inlet reader.old) < 2 ^ 64 - 1 }
     requires head { has_read_head reader.old ≡ true }
-    requires kept { AreKept cut.now (rows_of kept.now) }
+    requires kept { AreKept cut.now (kept_items kept.now) }
     requires each { All (IsPlace cut.now) places.now }
     requires few { length places.now ≤ 1536 }
     ensures judged { IfOk result (JudgesClaims (read_version reader.old)
-        (map (claim_from cut.now (rows_of kept.now)) places.now) (R.remaining (inlet_reader (cert_inlet reader.old)))
+        (map (claim_from cut.now (kept_items kept.now)) places.now) (R.remaining (inlet_reader (cert_inlet reader.old)))
         (R.remaining (inlet_reader (cert_inlet reader.new)))) }
     ensures failures { inlet_failures (cert_inlet reader.new)
         ≡ inlet_failures (cert_inlet reader.old) + failed_checks result }
@@ -129,9 +129,9 @@ fn judge_entry<R: Read>(
 ) -> Result<CertVerdict, CheckFault>
     requires ready { inlet_failures (cert_inlet reader.old) < 2 ^ 64 - 1 }
     requires head { has_read_head reader.old ≡ true }
-    requires kept { AreKept cut.now (rows_of kept.now) }
+    requires kept { AreKept cut.now (kept_items kept.now) }
     requires place { IsPlace cut.now place }
-    ensures judged { IfOk result (JudgesClaim (read_version reader.old) (claim_from cut.now (rows_of kept.now) place)
+    ensures judged { IfOk result (JudgesClaim (read_version reader.old) (claim_from cut.now (kept_items kept.now) place)
         (R.remaining (inlet_reader (cert_inlet reader.old))) (R.remaining (inlet_reader (cert_inlet reader.new)))) }
     ensures failures { inlet_failures (cert_inlet reader.new)
         ≡ inlet_failures (cert_inlet reader.old) + failed_checks result }
@@ -172,9 +172,9 @@ fn check_bits<R: Read>(
 
 // The bits that were kept of a master for the bridge at a place.
 fn kept_in<'a>(kept: &'a [Vec<Bits>], place: BridgePlace) -> &'a Bits
-    requires cue { place.cue < length (rows_of kept.now) }
-    requires channel { place.channel < length (slice_index_or (rows_of kept.now) place.cue []) }
-    ensures { result.now ≡ kept_at (rows_of kept.now) place.channel place.cue }
+    requires cue { place.cue < length (kept_items kept.now) }
+    requires channel { place.channel < length (slice_index_or (kept_items kept.now) place.cue []) }
+    ensures { result.now ≡ kept_at (kept_items kept.now) place.channel place.cue }
 {
     let BridgePlace { cue, channel } = place;
     &kept[cue][channel]

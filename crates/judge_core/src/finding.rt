@@ -4,11 +4,11 @@ ghost use Rattle.std.specs.Prelude.{◌≡◌, ◌+◌, ◌-◌, ◌^◌, ◌<�
 ghost use Rattle.dsd_bits.specs.Contents.{Content};
 ghost use Rattle.chunk_core.specs.Inlets.{inlet_failures, inlet_reader};
 ghost use Rattle.cert_core.specs.Readers.{cert_inlet, failed_checks};
-ghost use Rattle.cut_core.specs.Cuts.{channel_number};
+ghost use Rattle.cut_core.specs.Cuts.{take_channels};
 ghost use Rattle.judge_core.specs.Checking.{HaveShape, IsMasterOf, MasterReason};
 ghost use Rattle.judge_core.specs.Claims.{IsCertOf};
 ghost use Rattle.judge_core.specs.Judging.{AtCost, IsLeastOf, IsNoRejection, JudgesMaster};
-ghost use Rattle.judge_core.specs.Standing.{AreKept, FindsCued, IsFoundOf, FindAllOff, rows_of};
+ghost use Rattle.judge_core.specs.Kept.{AreKept, FindsCued, IsFoundOf, FindAllOff, kept_items};
 
 use crate::comparing::outer_reason;
 use crate::entries::judge_certificate;
@@ -49,7 +49,7 @@ pub struct Found {
 
 /// The first bit of a master that isn't that of the cue there, from the first such place of each of its channels.
 pub(crate) fn lowest_off(cut: &Cut, firsts: &[Option<usize>]) -> Option<CuedPlace>
-    requires { length firsts.now ≡ channel_number cut.now }
+    requires { length firsts.now ≡ take_channels cut.now }
     ensures { (r : Content) → HaveShape cut.now r.channels → FindAllOff cut.now r.channels firsts.now
         → FindsCued cut.now r result }
 {
@@ -104,7 +104,7 @@ fn found_reason(alloc: Global, cut: &Cut, found: &Found) -> Result<Option<Reason
     ensures reason { (r : Content) → IsFoundOf cut.now found.now r
         → IfOk result (λ reason. MatchOption reason (IsMasterOf cut.now found.now.form r)
         (MasterReason cut.now found.now.form r)) }
-    ensures kept { IfOk result (λ reason. reason ≡ None → AreKept cut.now (rows_of found.now.kept.items)) }
+    ensures kept { IfOk result (λ reason. reason ≡ None → AreKept cut.now (kept_items found.now.kept.items)) }
 {
     if let Some(reason) = outer_reason(alloc, cut, found.form, &found.recording, found.count)? {
         return Ok(Some(reason));

@@ -24,7 +24,7 @@
 //!   does. `windows_total` is the sum over the bridges, `total_cost` the sum over whole channels (`specs/Claims.antt`,
 //!   `specs/Masters.antt`).
 //! - `JudgesMaster cut form recording cert verdict`: what a verdict says (`specs/Judging.antt`).
-//! - `IsFoundOf cut found recording`: this was found of the recording, and kept of its bridges (`specs/Standing.antt`).
+//! - `IsFoundOf cut found recording`: this was found of the recording, and kept of its bridges (`specs/Kept.antt`).
 //!   `IsFoundHeld cut file found` says that a file holds such a recording, or holds none if nothing was found
 //!   (`specs/Finding.antt`).
 //!

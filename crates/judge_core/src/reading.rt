@@ -1,8 +1,9 @@
 //! A master's file, read to be judged.
 
 ghost use Rattle.std.specs.Prelude.{◌≡◌, ◌+◌, ◌-◌, ◌<◌, ◌≤◌, ◌^◌, IfErr, IfOk, IfSome, IsErrOf};
-ghost use Rattle.chunk_core.specs.Inlets.{inlet_failures, inlet_given, inlet_reader, inlet_reads};
+ghost use Rattle.chunk_core.specs.Inlets.{inlet_failures, inlet_reader, inlet_reads};
 ghost use Rattle.sound_core.specs.Faults.{IsReadingFault, failed_reads};
+ghost use Rattle.sound_core.specs.Readers.{RunsOut};
 ghost use Rattle.form_core.specs.Forms as forms;
 ghost use Rattle.judge_core.specs.Auditing.{found_in};
 ghost use Rattle.judge_core.specs.Finding.{IsFoundGiven, IsFoundHeld};
@@ -20,17 +21,13 @@ use std::io::Read;
 /// It is read once, as far as needed, as [`read_outline`](sound_core::read_outline) does. Besides what is found, at
 /// most three blocks of 65,536 bytes of the sound are held at a time, and the channels of one.
 ///
-/// At entry the inlet must have counted fewer than `2^63` reads and bytes.
-///
-/// Refusals: `ReadFailed`; `TurnLimit` after `2^40` reads (there are never more, whatever is returned); `Memory`.
+/// Refusals: `ReadFailed`; `TurnLimit` after `2^40` reads (there are never more, whatever is returned), or at once if the
+/// inlet had counted `2^63` reads or bytes, or as many failures as it can; `Memory`.
 pub fn find_master<R: Read>(
     alloc: Global,
     cut: &Cut,
     inlet: &mut Inlet<R>,
 ) -> Result<Option<Found>, StreamFault>
-    requires inlet_ready { inlet_failures inlet.old < 2 ^ 64 - 1 }
-    requires reads_low { inlet_reads inlet.old < 2 ^ 63 }
-    requires given_low { inlet_given inlet.old < 2 ^ 63 }
     // It was found in the recording that the reader's file holds.
     ensures found { IfOk result (λ found. IfSome (R.remaining (inlet_reader inlet.old))
         (λ file. IsFoundHeld cut.now file found)) }
@@ -40,7 +37,7 @@ pub fn find_master<R: Read>(
     ensures read_failed { inlet_failures inlet.new ≡ inlet_failures inlet.old + failed_reads result }
     // Whatever is returned, there were at most 2^40 reads.
     ensures reads { inlet_reads inlet.new ≤ inlet_reads inlet.old + 2 ^ 40 }
-    ensures turn_limit { IsErrOf result StreamFault.TurnLimit → inlet_reads inlet.new ≡ inlet_reads inlet.old + 2 ^ 40 }
+    ensures turn_limit { IsErrOf result StreamFault.TurnLimit → RunsOut inlet.old inlet.new }
 {
     match audit(alloc, cut, inlet) {
         Ok(audited) => Ok(Some(found_by(audited))),

@@ -1,4 +1,4 @@
--- Chosen bits, their entries, and that they stand in the master.
+-- Chosen bits, their entries, and that they are in the master.
 use Rattle.std.proofs.Common.{◌≡◌, ℕ, zero, suc, ◌+◌, ◌-◌, ◌<◌, Bool, List, [], ◌∷◌, ◌++◌, length, get_or, map, sum_by, take, refl, sym, ap, subst, ◌∙◌, arith}
 use Rattle.std.specs.List.{All, AllZip}
 use Rattle.std.proofs.lemmas.List.{get_or-map, length-map, map-append, take_more}
@@ -99,7 +99,7 @@ module _ (cut : CutContent) (made : ChosenBridges) (are : AreBridgesOf cut made)
     pub claim_is : get_or (chosen_claims cut made.places.items made.chosen.items) k (record { cue = p.cue; channel = p.channel; bridging = d; bits = x.bits }) ≡ record { cue = p.cue; channel = p.channel; bridging = d; bits = x.bits }
     claim_is = rw window_is (claim_there cut made.places.items made.chosen.items k p x place chosen lt as_many)
 
--- ---- the chosen bits stand in the master
+-- ---- the chosen bits are in the master
 module _ (cut : CutContent) (zs : List (List Bool)) where
   abbrev Stands : BridgePlace → Chosen → Type 0
   Stands p x = x.bits ≡ bridge_bits cut (get_or zs p.channel []) p.cue
@@ -120,8 +120,8 @@ module _ (cut : CutContent) (zs : List (List Bool)) where
       omega (arith, one, costs_are ps xs h.1 k.1, sum_by-cons (λ (y : Chosen). y.cost) x xs, sum_by-cons claim_cost (claim_at cut zs p) (map (claim_at cut zs) ps))
 
   module _ (can : CanCut cut) (best : AreBestChannels cut zs) where
-    stands_at : (p : BridgePlace) (x : Chosen) → IsPlace cut p → IsChosenAt cut p x → Stands p x
-    stands_at p x place chosen =
+    holds_at : (p : BridgePlace) (x : Chosen) → IsPlace cut p → IsChosenAt cut p x → Stands p x
+    holds_at p x place chosen =
         let c = p.channel in
         let i = p.cue in
         let there = place.channel_there in
@@ -139,7 +139,7 @@ module _ (cut : CutContent) (zs : List (List Bool)) where
     all_stand [] [] each h = tt
     all_stand [] (x ∷ xs) each h = absurd h
     all_stand (p ∷ ps) [] each h = absurd h
-    all_stand (p ∷ ps) (x ∷ xs) each h = (stands_at p x (each 0 p (omega arith)) h.0, all_stand ps xs (λ k d lt. each (suc k) d (omega arith)) h.1)
+    all_stand (p ∷ ps) (x ∷ xs) each h = (holds_at p x (each 0 p (omega arith)) h.0, all_stand ps xs (λ k d lt. each (suc k) d (omega arith)) h.1)
 
     module _ (xs : List Chosen) (chosen : AreChosen cut xs) (each : All (IsPlace cut) (bridges cut)) where
       pub claims_stand : chosen_claims cut (bridges cut) xs ≡ claims cut zs
@@ -148,10 +148,10 @@ module _ (cut : CutContent) (zs : List (List Bool)) where
       pub costs_stand : chosen_cost xs ≡ windows_total cut zs
       costs_stand = costs_are (bridges cut) xs (all_stand (bridges cut) xs each chosen) chosen
 
--- the certificate of chosen bits that stand in a master is that of the master, and shows its bridges to be least
+-- the certificate of chosen bits that are in a master is that of the master, and shows that its bridges are least
 module _ (cut : CutContent) (made : ChosenBridges) (zs : List (List Bool)) (cert : List ℕ) (stands : chosen_claims cut made.places.items made.chosen.items ≡ claims cut zs) (certifies : Certifies cut made cert) where
-  pub cert_stands : AreBridgesOf cut made → IsCertOf cut zs cert
-  cert_stands are =
+  pub cert_holds : AreBridgesOf cut made → IsCertOf cut zs cert
+  cert_holds are =
       let weights = length cut.splice.weights in
       let mine = chosen_claims cut made.places.items made.chosen.items in
       subst (λ (cs : List Claim). IsCert weights cs cert) stands (subst (IsCert weights mine) (sym certifies) (text_is_cert weights mine (showable cut made are)))

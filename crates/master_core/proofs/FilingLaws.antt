@@ -21,9 +21,9 @@ use Rattle.form_core.specs.declared.form.Form.{Form}
 use Rattle.form_core.specs.declared.parts.Ends.{Ends}
 use Rattle.form_core.specs.Forms.{text_in}
 use Rattle.form_core.specs.Laws.{WrittenIsRead}
-use Rattle.form_core.specs.Parts.{FitsIn, WrittenInParts, head_in, interleaving_in, tail_in}
+use Rattle.form_core.specs.Parts.{FitsIn, FormsWrittenInParts, head_in, interleaving_in, tail_in}
 use Rattle.form_core.specs.Writing.{HoldsSound}
-use Rattle.cut_core.specs.Cuts.{CutContent, channel_number, master_length}
+use Rattle.cut_core.specs.Cuts.{CutContent, master_length, take_channels}
 use Rattle.cut_core.specs.Keeping.{CanCut}
 use Rattle.cut_core.proofs.CutLaws.{first_shape}
 use Rattle.cut_core.proofs.ZipLaws.{zip_numbers_long}
@@ -31,13 +31,13 @@ use Rattle.master_core.specs.Filing.{AreMasterEnds, WritesMaster, WritesMasterPr
 use Rattle.master_core.specs.Best.{IsBestChannel, master_of}
 use Rattle.master_core.specs.Writing.{HasOneBest, WritesBest, WritesBestPrefix}
 use Rattle.master_core.proofs.MasterLaws.{marks_short, master_shape}
-use Rattle.master_core.proofs.WritingLaws.{front_more, front_on}
+use Rattle.master_core.proofs.WritingLaws.{prefix_more, prefix_on}
 
 -- a master without its bits keeps the rules of recordings
 pub silent_shape : (cut : CutContent) → CanCut cut → (form : Form) → HasShape (silent_master cut form)
 silent_shape cut can form =
     let first = first_shape cut can in
-    let many : length (replicate {A = List Bool} (channel_number cut) []) ≡ channel_number cut = length-replicate (channel_number cut) [] in
+    let many : length (replicate {A = List Bool} (take_channels cut) []) ≡ take_channels cut = length-replicate (take_channels cut) [] in
     record {
       rate_low = first.rate_low;
       rate_high = first.rate_high;
@@ -52,8 +52,8 @@ silent_shape cut can form =
       no_parts = All-nil _;
     }
   where
-    silent : (k : ℕ) (d : List Bool) → k < channel_number cut → length (get_or (replicate (channel_number cut) []) k d) ≡ 0
-    silent k d lt = ap length (get_or-replicate (channel_number cut) k [] d lt)
+    silent : (k : ℕ) (d : List Bool) → k < take_channels cut → length (get_or (replicate (take_channels cut) []) k d) ≡ 0
+    silent k d lt = ap length (get_or-replicate (take_channels cut) k [] d lt)
 
 -- how many sound bytes there are
 sound_long : (to : Interleaving) (zs : List (List Bool)) → length (laced_in to zs) ≡ sound_size to (length zs) (count_of zs)
@@ -64,7 +64,7 @@ sound_small : (to : Interleaving) (number count : ℕ) → number ≤ 6 → coun
 sound_small Bytes number count few short = let below : count / 8 * number ≤ 8589934592 * number = mul-le-mul_right number (omega arith) in omega (arith, below, few)
 sound_small (Blocks order) number count few short = let below : div_ceil count 32768 * number ≤ 2097152 * number = mul-le-mul_right number (omega arith) in omega (arith, below, few)
 
-module _ (cut : CutContent) (form : Form) (law : WrittenInParts) (ends : Ends) (are : AreMasterEnds cut form ends) (one : HasOneBest cut) (some : 1 ≤ channel_number cut) where
+module _ (cut : CutContent) (form : Form) (law : FormsWrittenInParts) (ends : Ends) (are : AreMasterEnds cut form ends) (one : HasOneBest cut) (some : 1 ≤ take_channels cut) where
   abbrev sound : List ℕ
   sound = laced_in (interleaving_in form) one.channels
 
@@ -72,8 +72,8 @@ module _ (cut : CutContent) (form : Form) (law : WrittenInParts) (ends : Ends) (
   abbrev pub file : List ℕ
   file = ends.head.items ++ (sound ++ ends.tail.items)
 
-  many : length one.channels ≡ channel_number cut
-  many = zip_numbers_long (IsBestChannel cut) (channel_number cut) one.channels one.best
+  many : length one.channels ≡ take_channels cut
+  many = zip_numbers_long (IsBestChannel cut) (take_channels cut) one.channels one.best
 
   count : count_of one.channels ≡ master_length cut.splice.cues
   count = one.long 0 [] (omega (arith, many, some))
@@ -81,7 +81,7 @@ module _ (cut : CutContent) (form : Form) (law : WrittenInParts) (ends : Ends) (
   pub file_is : text_in form (master_of cut form one.channels) ≡ Some file
   file_is =
       let r = silent_master cut form in
-      law form r one.channels (length-replicate (channel_number cut) [] ∙ sym many) (subst (FitsIn form) (sym count) are.fits)
+      law form r one.channels (length-replicate (take_channels cut) [] ∙ sym many) (subst (FitsIn form) (sym count) are.fits)
       ∙ ap (λ n. Some (head_in form r n ++ (sound ++ tail_in form r n))) count
       ∙ ap₂ (λ (h t : List ℕ). Some (h ++ (sound ++ t))) (sym are.head) (sym are.tail)
 
@@ -101,21 +101,21 @@ module _ (cut : CutContent) (form : Form) (law : WrittenInParts) (ends : Ends) (
     file_holds = law_again form (master_of cut form one.channels) file (master_shape cut can form one.channels one.best one.long) fields file_is file_short
 
   module _ (a0 a1 : Option (List ℕ)) where
-    pub head_front : AppendsPart a0 a1 ends.head.items → WritesMasterPrefix cut form a0 a1
-    head_front p = record { channels = one.channels; best = one.best; text = file; text_is = file_is; written = front_more a0 a1 ends.head.items (sound ++ ends.tail.items) p }
+    pub head_prefix : AppendsPart a0 a1 ends.head.items → WritesMasterPrefix cut form a0 a1
+    head_prefix p = record { channels = one.channels; best = one.best; text = file; text_is = file_is; written = prefix_more a0 a1 ends.head.items (sound ++ ends.tail.items) p }
 
     module _ (head_out : Appends a0 a1 ends.head.items) (a2 : Option (List ℕ)) where
-      pub sound_front : WritesBestPrefix cut (interleaving_in form) a1 a2 → WritesMasterPrefix cut form a0 a2
-      sound_front p =
+      pub sound_prefix : WritesBestPrefix cut (interleaving_in form) a1 a2 → WritesMasterPrefix cut form a0 a2
+      sound_prefix p =
           let here : AppendsPart a1 a2 sound = subst (λ zs. AppendsPart a1 a2 (laced_in (interleaving_in form) zs)) (one.only p.channels p.best) p.written in
-          record { channels = one.channels; best = one.best; text = file; text_is = file_is; written = front_on a0 a1 a2 ends.head.items (sound ++ ends.tail.items) head_out (front_more a1 a2 sound ends.tail.items here) }
+          record { channels = one.channels; best = one.best; text = file; text_is = file_is; written = prefix_on a0 a1 a2 ends.head.items (sound ++ ends.tail.items) head_out (prefix_more a1 a2 sound ends.tail.items here) }
 
       module _ (written : WritesBest cut (interleaving_in form) a1 a2) (a3 : Option (List ℕ)) where
         sound_out : Appends a1 a2 sound
         sound_out = subst (λ zs. Appends a1 a2 (laced_in (interleaving_in form) zs)) (one.only written.channels written.best) written.written
 
-        pub tail_front : AppendsPart a2 a3 ends.tail.items → WritesMasterPrefix cut form a0 a3
-        tail_front p = record { channels = one.channels; best = one.best; text = file; text_is = file_is; written = front_on a0 a1 a3 ends.head.items (sound ++ ends.tail.items) head_out (front_on a1 a2 a3 sound ends.tail.items sound_out p) }
+        pub tail_prefix : AppendsPart a2 a3 ends.tail.items → WritesMasterPrefix cut form a0 a3
+        tail_prefix p = record { channels = one.channels; best = one.best; text = file; text_is = file_is; written = prefix_on a0 a1 a3 ends.head.items (sound ++ ends.tail.items) head_out (prefix_on a1 a2 a3 sound ends.tail.items sound_out p) }
 
         pub file_whole : Appends a2 a3 ends.tail.items → WritesMaster cut form a0 a3
         file_whole tail_out = record { channels = one.channels; best = one.best; text = file; text_is = file_is; written = Appends-trans a0 a1 a3 ends.head.items (sound ++ ends.tail.items) head_out (Appends-trans a1 a2 a3 sound ends.tail.items sound_out tail_out) }

@@ -13,7 +13,7 @@ use Rattle.cost_core.specs.Channels.{HaveLengths, Part}
 use Rattle.cost_core.specs.Least.{IsFirstLeast, NotAfter}
 use Rattle.form_core.specs.declared.form.Form.{Form}
 use Rattle.form_core.specs.declared.form.Form.TheVariants as forms
-use Rattle.cut_core.specs.Cuts.{CutContent, channel_number, master_length, span}
+use Rattle.cut_core.specs.Cuts.{CutContent, master_length, span, take_channels}
 use Rattle.cut_core.specs.Keeping.{CanCut}
 use Rattle.cut_core.specs.Titles.{mark_of_title, titles_from}
 use Rattle.cut_core.proofs.CutLaws.{first_shape}
@@ -55,8 +55,8 @@ marks_short forms.Dsf cut can = All-nil (λ (mark : MarkContent). length mark.te
 marks_short forms.Dsf8 cut can = All-nil (λ (mark : MarkContent). length mark.text < 2 ^ 32)
 
 module _ (cut : CutContent) (can : CanCut cut) (form : Form) (zs : List (List Bool)) (best : AreBestChannels cut zs) (long : All (λ z. length z ≡ master_length cut.splice.cues) zs) where
-  as_many : length zs ≡ channel_number cut
-  as_many = zip_numbers_long (IsBestChannel cut) (channel_number cut) zs best
+  as_many : length zs ≡ take_channels cut
+  as_many = zip_numbers_long (IsBestChannel cut) (take_channels cut) zs best
 
   pub shape_is : HaveShape cut zs
   shape_is = record { as_many = as_many; long = long }
@@ -82,12 +82,12 @@ module _ (cut : CutContent) (can : CanCut cut) (form : Form) (zs : List (List Bo
       }
 
   pub cues_held : HoldCues cut (channel_numbers cut) zs
-  cues_held = zip_range (IsBestChannel cut) (λ c z. z ≡ rebuilt cut c z) (channel_number cut) 0 zs
+  cues_held = zip_range (IsBestChannel cut) (λ c z. z ≡ rebuilt cut c z) (take_channels cut) 0 zs
       (λ c z low high made. is_rebuilt cut can c (omega arith) z made.bridges (best_lengths (parts_of cut c) made.bridges made.best) made.made) best
 
   -- first least bits are some bits
   pub are_channels : AreMasterChannels cut zs
-  are_channels = zip_range (IsBestChannel cut) (IsMasterChannel cut) (channel_number cut) 0 zs (λ c z low high made. record { bridges = made.bridges; lengths = best_lengths (parts_of cut c) made.bridges made.best; made = made.made }) best
+  are_channels = zip_range (IsBestChannel cut) (IsMasterChannel cut) (take_channels cut) 0 zs (λ c z low high made. record { bridges = made.bridges; lengths = best_lengths (parts_of cut c) made.bridges made.best; made = made.made }) best
 
   pub is_master : (r : Content) → r ≡ master_of cut form zs → IsMasterOf cut form r
   is_master r is =
@@ -100,10 +100,10 @@ module _ (cut : CutContent) (can : CanCut cut) (form : Form) (zs : List (List Bo
       }
 
 -- the parts in memory hold it
-pub content_is : (first : Content) (channels : List (List Bool)) (rate : ℕ) (ids : List (List ℕ)) (layout : ℕ) (marks : List Mark) (told : List MarkContent) (others : List Other) (tag : List ℕ)
-    → rate ≡ first.rate → ids ≡ first.ids → layout ≡ first.layout → map mark_content marks ≡ told → others ≡ [] → tag ≡ []
-    → content_of rate channels ids layout marks others tag ≡ record { rate = first.rate; channels = channels; ids = first.ids; layout = first.layout; marks = told; others = []; tag = [] }
-content_is first channels rate ids layout marks told others tag e f g h i j = rw (e, f, g, h, i, j) refl
+pub content_is : (first : Content) (channels : List (List Bool)) (rate : ℕ) (ids : List (List ℕ)) (layout : ℕ) (marks : List Mark) (stated : List MarkContent) (others : List Other) (tag : List ℕ)
+    → rate ≡ first.rate → ids ≡ first.ids → layout ≡ first.layout → map mark_content marks ≡ stated → others ≡ [] → tag ≡ []
+    → content_of rate channels ids layout marks others tag ≡ record { rate = first.rate; channels = channels; ids = first.ids; layout = first.layout; marks = stated; others = []; tag = [] }
+content_is first channels rate ids layout marks stated others tag e f g h i j = rw (e, f, g, h, i, j) refl
 
 -- ---- there is one at most
 not_after_both : (xs ys : List Bool) → length xs ≡ length ys → NotAfter xs ys → NotAfter ys xs → xs ≡ ys

@@ -12,7 +12,7 @@ use Rattle.cost_core.specs.Bridges.{IsFirstLeastBridge, bridge_cost}
 use Rattle.cost_core.specs.Channels.{channel}
 use Rattle.trellis_core.specs.declared.bridging.Chosen.{Chosen}
 use Rattle.cut_core.specs.Bridges.{bridges}
-use Rattle.cut_core.specs.Cuts.{CutContent, channel_number, cue_at, cue_bits, master_length, span, window}
+use Rattle.cut_core.specs.Cuts.{CutContent, cue_at, cue_bits, master_length, span, take_channels, window}
 use Rattle.cut_core.specs.Keeping.{CanCut}
 use Rattle.cut_core.specs.declared.bridges.BridgePlace.{BridgePlace}
 use Rattle.cut_core.proofs.BridgeLaws.{no_bridge, other_place, range_more, same_place}
@@ -28,24 +28,24 @@ use Rattle.master_core.proofs.MasterLaws.{one_master}
 use Rattle.judge_core.proofs.SliceLaws.{slice-append}
 
 -- ---- a channel up to a bridge
--- the first least bits for the bridge behind cue i in channel c
+-- the first least bits for the bridge after cue i in channel c
 abbrev pub IsBestBridge : CutContent → ℕ → ℕ → List Bool → Type 0
 IsBestBridge cut c i x = IsFirstLeastPart (part_at cut c i) x
 
--- channel c up to the bridge of a number: the first cue, and then so many bridges with the cues behind them
-pub record IsFront (cut : CutContent) (c number : ℕ) (z : List Bool) : Type 0 where
+-- channel c up to a bridge: the first cue, and then n bridges, each with the cue after it
+pub record IsPrefixOf (cut : CutContent) (c number : ℕ) (z : List Bool) : Type 0 where
   pub bridges : List (List Bool)
   pub best : AllZip (IsBestBridge cut c) (range_with_len 0 number) bridges
   pub made : z ≡ channel (cue_bits cut c 0) (map (part_at cut c) (range_with_len 0 number)) bridges
   pub long : length z ≡ bridge_start cut number
 
-module _ (cut : CutContent) (can : CanCut cut) (c : ℕ) (there : c < channel_number cut) where
-  pub front_nothing : 0 < length cut.splice.cues → IsFront cut c 0 (cue_bits cut c 0)
+module _ (cut : CutContent) (can : CanCut cut) (c : ℕ) (there : c < take_channels cut) where
+  pub prefix_nothing : 0 < length cut.splice.cues → IsPrefixOf cut c 0 (cue_bits cut c 0)
   unfolding channel
-  front_nothing some = record { bridges = []; best = tt; made = refl; long = (let e = can.long c 0 there some in omega (arith, e)) }
+  prefix_nothing some = record { bridges = []; best = tt; made = refl; long = (let e = can.long c 0 there some in omega (arith, e)) }
 
-  pub front_more : (i : ℕ) (z x : List Bool) → i + 1 < length cut.splice.cues → IsFront cut c i z → IsBestBridge cut c i x → length x ≡ (cue_at cut i).bridge → IsFront cut c (i + 1) (z ++ (x ++ cue_bits cut c (i + 1)))
-  front_more i z x lt so_far best long =
+  pub prefix_more : (i : ℕ) (z x : List Bool) → i + 1 < length cut.splice.cues → IsPrefixOf cut c i z → IsBestBridge cut c i x → length x ≡ (cue_at cut i).bridge → IsPrefixOf cut c (i + 1) (z ++ (x ++ cue_bits cut c (i + 1)))
+  prefix_more i z x lt so_far best long =
       let xs = so_far.bridges in
       let d = part_at cut c i in
       let first = cue_bits cut c 0 in
@@ -63,47 +63,47 @@ module _ (cut : CutContent) (can : CanCut cut) (c : ℕ) (there : c < channel_nu
       }
 
   -- all of it
-  pub front_best : (z : List Bool) (n : ℕ) → n + 1 ≡ length cut.splice.cues → IsFront cut c n z → IsBestChannel cut c z
-  front_best z n all front =
+  pub prefix_best : (z : List Bool) (n : ℕ) → n + 1 ≡ length cut.splice.cues → IsPrefixOf cut c n z → IsBestChannel cut c z
+  prefix_best z n all prefix =
       let last : n ≡ length cut.splice.cues - 1 = omega arith in
-      let whole : IsFront cut c (length cut.splice.cues - 1) z = subst (λ k. IsFront cut c k z) last front in
+      let whole : IsPrefixOf cut c (length cut.splice.cues - 1) z = subst (λ k. IsPrefixOf cut c k z) last prefix in
       let numbers = range_with_len 0 (length cut.splice.cues - 1) in
       record { bridges = whole.bridges; best = zip_of_map IsFirstLeastPart (part_at cut c) numbers whole.bridges whole.best; made = whole.made }
 
-  pub front_long : (z : List Bool) (n : ℕ) → n + 1 ≡ length cut.splice.cues → IsFront cut c n z → length z ≡ master_length cut.splice.cues
-  front_long z n all front = front.long ∙ whole_length cut can n all
+  pub prefix_long : (z : List Bool) (n : ℕ) → n + 1 ≡ length cut.splice.cues → IsPrefixOf cut c n z → length z ≡ master_length cut.splice.cues
+  prefix_long z n all prefix = prefix.long ∙ whole_length cut can n all
 
 -- ---- the part of it in a range
-pub record IsFrontPart (cut : CutContent) (c number : ℕ) (range : BitRange) (part : List Bool) : Type 0 where
+pub record IsPrefixPart (cut : CutContent) (c number : ℕ) (range : BitRange) (part : List Bool) : Type 0 where
   pub whole : List Bool
-  pub front : IsFront cut c number whole
+  pub prefix : IsPrefixOf cut c number whole
   pub part_is : part ≡ within range whole
 
 -- one step more
-pub part_more : (cut : CutContent) (can : CanCut cut) (c : ℕ) (there : c < channel_number cut) (i : ℕ) (range : BitRange) (before after : List Bool) → i + 1 < length cut.splice.cues
-    → IsFrontPart cut c i range before → IsStepAdded cut (record { cue = i; channel = c }) range before after → IsFrontPart cut c (i + 1) range after
+pub part_more : (cut : CutContent) (can : CanCut cut) (c : ℕ) (there : c < take_channels cut) (i : ℕ) (range : BitRange) (before after : List Bool) → i + 1 < length cut.splice.cues
+    → IsPrefixPart cut c i range before → IsStepAdded cut (record { cue = i; channel = c }) range before after → IsPrefixPart cut c (i + 1) range after
 part_more cut can c there i range before after lt so_far step =
     let z = so_far.whole in
     let x = step.bits in
     let cue = cue_bits cut c (i + 1) in
     let s = range.start in
     let t = range.stop in
-    let at : length z ≡ bridge_start cut i = so_far.front.long in
+    let at : length z ≡ bridge_start cut i = so_far.prefix.long in
     let next : length z + length x ≡ bridge_start cut i + (cue_at cut i).bridge = omega (arith, at, step.long) in
     let joined = slice-append z (x ++ cue) s t in
     let inner = slice-append x cue (s - length z) (t - length z) in
     let start : s - length z - length x ≡ s - (bridge_start cut i + (cue_at cut i).bridge) = omega (arith, next) in
     let stop : t - length z - length x ≡ t - (bridge_start cut i + (cue_at cut i).bridge) = omega (arith, next) in
-    let behind_is : slice_range cue (s - length z - length x) (t - length z - length x) ≡ within (counted_from range (bridge_start cut i + (cue_at cut i).bridge)) cue = ap₂ (λ (a b : ℕ). slice_range cue a b) start stop in
+    let after_is : slice_range cue (s - length z - length x) (t - length z - length x) ≡ within (counted_from range (bridge_start cut i + (cue_at cut i).bridge)) cue = ap₂ (λ (a b : ℕ). slice_range cue a b) start stop in
     let bridge_is : slice_range x (s - length z) (t - length z) ≡ within (counted_from range (bridge_start cut i)) x = ap (λ (n : ℕ). slice_range x (s - n) (t - n)) at in
     record {
       whole = z ++ (x ++ cue);
-      front = front_more cut can c there i z x lt so_far.front step.best step.long;
+      prefix = prefix_more cut can c there i z x lt so_far.prefix step.best step.long;
       part_is =
           step.added
           ∙ ap (λ l. (l ++ within (counted_from range (bridge_start cut i)) x) ++ within (counted_from range (bridge_start cut i + (cue_at cut i).bridge)) cue) so_far.part_is
           ∙ append_assoc (within range z) (within (counted_from range (bridge_start cut i)) x) (within (counted_from range (bridge_start cut i + (cue_at cut i).bridge)) cue)
-          ∙ sym (joined ∙ ap (λ l. slice_range z s t ++ l) (inner ∙ ap₂ (λ (a b : List Bool). a ++ b) bridge_is behind_is));
+          ∙ sym (joined ∙ ap (λ l. slice_range z s t ++ l) (inner ∙ ap₂ (λ (a b : List Bool). a ++ b) bridge_is after_is));
     }
 
 -- ---- there is one
@@ -130,7 +130,7 @@ module _ (cut : CutContent) (can : CanCut cut) (chosen : List Chosen) (are : Are
     ]
   ]
 
-  pub best_bridge : (c i : ℕ) → c < channel_number cut → i + 1 < length cut.splice.cues → (x : List Bool) × IsBestBridge cut c i x
+  pub best_bridge : (c i : ℕ) → c < take_channels cut → i + 1 < length cut.splice.cues → (x : List Bool) × IsBestBridge cut c i x
   best_bridge c i there lt = elim (find (record { cue = i; channel = c }) (bridges cut) chosen are) [
     | inl found ↦ found
     | inr none ↦
@@ -138,26 +138,26 @@ module _ (cut : CutContent) (can : CanCut cut) (chosen : List Chosen) (are : Are
         ([], nothing_first (window cut c i).levels (bridge_cost (window cut c i)) ((can.windowed c i there lt).levels ∙ plain))
   ]
 
-  best_front : (c n : ℕ) → c < channel_number cut → n < length cut.splice.cues → (z : List Bool) × IsFront cut c n z
-  best_front c zero there lt = (cue_bits cut c 0, front_nothing cut can c there lt)
-  best_front c (suc n) there lt =
-      let (z, front) = best_front c n there (omega arith) in
+  best_prefix : (c n : ℕ) → c < take_channels cut → n < length cut.splice.cues → (z : List Bool) × IsPrefixOf cut c n z
+  best_prefix c zero there lt = (cue_bits cut c 0, prefix_nothing cut can c there lt)
+  best_prefix c (suc n) there lt =
+      let (z, prefix) = best_prefix c n there (omega arith) in
       let below : n + 1 < length cut.splice.cues = omega arith in
       let (x, best) = best_bridge c n there below in
       let e : n + 1 ≡ suc n = omega arith in
-      (z ++ (x ++ cue_bits cut c (n + 1)), subst (λ k. IsFront cut c k (z ++ (x ++ cue_bits cut c (n + 1)))) e (front_more cut can c there n z x below front best (best.is_least.long ∙ (can.windowed c n there below).levels)))
+      (z ++ (x ++ cue_bits cut c (n + 1)), subst (λ k. IsPrefixOf cut c k (z ++ (x ++ cue_bits cut c (n + 1)))) e (prefix_more cut can c there n z x below prefix best (best.is_least.long ∙ (can.windowed c n there below).levels)))
 
   some_cue : 1 ≤ length cut.splice.cues
   some_cue = can.splicing.some_cues
 
-  best_channel : (c : ℕ) → c < channel_number cut → (z : List Bool) × (IsBestChannel cut c z × (length z ≡ master_length cut.splice.cues))
+  best_channel : (c : ℕ) → c < take_channels cut → (z : List Bool) × (IsBestChannel cut c z × (length z ≡ master_length cut.splice.cues))
   best_channel c there =
       let all : length cut.splice.cues - 1 + 1 ≡ length cut.splice.cues = omega (arith, some_cue) in
-      let (z, front) = best_front c (length cut.splice.cues - 1) there (omega (arith, some_cue)) in
-      (z, (front_best cut can c there z (length cut.splice.cues - 1) all front, front_long cut can c there z (length cut.splice.cues - 1) all front))
+      let (z, prefix) = best_prefix c (length cut.splice.cues - 1) there (omega (arith, some_cue)) in
+      (z, (prefix_best cut can c there z (length cut.splice.cues - 1) all prefix, prefix_long cut can c there z (length cut.splice.cues - 1) all prefix))
 
-  -- so many of them
-  best_channels : (n : ℕ) → n ≤ channel_number cut → (zs : List (List Bool)) × (AllZip (IsBestChannel cut) (range_with_len 0 n) zs × All (λ z. length z ≡ master_length cut.splice.cues) zs)
+  -- n of them
+  best_channels : (n : ℕ) → n ≤ take_channels cut → (zs : List (List Bool)) × (AllZip (IsBestChannel cut) (range_with_len 0 n) zs × All (λ z. length z ≡ master_length cut.splice.cues) zs)
   best_channels zero le = ([], (tt, All-nil (λ z. length z ≡ master_length cut.splice.cues)))
   best_channels (suc n) le =
       let (zs, made) = best_channels n (omega arith) in
@@ -174,5 +174,5 @@ module _ (cut : CutContent) (can : CanCut cut) (chosen : List Chosen) (are : Are
 
   pub one_best : HasOneBest cut
   one_best =
-      let (zs, made) = best_channels (channel_number cut) (omega arith) in
+      let (zs, made) = best_channels (take_channels cut) (omega arith) in
       record { channels = zs; best = made.0; long = made.1; only = λ others best. same_best cut others zs best made.0 }

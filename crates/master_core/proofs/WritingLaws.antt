@@ -19,7 +19,7 @@ use Rattle.dsd_bits.specs.Rooms.{RoomContent, rooms_bits}
 use Rattle.dsd_bits.proofs.RoomLemmas.{length-rooms_bits}
 use Rattle.interleave_core.proofs.JoinLaws.{Appended, written}
 use Rattle.interleave_core.specs.Reinterleaving.{laced_in}
-use Rattle.cut_core.specs.Cuts.{CutContent, channel_number, master_length}
+use Rattle.cut_core.specs.Cuts.{CutContent, master_length, take_channels}
 use Rattle.cut_core.proofs.BridgeLaws.{range_more}
 use Rattle.cut_core.proofs.ZipLaws.{zip_more, zip_numbers_long}
 use Rattle.master_core.specs.Best.{AreBestChannels, IsBestChannel}
@@ -27,12 +27,12 @@ use Rattle.master_core.specs.Parting.{AreBestParts, IsBestPart, within}
 use Rattle.master_core.specs.Writing.{AreRooms, HasOneBest, WritesBest, WritesBestPrefix, WritesPart, WritesPartPrefix}
 use Rattle.judge_core.proofs.SliceLaws.{length-slice, slice_all, slice_join}
 
--- ---- fronts of what is written
-pub front_more : (a b : Option (List ℕ)) (xs ys : List ℕ) → AppendsPart a b xs → AppendsPart a b (xs ++ ys)
-front_more a b xs ys f = (f.0, f.1 ++ ys, ap (λ zs. zs ++ ys) f.2 ∙ append_assoc f.0 f.1 ys, omega (arith, length-append f.1 ys, f.3), f.4)
+-- ---- prefixes of what is written
+pub prefix_more : (a b : Option (List ℕ)) (xs ys : List ℕ) → AppendsPart a b xs → AppendsPart a b (xs ++ ys)
+prefix_more a b xs ys f = (f.0, f.1 ++ ys, ap (λ zs. zs ++ ys) f.2 ∙ append_assoc f.0 f.1 ys, omega (arith, length-append f.1 ys, f.3), f.4)
 
-pub front_on : (a b c : Option (List ℕ)) (xs ys : List ℕ) → Appends a b xs → AppendsPart b c ys → AppendsPart a c (xs ++ ys)
-front_on a b c xs ys p q = (xs ++ q.0, q.1, ap (λ zs. xs ++ zs) q.2 ∙ sym (append_assoc xs q.0 q.1), q.3, Appends-trans a b c xs q.0 p q.4)
+pub prefix_on : (a b c : Option (List ℕ)) (xs ys : List ℕ) → Appends a b xs → AppendsPart b c ys → AppendsPart a c (xs ++ ys)
+prefix_on a b c xs ys p q = (xs ++ q.0, q.1, ap (λ zs. xs ++ zs) q.2 ∙ sym (append_assoc xs q.0 q.1), q.3, Appends-trans a b c xs q.0 p q.4)
 
 -- ---- parts of channels, as many and each as long
 abbrev pub from_to : ℕ → ℕ → BitRange
@@ -61,7 +61,7 @@ module _ (to : Interleaving) (zs : List (List Bool)) (long : ℕ) (some : 1 ≤ 
   pub nothing_yet : sound_of to zs 0 0 ≡ []
   nothing_yet = none_laced to (map (within (from_to 0 0)) zs) (part_long 0 0 0 some (omega arith))
 
-  -- whole groups, and what comes behind them
+  -- whole groups, and what comes after them
   pub sound_join : (a b : ℕ) → a % 32768 ≡ 0 → a ≤ b → b ≤ long → sound_of to zs 0 b ≡ sound_of to zs 0 a ++ sound_of to zs a b
   sound_join a b groups order inside =
       let n = length zs in
@@ -86,20 +86,20 @@ module _ (to : Interleaving) (zs : List (List Bool)) (long : ℕ) (some : 1 ≤ 
       part_at 0 long c below ∙ ap (λ (k : ℕ). slice_range (get_or zs c []) 0 k) (sym (each c [] below)) ∙ slice_all (get_or zs c [])) in
       ap (laced_in to) same
 
-  -- a front of some groups is one of all
-  pub front_of_all : (old new : Option (List ℕ)) (b : ℕ) → b ≤ long → (b % 32768 ≡ 0) ⊎ (b ≡ long) → AppendsPart old new (sound_of to zs 0 b) → AppendsPart old new (laced_in to zs)
-  front_of_all old new b inside (inl groups) front =
-      subst (AppendsPart old new) (sym (sound_join b long groups inside (omega arith)) ∙ sound_whole) (front_more old new (sound_of to zs 0 b) (sound_of to zs b long) front)
-  front_of_all old new b inside (inr all) front = subst (AppendsPart old new) (ap (sound_of to zs 0) all ∙ sound_whole) front
+  -- a prefix of some groups is one of all
+  pub prefix_of_all : (old new : Option (List ℕ)) (b : ℕ) → b ≤ long → (b % 32768 ≡ 0) ⊎ (b ≡ long) → AppendsPart old new (sound_of to zs 0 b) → AppendsPart old new (laced_in to zs)
+  prefix_of_all old new b inside (inl groups) prefix =
+      subst (AppendsPart old new) (sym (sound_join b long groups inside (omega arith)) ∙ sound_whole) (prefix_more old new (sound_of to zs 0 b) (sound_of to zs b long) prefix)
+  prefix_of_all old new b inside (inr all) prefix = subst (AppendsPart old new) (ap (sound_of to zs 0) all ∙ sound_whole) prefix
 
 -- ---- stretch by stretch
--- so many bits of each best channel were written
+-- n bits of each best channel were written
 abbrev pub HasWritten : CutContent → Interleaving → ℕ → Option (List ℕ) → Option (List ℕ) → Type 0
 HasWritten cut to done old new = (zs : List (List Bool)) → AreBestChannels cut zs → Appends old new (sound_of to zs 0 done)
 
-module _ (cut : CutContent) (to : Interleaving) (one : HasOneBest cut) (some : 1 ≤ channel_number cut) where
+module _ (cut : CutContent) (to : Interleaving) (one : HasOneBest cut) (some : 1 ≤ take_channels cut) where
   some_best : 1 ≤ length one.channels
-  some_best = omega (arith, some, zip_numbers_long (IsBestChannel cut) (channel_number cut) one.channels one.best)
+  some_best = omega (arith, some, zip_numbers_long (IsBestChannel cut) (take_channels cut) one.channels one.best)
 
   pub written_nothing : (old : Option (List ℕ)) → HasWritten cut to 0 old old
   written_nothing old zs best =
@@ -114,15 +114,15 @@ module _ (cut : CutContent) (to : Interleaving) (one : HasOneBest cut) (some : 1
       let all : Appends old new (sound_of to ws 0 a ++ sound_of to ws a b) = Appends-trans old mid new (sound_of to ws 0 a) (sound_of to ws a b) (before ws one.best) here in
       subst (λ l. Appends old new (sound_of to l 0 b)) (sym same) (subst (Appends old new) (sym (sound_join to ws (master_length cut.splice.cues) some_best one.long a b groups order inside)) all)
 
-  pub written_front : (a b : ℕ) (old mid new : Option (List ℕ)) → a % 32768 ≡ 0 → a ≤ b → b ≤ master_length cut.splice.cues → (b % 32768 ≡ 0) ⊎ (b ≡ master_length cut.splice.cues) → HasWritten cut to a old mid → WritesPartPrefix cut to (from_to a b) mid new → WritesBestPrefix cut to old new
-  written_front a b old mid new groups order inside last before part =
+  pub written_prefix : (a b : ℕ) (old mid new : Option (List ℕ)) → a % 32768 ≡ 0 → a ≤ b → b ≤ master_length cut.splice.cues → (b % 32768 ≡ 0) ⊎ (b ≡ master_length cut.splice.cues) → HasWritten cut to a old mid → WritesPartPrefix cut to (from_to a b) mid new → WritesBestPrefix cut to old new
+  written_prefix a b old mid new groups order inside last before part =
       let ws = one.channels in
       let here : AppendsPart mid new (sound_of to ws a b) = subst (λ l. AppendsPart mid new (sound_of to l a b)) (one.only part.channels part.best) part.written in
-      let all : AppendsPart old new (sound_of to ws 0 a ++ sound_of to ws a b) = front_on old mid new (sound_of to ws 0 a) (sound_of to ws a b) (before ws one.best) here in
+      let all : AppendsPart old new (sound_of to ws 0 a ++ sound_of to ws a b) = prefix_on old mid new (sound_of to ws 0 a) (sound_of to ws a b) (before ws one.best) here in
       record {
         channels = ws;
         best = one.best;
-        written = front_of_all to ws (master_length cut.splice.cues) some_best one.long old new b inside last (subst (AppendsPart old new) (sym (sound_join to ws (master_length cut.splice.cues) some_best one.long a b groups order inside)) all);
+        written = prefix_of_all to ws (master_length cut.splice.cues) some_best one.long old new b inside last (subst (AppendsPart old new) (sym (sound_join to ws (master_length cut.splice.cues) some_best one.long a b groups order inside)) all);
       }
 
   pub written_whole : (old new : Option (List ℕ)) → HasWritten cut to (master_length cut.splice.cues) old new → WritesBest cut to old new
@@ -140,13 +140,13 @@ next_place from stretch long stop groups whole less is = elim (cases_lt stretch 
 ]
 
 -- ---- the parts of all channels
-module _ (cut : CutContent) (some : 1 ≤ channel_number cut) (range : BitRange) (parts : List (List Bool)) (are : AreBestParts cut range parts) where
-  pub parts_number : length parts ≡ channel_number cut
-  parts_number = ap length are.parts_are ∙ length-map are.wholes (within range) ∙ zip_numbers_long (IsBestChannel cut) (channel_number cut) are.wholes are.best
+module _ (cut : CutContent) (some : 1 ≤ take_channels cut) (range : BitRange) (parts : List (List Bool)) (are : AreBestParts cut range parts) where
+  pub parts_number : length parts ≡ take_channels cut
+  parts_number = ap length are.parts_are ∙ length-map are.wholes (within range) ∙ zip_numbers_long (IsBestChannel cut) (take_channels cut) are.wholes are.best
 
   part_length : range.stop ≤ master_length cut.splice.cues → (c : ℕ) (d : List Bool) → c < length parts → length (get_or parts c d) ≡ range.stop - range.start
   part_length inside c d lt =
-      let many : length are.wholes ≡ channel_number cut = zip_numbers_long (IsBestChannel cut) (channel_number cut) are.wholes are.best in
+      let many : length are.wholes ≡ take_channels cut = zip_numbers_long (IsBestChannel cut) (take_channels cut) are.wholes are.best in
       let there : c < length are.wholes = omega (arith, parts_number, many) in
       let z = get_or are.wholes c [] in
       let long : length z ≡ master_length cut.splice.cues = are.long c [] there in
@@ -190,15 +190,15 @@ parts_more cut range i rooms room lt so_far part =
       ];
     }
 
-pub parts_all : (cut : CutContent) (range : BitRange) (parts : List (List Bool)) → length parts ≡ channel_number cut → ArePartsUpTo cut range (channel_number cut) parts → AreBestParts cut range parts
+pub parts_all : (cut : CutContent) (range : BitRange) (parts : List (List Bool)) → length parts ≡ take_channels cut → ArePartsUpTo cut range (take_channels cut) parts → AreBestParts cut range parts
 parts_all cut range parts number up_to =
-    let many : length up_to.wholes ≡ channel_number cut = zip_numbers_long (IsBestChannel cut) (channel_number cut) up_to.wholes up_to.best in
+    let many : length up_to.wholes ≡ take_channels cut = zip_numbers_long (IsBestChannel cut) (take_channels cut) up_to.wholes up_to.best in
     record {
       wholes = up_to.wholes;
       best = up_to.best;
       long = up_to.long;
       parts_are = ext_get_or [] parts (map (within range) up_to.wholes) (number ∙ sym many ∙ sym (length-map up_to.wholes (within range))) (λ c lt.
-          let below : c < channel_number cut = omega (arith, number) in
+          let below : c < take_channels cut = omega (arith, number) in
           let there : c < length up_to.wholes = omega (arith, many) in
           up_to.at c below ∙ sym (get_or-map (within range) up_to.wholes c [] [] there));
     }

@@ -2,7 +2,7 @@
 use Rattle.std.specs.Prelude.{ℕ, Bool, List, ◌++◌, All, flat_map, length, map}
 use Rattle.cost_core.specs.Limits.{IsBridging}
 use Rattle.cost_core.specs.StateCosts.{trellis_of}
-use Rattle.trellis_core.specs.Handing.{cut_at}
+use Rattle.trellis_core.specs.Handing.{capped_at}
 use Rattle.trellis_core.specs.LeastSums.{least_rows}
 use Rattle.cert_core.specs.Certificates.{Claim, IsCert}
 use Rattle.cert_core.specs.Text.{Entry, cert_entry, cert_head}
@@ -13,7 +13,7 @@ use Rattle.judge_core.specs.Claims.{IsLeastClaim, claim_cost, claims}
 -- the rows of a claim: for each level and each state the least sum of steps over all lists of bits that lead there, or
 -- the cost of the claim's bits if that is less
 abbrev pub claim_rows : Claim → List (List ℕ)
-claim_rows claim = map (cut_at (claim_cost claim)) (least_rows (trellis_of claim.bridging))
+claim_rows claim = map (capped_at (claim_cost claim)) (least_rows (trellis_of claim.bridging))
 
 -- the entry of a claim: these rows, and the cost of its bits
 abbrev pub claim_entry : Claim → Entry

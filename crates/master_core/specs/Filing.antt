@@ -8,12 +8,12 @@ use Rattle.form_core.specs.declared.form.Form.{Form}
 use Rattle.form_core.specs.declared.parts.Ends.{Ends}
 use Rattle.form_core.specs.Forms.{text_in}
 use Rattle.form_core.specs.Parts.{FitsIn, head_in, tail_in}
-use Rattle.cut_core.specs.Cuts.{CutContent, channel_number, master_length}
+use Rattle.cut_core.specs.Cuts.{CutContent, master_length, take_channels}
 use Rattle.master_core.specs.Best.{AreBestChannels, master_of}
 
 -- the recording of a master without its bits
 abbrev pub silent_master : CutContent → Form → Content
-silent_master cut form = master_of cut form (replicate (channel_number cut) [])
+silent_master cut form = master_of cut form (replicate (take_channels cut) [])
 
 -- the bytes before and after the sound in the master's file, few enough for it to be read again
 pub record AreMasterEnds (cut : CutContent) (form : Form) (ends : Ends) : Type 0 where

@@ -6,7 +6,7 @@ use Rattle.dsd_bits.specs.declared.interleaving.Interleaving.{Interleaving}
 use Rattle.dsd_bits.specs.declared.stretches.BitRange.{BitRange}
 use Rattle.dsd_bits.specs.Rooms.{RoomContent}
 use Rattle.interleave_core.specs.Reinterleaving.{laced_in}
-use Rattle.cut_core.specs.Cuts.{CutContent, channel_number, master_length}
+use Rattle.cut_core.specs.Cuts.{CutContent, master_length, take_channels}
 use Rattle.master_core.specs.Best.{AreBestChannels}
 use Rattle.master_core.specs.Parting.{within}
 use Rattle.master_core.specs.declared.writing.MasterRoom.{MasterRoom}
@@ -19,10 +19,10 @@ pub record AreRooms (number most : ℕ) (rooms : List RoomContent) : Type 0 wher
 -- a `MasterRoom` is large enough to write a master of the cut: for whole groups of blocks of its channels, and for
 -- their sound bytes
 pub record IsRoomFor (cut : CutContent) (room : MasterRoom) : Type 0 where
-  pub rooms : AreRooms (channel_number cut) room.stretch room.rooms.items
+  pub rooms : AreRooms (take_channels cut) room.stretch room.rooms.items
   pub some : 32768 ≤ room.stretch
   pub groups : room.stretch % 32768 ≡ 0
-  pub fits : room.stretch / 32768 * channel_number cut ≤ 16
+  pub fits : room.stretch / 32768 * take_channels cut ≤ 16
   pub held : 65536 ≤ vec_capacity room.out
 
 -- the cut has one list of best channels, each as long as the master, and no other

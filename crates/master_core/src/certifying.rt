@@ -10,13 +10,14 @@ ghost use Rattle.master_core.specs.Choosing.{AreBridgesOf, IsChosen, chosen_clai
 ghost use Rattle.trellis_core.specs.Passes.{HasBuffers};
 
 use crate::choosing::ChosenBridges;
+use crate::watch::Watch;
 use cert_core::{CertRoom, CertWriter, Version};
 use chunk_core::{Device, Outlet};
 use cost_core::Window;
 use cut_core::{BridgePlace, Cut};
 use std::alloc::{AllocError, Global};
 use std::io::Write;
-use trellis_core::{Chosen, PassRoom, hand_cut};
+use trellis_core::{Chosen, PassRoom, hand_capped};
 
 /// All memory that writing the certificate of a cut takes: for a pass over the levels of a bridge, and for the bytes of
 /// a row.
@@ -40,14 +41,15 @@ impl CertifyingRoom {
 
 /// Writes the certificate, of the second version, that shows the chosen bits of each bridge of a cut to be least, and
 /// returns the outlet. The text is a function of the cut and the bits. The rows of each bridge are made while they are
-/// written. It takes no memory.
+/// written. It takes no memory. Before each bridge the watch is told how many were written.
 ///
 /// Refusal: `Device` if a write fails; a prefix of the certificate was written.
-pub fn certify<W: Write>(
+pub fn certify<W: Write, T: Watch>(
     cut: &Cut,
     bridges: &ChosenBridges,
     room: CertifyingRoom,
     outlet: Outlet<W>,
+    watch: &T,
 ) -> (Result<(), Device>, Outlet<W>)
     requires bridges { AreBridgesOf cut.now bridges.now }
     requires room { IsRoomOf cut.now room }
@@ -61,7 +63,7 @@ pub fn certify<W: Write>(
 {
     let CertifyingRoom { mut pass, row } = room;
     let mut writer = CertWriter::in_room(outlet, row, Version::Two);
-    let came = write_cert(cut, bridges, &mut pass, &mut writer);
+    let came = write_cert(cut, bridges, &mut pass, &mut writer, watch);
     (came, writer.finish())
 }
 
@@ -71,11 +73,12 @@ pub fn certificates_show()
 {}
 
 // Writes the head and then all entries.
-fn write_cert<W: Write>(
+fn write_cert<W: Write, T: Watch>(
     cut: &Cut,
     bridges: &ChosenBridges,
     pass: &mut PassRoom,
     writer: &mut CertWriter<W>,
+    watch: &T,
 ) -> Result<(), Device>
     requires bridges { AreBridgesOf cut.now bridges.now }
     requires room { HasBuffers (2 ^ (length cut.now.splice.weights - 1)) pass.old }
@@ -90,15 +93,16 @@ fn write_cert<W: Write>(
     let Ok(()) = writer.begin(bridges.places.len() as u32) else {
         return Err(Device);
     };
-    write_entries(cut, bridges, pass, writer)
+    write_entries(cut, bridges, pass, writer, watch)
 }
 
 // Writes the entries of all bridges.
-fn write_entries<W: Write>(
+fn write_entries<W: Write, T: Watch>(
     cut: &Cut,
     bridges: &ChosenBridges,
     pass: &mut PassRoom,
     writer: &mut CertWriter<W>,
+    watch: &T,
 ) -> Result<(), Device>
     requires bridges { AreBridgesOf cut.now bridges.now }
     requires room { HasBuffers (2 ^ (length cut.now.splice.weights - 1)) pass.old }
@@ -114,6 +118,7 @@ fn write_entries<W: Write>(
 {
     cut.can_cut();
     for k in 0..bridges.places.len() {
+        watch.tell(k, bridges.places.len());
         let window = &bridges.windows[k];
         write_entry(bridges.places[k], window, &bridges.chosen[k], pass, writer)?;
     }
@@ -149,7 +154,7 @@ fn write_entry<W: Write>(
     let Ok(()) = writer.begin_bridge(cue as u16, channel as u16, length as u16) else {
         return Err(Device);
     };
-    let Ok(()) = hand_cut(window, pass, chosen.cost, writer) else {
+    let Ok(()) = hand_capped(window, pass, chosen.cost, writer) else {
         return Err(Device);
     };
     let Ok(()) = writer.end_bridge(chosen.cost) else {

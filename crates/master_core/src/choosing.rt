@@ -3,7 +3,7 @@
 ghost use Rattle.std.specs.Prelude.{◌≡◌, ◌+◌, ◌<◌, IfOk, MatchOption, length};
 ghost use Rattle.cost_core.specs.Limits.{IsBridging};
 ghost use Rattle.cut_core.specs.Bridges.{IsPlace, bridges};
-ghost use Rattle.cut_core.specs.Cuts.{channel_number};
+ghost use Rattle.cut_core.specs.Cuts.{take_channels};
 ghost use Rattle.master_core.specs.Choosing as specs;
 ghost use Rattle.master_core.specs.Choosing.{AreBridgesOf, AreChosen, IsChosen, IsChosenAt, IsNoBridge, window_at};
 
@@ -40,8 +40,8 @@ struct Choice {
     chosen: Chosen,
 }
 
-/// The bits of least cost for each bridge of a cut; of several such lists the first. The watch is told how many were
-/// searched, before each and at the end. Err is out of memory.
+/// The bits of least cost for each bridge of a cut; of several such lists the first. Before each the watch
+/// is told how many were searched. Err is out of memory.
 pub(crate) fn choose_bridges<W: Watch>(
     alloc: Global,
     cut: &Cut,
@@ -64,7 +64,6 @@ pub(crate) fn choose_bridges<W: Watch>(
         windows.push_reserved(window);
         chosen.push_reserved(bits);
     }
-    watch.tell(places.len(), places.len());
     Ok(ChosenBridges {
         places,
         windows,
@@ -104,7 +103,7 @@ pub(crate) fn chosen_at<'a>(
 ) -> Option<&'a Chosen>
     requires places { places.now ≡ bridges cut.now }
     requires chosen { AreChosen cut.now chosen.now }
-    requires channel { place.channel < channel_number cut.now }
+    requires channel { place.channel < take_channels cut.now }
     requires cue { place.cue + 1 < length cut.now.splice.cues }
     ensures { MatchOption result (IsNoBridge cut.now place) (λ bridge. IsChosenAt cut.now place bridge.now) }
 {

@@ -94,7 +94,7 @@ pub fn write_master<W: Write>(
     ensures room { IsRoomFor cut.now room.new }
     ensures ok { OnOk result (WritesMaster cut.now form (W.contents (outlet_writer outlet.old))
         (W.contents (outlet_writer outlet.new))) }
-    ensures front { OnErr result (WritesMasterPrefix cut.now form (W.contents (outlet_writer outlet.old))
+    ensures prefix { OnErr result (WritesMasterPrefix cut.now form (W.contents (outlet_writer outlet.old))
         (W.contents (outlet_writer outlet.new))) }
     ensures failures { MatchResult result
         (λ _. outlet_failures outlet.new ≡ outlet_failures outlet.old)

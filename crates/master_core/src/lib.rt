@@ -1,7 +1,7 @@
 //! Masters of a cut: planned with least bridges and written with their certificate.
 //!
-//! [`plan`] searches each bridge of a [`Cut`](cut_core::Cut), tells a [`Watch`] how far it has come, and takes all memory
-//! that writing needs. [`write_master`] writes the file of the best master, and [`certify`] the certificate that shows
+//! [`plan`] takes all memory that writing needs, tells a [`Watch`] how large the files will be, and then searches each
+//! bridge of a [`Cut`](cut_core::Cut). As it searches, and as [`certify`] writes, the watch is told how far it has come. [`write_master`] writes the file of the best master, and [`certify`] the certificate that shows
 //! its bridges to be least, while its rows are made. Both walk one list, the bridges of the cut by rising cue and then by
 //! rising channel: `choosing.rt` searches them, `certifying.rt` makes their rows again and writes their entries. Whether
 //! a recording is a master, and what it costs, is defined by [`judge_core`], which judges what is written here.
@@ -25,9 +25,9 @@
 //!   `specs/Filing.antt`).
 //!
 //! ```text
-//! let Planned { bridges, ends, mut room, cert_room } = plan(alloc, &cut, form)?;
+//! let Planned { bridges, ends, mut room, cert_room } = plan(alloc, &cut, form, &watch)?;
 //! write_master(&cut, &bridges, form, &ends, &mut room, &mut outlet)?;
-//! let (came, outlet) = certify(&cut, &bridges, cert_room, outlet_of_certificate);
+//! let (came, outlet) = certify(&cut, &bridges, cert_room, outlet_of_certificate, &watch);
 //! ```
 #![tactic(auto)]
 
@@ -36,6 +36,7 @@ mod choosing;
 mod filing;
 mod parting;
 mod planning;
+mod sizes;
 mod watch;
 mod writing;
 

@@ -1,7 +1,7 @@
 //! The part of a master's channel in a range, put into reserved memory.
 
 ghost use Rattle.std.specs.Prelude.{◌≡◌, ◌+◌, ◌-◌, ◌<◌, ◌≤◌, ◌++◌, [], length};
-ghost use Rattle.cut_core.specs.Cuts.{channel_number, cue_at, cue_bits};
+ghost use Rattle.cut_core.specs.Cuts.{cue_at, cue_bits, take_channels};
 ghost use Rattle.judge_core.specs.Claims.{bridge_start};
 ghost use Rattle.master_core.specs.Best.{IsFirstLeastPart};
 ghost use Rattle.judge_core.specs.Masters.{part_at};
@@ -32,7 +32,7 @@ pub(crate) fn push_part(
     range: BitRange,
 )
     requires ready { HasChosen source.now }
-    requires channel { channel < channel_number source.now.cut.now }
+    requires channel { channel < take_channels source.now.cut.now }
     requires empty { room.old.bits ≡ [] }
     requires in_room { range.stop - range.start ≤ room.old.most }
     ensures most { room.new.most ≡ room.old.most }
@@ -58,7 +58,7 @@ fn push_step(
     range: BitRange,
 )
     requires ready { HasChosen source.now }
-    requires channel { place.channel < channel_number source.now.cut.now }
+    requires channel { place.channel < take_channels source.now.cut.now }
     requires cue { place.cue + 1 < length source.now.cut.now.splice.cues }
     requires start { at ≡ bridge_start source.now.cut.now place.cue }
     requires in_room { length room.old.bits + ((range.stop - at) - (range.start - at)) ≤ room.old.most }
@@ -101,7 +101,7 @@ fn counted_from(range: BitRange, at: usize) -> BitRange
 
 // Adds the part of a cue in a channel that is in a range of it.
 fn push_cue_part(room: &mut BitRoom, cut: &Cut, channel: usize, cue: usize, range: BitRange)
-    requires channel { channel < channel_number cut.now }
+    requires channel { channel < take_channels cut.now }
     requires cue { cue < length cut.now.splice.cues }
     requires in_room { length room.old.bits + (range.stop - range.start) ≤ room.old.most }
     ensures { room.new ≡ record room.old { bits = room.old.bits ++ within range (cue_bits cut.now channel cue) } }
@@ -123,7 +123,7 @@ fn push_bridge_part(
     range: BitRange,
 )
     requires ready { HasChosen source.now }
-    requires channel { place.channel < channel_number source.now.cut.now }
+    requires channel { place.channel < take_channels source.now.cut.now }
     requires cue { place.cue + 1 < length source.now.cut.now.splice.cues }
     requires in_room { length room.old.bits + (range.stop - range.start) ≤ room.old.most }
     ensures most { room.new.most ≡ room.old.most }

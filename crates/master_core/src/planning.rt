@@ -13,6 +13,7 @@ ghost use Rattle.master_core.specs.Writing.{IsRoomFor};
 use crate::certifying::CertifyingRoom;
 use crate::choosing::{ChosenBridges, choose_bridges};
 use crate::filing::master_ends;
+use crate::sizes::{master_size, most_of_certificate};
 use crate::watch::Watch;
 use crate::writing::{MasterRoom, master_room};
 use cost_core::{least_together, places_are_windows};
@@ -39,7 +40,7 @@ pub struct Planned {
 /// the first bit of each titled cue. No master of the cut, with whatever bridges of these lengths, costs less. Its
 /// channels are never in memory: [`write_master`](crate::write_master) writes its file, [`certify`](crate::certify) the
 /// certificate that shows each of its bridges to be least, and neither takes memory. The watch is
-/// told how far the search has come.
+/// told how large both files will be, and then how far the search has come.
 ///
 /// Refusals: `NotWholeBytes` only if the form is DSDIFF and the channels would end inside a byte; `Memory`.
 pub fn plan<W: Watch>(
@@ -57,10 +58,11 @@ pub fn plan<W: Watch>(
     ensures not_whole_bytes { IfErr result (λ fault. fault ≡ WriteFault.NotWholeBytes
         → FitsIn form (master_length cut.now.splice.cues) → ⊥) }
 {
-    let bridges = choose_bridges(alloc, cut, watch)?;
+    let ends = master_ends(alloc, cut, form)?;
     let cert_room = CertifyingRoom::new(alloc, cut)?;
     let room = master_room(alloc, cut)?;
-    let ends = master_ends(alloc, cut, form)?;
+    watch.tell_sizes(master_size(cut, form, &ends), most_of_certificate(cut));
+    let bridges = choose_bridges(alloc, cut, watch)?;
     is_master(cut, form, &bridges, &ends);
     Ok(Planned {
         bridges,

@@ -8,7 +8,7 @@ ghost use Rattle.dsd_bits.specs.Channels.{IsLevel, count_of};
 ghost use Rattle.dsd_bits.specs.Rooms.{rooms_bits};
 ghost use Rattle.dsd_bits.specs.Sounds.{sound_size};
 ghost use Rattle.interleave_core.specs.Reinterleaving.{laced_in};
-ghost use Rattle.cut_core.specs.Cuts.{channel_number, master_length};
+ghost use Rattle.cut_core.specs.Cuts.{master_length, take_channels};
 ghost use Rattle.master_core.specs.Parting.{AreBestParts, IsBestPart, HasChosen};
 ghost use Rattle.master_core.specs.Writing.{AreRooms, HasOneBest, IsRoomFor, WritesBest, WritesBestPrefix, WritesPart, WritesPartPrefix};
 
@@ -83,7 +83,7 @@ pub fn write_sound<W: Write>(
     ensures room { IsRoomFor source.now.cut.now room.new }
     ensures ok { OnOk result (WritesBest source.now.cut.now to (W.contents (outlet_writer outlet.old))
         (W.contents (outlet_writer outlet.new))) }
-    ensures front { OnErr result (WritesBestPrefix source.now.cut.now to (W.contents (outlet_writer outlet.old))
+    ensures prefix { OnErr result (WritesBestPrefix source.now.cut.now to (W.contents (outlet_writer outlet.old))
         (W.contents (outlet_writer outlet.new))) }
     ensures failures { MatchResult result
         (λ _. outlet_failures outlet.new ≡ outlet_failures outlet.old)
@@ -119,7 +119,7 @@ fn write_stretch<W: Write>(
     ensures stretch { room.new.stretch ≡ room.old.stretch }
     ensures ok { OnOk result (WritesPart source.now.cut.now to range (W.contents (outlet_writer outlet.old))
         (W.contents (outlet_writer outlet.new))) }
-    ensures front { OnErr result (WritesPartPrefix source.now.cut.now to range (W.contents (outlet_writer outlet.old))
+    ensures prefix { OnErr result (WritesPartPrefix source.now.cut.now to range (W.contents (outlet_writer outlet.old))
         (W.contents (outlet_writer outlet.new))) }
     ensures failures { MatchResult result
         (λ _. outlet_failures outlet.new ≡ outlet_failures outlet.old)
@@ -135,7 +135,7 @@ fn write_stretch<W: Write>(
 // Fills the `BitRoom` of each channel with its part in a range.
 fn fill_rooms(rooms: &mut Vec<BitRoom>, source: &MasterSource<'_>, range: BitRange)
     requires ready { HasChosen source.now }
-    requires number { length rooms.old.items ≡ channel_number source.now.cut.now }
+    requires number { length rooms.old.items ≡ take_channels source.now.cut.now }
     requires fits { All (λ room. range.stop - range.start ≤ room.most) rooms.old.items }
     ensures most { map (λ room. room.most) rooms.new.items ≡ map (λ room. room.most) rooms.old.items }
     ensures parts { AreBestParts source.now.cut.now range (rooms_bits rooms.new.items) }
@@ -148,7 +148,7 @@ fn fill_rooms(rooms: &mut Vec<BitRoom>, source: &MasterSource<'_>, range: BitRan
 // Fills the `BitRoom` of a channel.
 fn fill_room(room: &mut BitRoom, source: &MasterSource<'_>, channel: usize, range: BitRange)
     requires ready { HasChosen source.now }
-    requires channel { channel < channel_number source.now.cut.now }
+    requires channel { channel < take_channels source.now.cut.now }
     requires in_room { range.stop - range.start ≤ room.old.most }
     ensures most { room.new.most ≡ room.old.most }
     ensures part { IsBestPart source.now.cut.now channel range room.new.bits }

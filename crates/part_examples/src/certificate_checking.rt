@@ -69,14 +69,14 @@ const FOUR: CertVerdict = CertVerdict::Accepted { cost: 4 };
 fn reads_of_one_byte_are_enough(rt: HostRuntime) -> Result<(), Fail> {
     for cert in &CERTIFICATES {
         let reader = drip(cert, 1, u64::MAX);
-        let told = checked(rt.alloc(), newest(rt.alloc()), 0x00, reader)?;
-        assert!(rt; told == FOUR, "{} bytes", cert.len());
+        let reported = checked(rt.alloc(), newest(rt.alloc()), 0x00, reader)?;
+        assert!(rt; reported == FOUR, "{} bytes", cert.len());
     }
     Ok(())
 }
 
 // Whether the failure of a read is returned as `Device`. Each read gives at most `most` bytes.
-fn tells_a_failed_read(alloc: Global, cert: &[u8], most: usize, read: u64) -> bool {
+fn reports_a_failed_read(alloc: Global, cert: &[u8], most: usize, read: u64) -> bool {
     let reader = drip(cert, most, read);
     checked(alloc, newest(alloc), 0x00, reader) == Err(CheckFault::Device)
 }
@@ -87,14 +87,14 @@ fn tells_a_failed_read(alloc: Global, cert: &[u8], most: usize, read: u64) -> bo
 fn a_failed_read_is_no_reason(rt: HostRuntime) {
     for read in 1..7 {
         assert!(rt;
-            tells_a_failed_read(rt.alloc(), &WORKED, 100, read),
+            reports_a_failed_read(rt.alloc(), &WORKED, 100, read),
             "read {read}"
         );
     }
     for cert in &CERTIFICATES {
         for read in 1..cert.len() as u64 + 2 {
             assert!(rt;
-                tells_a_failed_read(rt.alloc(), cert, 1, read),
+                reports_a_failed_read(rt.alloc(), cert, 1, read),
                 "byte {read}"
             );
         }

@@ -120,9 +120,9 @@ fn are_answers(answers: &[Result<(), CertFault>], worked: &Worked, write: usize)
 fn is_written(alloc: Global, worked: &Worked) -> Result<bool, AllocError> {
     let room = Vec::with_capacity(alloc, worked.bytes.len())?;
     let written = written(alloc, Outlet::new(room), worked)?;
-    let is_told = are_answers(&written.answers, worked, usize::MAX) && !written.is_refused;
+    let is_reported = are_answers(&written.answers, worked, usize::MAX) && !written.is_refused;
     let bytes = written.outlet.into_inner();
-    Ok(is_told && bytes.as_slice() == worked.bytes)
+    Ok(is_reported && bytes.as_slice() == worked.bytes)
 }
 
 #[test]
@@ -150,15 +150,15 @@ fn leaves(
 {
     let outlet = Outlet::new(sip(alloc, fails_at, full_from));
     let written = written(alloc, outlet, worked)?;
-    let is_told = are_answers(&written.answers, worked, write) && written.refuses_rows;
+    let is_reported = are_answers(&written.answers, worked, write) && written.refuses_rows;
     let is_once = written.outlet.failures() == 1;
     let device = written.outlet.into_inner();
-    let is_front = worked.bytes.get(..write - 1) == Some(device.bytes.as_slice());
-    Ok(is_told && is_once && is_front && device.writes == write as u64)
+    let is_prefix = worked.bytes.get(..write - 1) == Some(device.bytes.as_slice());
+    Ok(is_reported && is_once && is_prefix && device.writes == write as u64)
 }
 
 // Whether this holds for both writers. Each write takes one byte.
-fn leaves_a_front(alloc: Global, worked: &Worked, write: usize) -> Result<bool, AllocError>
+fn leaves_a_prefix(alloc: Global, worked: &Worked, write: usize) -> Result<bool, AllocError>
     requires { 1 ≤ write }
 {
     let place = write as u64;
@@ -167,10 +167,10 @@ fn leaves_a_front(alloc: Global, worked: &Worked, write: usize) -> Result<bool, 
 }
 
 #[test]
-fn a_failed_write_leaves_a_front(rt: HostRuntime) {
+fn a_failed_write_leaves_a_prefix(rt: HostRuntime) {
     for worked in CERTIFICATES {
         for write in 1..worked.bytes.len() + 1 {
-            let is_left = leaves_a_front(rt.alloc(), worked, write);
+            let is_left = leaves_a_prefix(rt.alloc(), worked, write);
             assert!(rt; is_left.unwrap_or(false), "write {write}");
         }
     }

@@ -9,7 +9,7 @@ pub(crate) const WORKED: [u8; 58] = [
     0, 0, 0, 0, 0, 0, 0, 4, // cost
 ];
 
-/// The same in the second version. Its rows are cut at the cost 4. The first is 4 and 0: the least value 0 in eight
+/// The same in the second version. Its rows are capped at the cost 4. The first is 4 and 0: the least value 0 in eight
 /// bytes, the width of one byte, and the excesses 4 and 0. The second is 4 and 4: the least value 4 in eight bytes, and
 /// the width 0, so no bytes for the excesses.
 pub(crate) const NARROW: [u8; 46] = [

@@ -26,7 +26,7 @@ fn each_gives(
 
 const RAMP: &[i32] = &[1, 2, 3, 4];
 
-const TURNED: &[i32] = &[-1, -2, -3, -4];
+const REVERSED: &[i32] = &[-1, -2, -3, -4];
 
 const LOUD: &[i32] = &[32_768];
 
@@ -43,9 +43,14 @@ type Played = (
 const CHANNELS: &[Played] = &[
     ("the sum", (RAMP, 3, 0), (&[0xf0], 8), &[10]),
     ("a part of it", (RAMP, 1, 0), (&[0xf0], 8), &[3]),
-    ("less than nothing", (TURNED, 3, 0), (&[0xf0], 8), &[-10]),
+    ("less than nothing", (REVERSED, 3, 0), (&[0xf0], 8), &[-10]),
     ("2.5, rounded upwards", (RAMP, 3, 2), (&[0xf0], 8), &[3]),
-    ("-2.5, rounded upwards", (TURNED, 3, 2), (&[0xf0], 8), &[-2]),
+    (
+        "-2.5, rounded upwards",
+        (REVERSED, 3, 2),
+        (&[0xf0], 8),
+        &[-2],
+    ),
     ("clipped above", (LOUD, 0, 0), (&[0xf0], 8), &[32_767]),
     ("clipped below", (LOUD, 0, 0), (&[0x0f], 8), &[-32_768]),
     ("before the first", (&[1; 9], 8, 0), (&[0xf0], 8), &[0]),
@@ -135,15 +140,15 @@ fn by_sixteen(alloc: Global) -> Result<Taps, TapsFault> {
 }
 
 // The factor and the width of this decimator, and which of two rates it divides.
-fn told(alloc: Global) -> Result<(u32, u32, [bool; 2]), TapsFault> {
+fn reported(alloc: Global) -> Result<(u32, u32, [bool; 2]), TapsFault> {
     let taps = by_sixteen(alloc)?;
     let rates = [taps.rate_fits(2_822_400), taps.rate_fits(2_822_408)];
     Ok((taps.factor(), taps.width(), rates))
 }
 
 #[test]
-fn tells_of_a_decimator(rt: HostRuntime) {
-    assert!(rt; told(rt.alloc()) == Ok((16, 24, [true, false])));
+fn reports_a_decimator(rt: HostRuntime) {
+    assert!(rt; reported(rt.alloc()) == Ok((16, 24, [true, false])));
 }
 
 // The sums and the sample that this decimator gives for one byte of bits.

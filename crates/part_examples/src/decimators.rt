@@ -55,7 +55,7 @@ const BROKEN: &[Broken] = &[
 ];
 
 // Whether exactly that limit is reported.
-fn is_told(alloc: Global, broken: &Broken) -> bool {
+fn is_reported(alloc: Global, broken: &Broken) -> bool {
     let (taps, (factor, delay, shift, width), fault, _) = *broken;
     Taps::new(alloc, taps, factor, delay, shift, width).err() == Some(fault)
 }
@@ -63,6 +63,6 @@ fn is_told(alloc: Global, broken: &Broken) -> bool {
 #[test]
 fn names_the_first_broken_limit(rt: HostRuntime) {
     for broken in BROKEN {
-        assert!(rt; is_told(rt.alloc(), broken), "{}", broken.3);
+        assert!(rt; is_reported(rt.alloc(), broken), "{}", broken.3);
     }
 }

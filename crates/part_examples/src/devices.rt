@@ -43,18 +43,18 @@ fn three_pulls(
 
 #[test]
 fn a_failed_read_is_counted(rt: HostRuntime) {
-    let (mut front, mut none, mut behind) = ([0; 8], [0; 8], [0; 8]);
-    let (pulls, left) = three_pulls(1, 2, &mut front, &mut none, &mut behind);
+    let (mut prefix, mut none, mut after) = ([0; 8], [0; 8], [0; 8]);
+    let (pulls, left) = three_pulls(1, 2, &mut prefix, &mut none, &mut after);
     assert!(rt; pulls == [(Ok(1), 0, 1, 1), (Err(Device), 1, 2, 1), (Ok(1), 1, 3, 2)]);
-    assert!(rt; behind[0] == b'b' && equal(left, b"c"));
+    assert!(rt; after[0] == b'b' && equal(left, b"c"));
 }
 
 #[test]
 fn the_end_is_no_failure(rt: HostRuntime) {
-    let (mut front, mut behind, mut none) = ([0; 8], [0; 8], [0; 8]);
-    let (pulls, _) = three_pulls(2, NEVER, &mut front, &mut behind, &mut none);
+    let (mut prefix, mut after, mut none) = ([0; 8], [0; 8], [0; 8]);
+    let (pulls, _) = three_pulls(2, NEVER, &mut prefix, &mut after, &mut none);
     assert!(rt; pulls == [(Ok(2), 0, 1, 2), (Ok(1), 0, 2, 3), (Ok(0), 0, 3, 3)]);
-    assert!(rt; equal(&front, b"ab\0\0\0\0\0\0") && equal(&behind, b"c\0\0\0\0\0\0\0"));
+    assert!(rt; equal(&prefix, b"ab\0\0\0\0\0\0") && equal(&after, b"c\0\0\0\0\0\0\0"));
 }
 
 // The write at which a writer fails, the write from which on it takes nothing, and what it is given.

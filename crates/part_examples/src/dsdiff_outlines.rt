@@ -1,6 +1,6 @@
 //! What the bytes around the sound of a DSDIFF 1.5 file state, and the file that is written around the sound from that.
 
-use crate::dsdiff_fronts::{MONO, VERSION, front_of};
+use crate::dsdiff_headers::{MONO, VERSION, prefix_of};
 use crate::dsdiff_writing::WITH_PARTS;
 use dsd_bits::{Other, Recording, SoundAt};
 use dsdiff_core::{DsdiffFault, outline, sound_at, write_head, write_tail};
@@ -8,11 +8,11 @@ use fixtures::compared::equal;
 use std::alloc::{AllocError, Global};
 use std::test::Fail;
 
-// The outline of a file that is `front`, the sound and `back`. If `front` doesn't end where the sound starts, the
+// The outline of a file that is `prefix`, the sound and `back`. If `prefix` doesn't end where the sound starts, the
 // answer is `AllocError`.
-fn outlined(alloc: Global, front: &[u8], back: &[u8]) -> Result<Option<Recording>, AllocError> {
-    match sound_at(alloc, front)? {
-        SoundAt::Found(sound) if sound.start == front.len() => match outline(alloc, front, back) {
+fn outlined(alloc: Global, prefix: &[u8], back: &[u8]) -> Result<Option<Recording>, AllocError> {
+    match sound_at(alloc, prefix)? {
+        SoundAt::Found(sound) if sound.start == prefix.len() => match outline(alloc, prefix, back) {
             Ok(recording) => Ok(Some(recording)),
             Err(DsdiffFault::Memory) => Err(AllocError),
             Err(_) => Ok(None),
@@ -23,17 +23,21 @@ fn outlined(alloc: Global, front: &[u8], back: &[u8]) -> Result<Option<Recording
 
 // `WITH_PARTS`, written again from what is around its one byte of sound; nothing if that is no outline.
 fn written_again(alloc: Global) -> Result<Vec<u8>, AllocError> {
-    let (front, rest) = WITH_PARTS.split_at(140);
-    match outlined(alloc, front, &rest[1..])? {
-        Some(told) => written_around(alloc, &told, &rest[..1]),
+    let (prefix, rest) = WITH_PARTS.split_at(140);
+    match outlined(alloc, prefix, &rest[1..])? {
+        Some(reported) => written_around(alloc, &reported, &rest[..1]),
         None => Ok(Vec::new(alloc)),
     }
 }
 
 // The file that is written around one byte of sound.
-fn written_around(alloc: Global, told: &Recording, sound: &[u8]) -> Result<Vec<u8>, AllocError> {
-    let tail = write_tail(alloc, told, 1)?;
-    let head = write_head(alloc, told, 1, tail.len())?;
+fn written_around(
+    alloc: Global,
+    reported: &Recording,
+    sound: &[u8],
+) -> Result<Vec<u8>, AllocError> {
+    let tail = write_tail(alloc, reported, 1)?;
+    let head = write_head(alloc, reported, 1, tail.len())?;
     [head.as_slice(), sound, &tail].concat(alloc)
 }
 
@@ -58,8 +62,8 @@ fn outlined_around(
     before: &[u8],
     back: &[u8],
 ) -> Result<Option<Recording>, AllocError> {
-    let front = front_of(alloc, &[VERSION, MONO, before], 1, back.len() as u64)?;
-    outlined(alloc, &front, back)
+    let prefix = prefix_of(alloc, &[VERSION, MONO, before], 1, back.len() as u64)?;
+    outlined(alloc, &prefix, back)
 }
 
 // Whether two chunks of these bytes are kept.
@@ -71,23 +75,23 @@ fn keeps(others: &[Other], early: &[u8], late: &[u8]) -> bool {
 }
 
 // Whether an outline has one channel of no bits, and first what precedes the sound.
-fn is_in_order(told: &Recording) -> bool {
-    (told.channels().len(), told.count()) == (1, 0)
-        && matches!(told.marks(), [first, second] if (first.hours, second.hours) == (1, 2))
-        && keeps(told.others(), &[0, 1], &[0, 2])
+fn is_in_order(reported: &Recording) -> bool {
+    (reported.channels().len(), reported.count()) == (1, 0)
+        && matches!(reported.marks(), [first, second] if (first.hours, second.hours) == (1, 2))
+        && keeps(reported.others(), &[0, 1], &[0, 2])
 }
 
 // Whether the outline of a file with both is in this order.
-fn tells_in_order(alloc: Global) -> Result<bool, AllocError> {
+fn reports_in_order(alloc: Global) -> Result<bool, AllocError> {
     match outlined_around(alloc, EARLY, LATE)? {
-        Some(told) => Ok(is_in_order(&told)),
+        Some(reported) => Ok(is_in_order(&reported)),
         None => Ok(false),
     }
 }
 
 #[test]
-fn tells_what_stands_before_the_sound_first(rt: HostRuntime) -> Result<(), Fail> {
-    assert!(rt; tells_in_order(rt.alloc())?);
+fn reports_what_is_before_the_sound_first(rt: HostRuntime) -> Result<(), Fail> {
+    assert!(rt; reports_in_order(rt.alloc())?);
     Ok(())
 }
 
@@ -95,11 +99,11 @@ fn tells_what_stands_before_the_sound_first(rt: HostRuntime) -> Result<(), Fail>
 const VERSION_AGAIN: &[u8] = b"\0FVER\0\0\0\0\0\0\0\x04\x01\x05\0\0";
 
 // Whether there is an outline of such a file.
-fn tells_of_two_versions(alloc: Global) -> Result<bool, AllocError> {
+fn reports_two_versions(alloc: Global) -> Result<bool, AllocError> {
     Ok(outlined_around(alloc, EARLY, VERSION_AGAIN)?.is_some())
 }
 
 #[test]
-fn tells_nothing_of_a_file_that_is_refused(rt: HostRuntime) {
-    assert!(rt; tells_of_two_versions(rt.alloc()) == Ok(false));
+fn finds_nothing_in_a_file_that_is_refused(rt: HostRuntime) {
+    assert!(rt; reports_two_versions(rt.alloc()) == Ok(false));
 }

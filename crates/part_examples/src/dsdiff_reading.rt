@@ -1,6 +1,6 @@
 //! DSDIFF 1.5 files and what they hold: channels, and chunks that are kept as they are.
 
-use crate::told::{Numbers, has_ids, has_sounds, numbers_of};
+use crate::reported::{Numbers, has_ids, has_sounds, numbers_of};
 use dsd_bits::{Place, Recording};
 use dsdiff_core::{DsdiffFault, read};
 use fixtures::compared::equal;
@@ -97,7 +97,7 @@ fn reads_six_channels(rt: HostRuntime) {
 }
 
 // Chunks after a sound: two edited masters, the second with a mark, and two others.
-const BEHIND: &[u8; 114] = b"DIIN\0\0\0\0\0\0\0\x0e\
+const AFTER: &[u8; 114] = b"DIIN\0\0\0\0\0\0\0\x0e\
     EMID\0\0\0\0\0\0\0\x01\x02\0\
     COMT\0\0\0\0\0\0\0\x01\x04\0\
     DIIN\0\0\0\0\0\0\0\x30\
@@ -110,7 +110,7 @@ fn with_others(alloc: Global) -> Result<Recording, DsdiffFault> {
     let loudspeakers = b"LSCO\0\0\0\0\0\0\0\x02\0\0";
     let start = b"ABSS\0\0\0\0\0\0\0\x01\x01\0";
     let parts = [RATE.as_slice(), &MONO, &NAMELESS, loudspeakers, start];
-    holding(alloc, &parts, &[0xf0], BEHIND)
+    holding(alloc, &parts, &[0xf0], AFTER)
 }
 
 // Whether the chunk with this number is kept at this place, with this ID and these bytes.

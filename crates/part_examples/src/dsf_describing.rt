@@ -3,65 +3,70 @@
 use dsd_bits::{BitOrder, Description};
 use dsf_core::{DsfFault, Located, describe, head, locate, outline, tag_at};
 use fixtures::compared::equal;
-use fixtures::files::DSF_FRONT;
+use fixtures::files::DSF_HEADER;
 use std::alloc::{AllocError, Global};
 use std::test::Fail;
 
 // The description of a file of `total` bytes that begins with a header up to its sound, and has this tag. For a header
 // that ends elsewhere the answer is out of memory.
-fn described(alloc: Global, front: &[u8], total: u64, tag: &[u8]) -> Result<Description, DsfFault> {
-    match locate(front) {
-        Located::Found(sound) if sound.start == front.len() => {
-            describe(alloc, front, total, tag.to_vec(alloc)?)
+fn described(
+    alloc: Global,
+    prefix: &[u8],
+    total: u64,
+    tag: &[u8],
+) -> Result<Description, DsfFault> {
+    match locate(prefix) {
+        Located::Found(sound) if sound.start == prefix.len() => {
+            describe(alloc, prefix, total, tag.to_vec(alloc)?)
         }
         _ => Err(DsfFault::Memory),
     }
 }
 
 // The place of the tag, None if a header doesn't end at its sound.
-fn tag_place(front: &[u8]) -> Option<u64> {
-    match locate(front) {
-        Located::Found(sound) if sound.start == front.len() => Some(tag_at(front)),
+fn tag_place(prefix: &[u8]) -> Option<u64> {
+    match locate(prefix) {
+        Located::Found(sound) if sound.start == prefix.len() => Some(tag_at(prefix)),
         _ => None,
     }
 }
 
 // Whether a description has all that the file with one bit holds, but its bit.
-fn is_one_bit(told: &Description) -> bool {
-    told.rate() == 2_822_400
-        && told.count() == 1
-        && told.ids() == [*b"C000"].as_slice()
-        && told.layout() == 1
-        && told.marks().is_empty()
-        && told.others().is_empty()
-        && told.tag().is_empty()
+fn is_one_bit(reported: &Description) -> bool {
+    reported.rate() == 2_822_400
+        && reported.count() == 1
+        && reported.ids() == [*b"C000"].as_slice()
+        && reported.layout() == 1
+        && reported.marks().is_empty()
+        && reported.others().is_empty()
+        && reported.tag().is_empty()
 }
 
 #[test]
-fn tells_all_but_the_bits(rt: HostRuntime) -> Result<(), Fail> {
-    let told = described(rt.alloc(), &DSF_FRONT[..92], 4188, &[])?;
-    assert!(rt; is_one_bit(&told));
-    assert!(rt; tag_place(&DSF_FRONT[..92]) == Some(0));
+fn states_all_but_the_bits(rt: HostRuntime) -> Result<(), Fail> {
+    let reported = described(rt.alloc(), &DSF_HEADER[..92], 4188, &[])?;
+    assert!(rt; is_one_bit(&reported));
+    assert!(rt; tag_place(&DSF_HEADER[..92]) == Some(0));
     Ok(())
 }
 
-// `DSF_FRONT` up to its sound, of a file whose tag is at 4188, after the block.
+// `DSF_HEADER` up to its sound, of a file whose tag is at 4188, after the block.
 const WITH_TAG: &[u8; 92] = b"DSD \x1c\0\0\0\0\0\0\0\x5c\x10\0\0\0\0\0\0\x5c\x10\0\0\0\0\0\0\
     fmt \x34\0\0\0\0\0\0\0\x01\0\0\0\0\0\0\0\x01\0\0\0\x01\0\0\0\0\x11\x2b\0\x01\0\0\0\
     \x01\0\0\0\0\0\0\0\0\x10\0\0\0\0\0\0\
     data\x0c\x10\0\0\0\0\0\0";
 
 #[test]
-fn tells_where_the_tag_stands(rt: HostRuntime) -> Result<(), Fail> {
-    let told = described(rt.alloc(), WITH_TAG, 4191, b"ID3")?;
+fn states_where_the_tag_is(rt: HostRuntime) -> Result<(), Fail> {
+    let reported = described(rt.alloc(), WITH_TAG, 4191, b"ID3")?;
     assert!(rt; tag_place(WITH_TAG) == Some(4188));
-    assert!(rt; equal(told.tag(), b"ID3"));
+    assert!(rt; equal(reported.tag(), b"ID3"));
     Ok(())
 }
 
 // The fault of a file of `total` bytes that begins like this, if it has one.
-fn fault_of(alloc: Global, front: &[u8], total: u64) -> Option<DsfFault> {
-    described(alloc, front, total, &[]).err()
+fn fault_of(alloc: Global, prefix: &[u8], total: u64) -> Option<DsfFault> {
+    described(alloc, prefix, total, &[]).err()
 }
 
 #[test]
@@ -74,7 +79,7 @@ fn names_what_is_cut(rt: HostRuntime) {
         "the block is cut"
     );
     assert!(rt;
-        fault_of(rt.alloc(), &DSF_FRONT[..92], 4187) == Some(DsfFault::DataCut),
+        fault_of(rt.alloc(), &DSF_HEADER[..92], 4187) == Some(DsfFault::DataCut),
         "no tag"
     );
     assert!(rt;
@@ -88,7 +93,7 @@ fn names_what_is_cut(rt: HostRuntime) {
 }
 
 #[test]
-fn names_a_tag_behind_the_end(rt: HostRuntime) {
+fn names_a_tag_after_the_end(rt: HostRuntime) {
     let mut late = *WITH_TAG;
     late[20] = 0x5d;
     assert!(rt; fault_of(rt.alloc(), &late, 4188) == Some(DsfFault::BadPointer));
@@ -96,10 +101,14 @@ fn names_a_tag_behind_the_end(rt: HostRuntime) {
 }
 
 // Whether there is an outline of a file of `total` bytes that begins with a header up to its sound.
-fn is_outlined(alloc: Global, front: &[u8], total: u64) -> Result<bool, AllocError> {
-    match locate(front) {
-        Located::Found(sound) if sound.start == front.len() && front.len() as u64 <= total => {
-            Ok(outline(alloc, front, total, Vec::new(alloc))?.is_some())
+fn is_outlined(alloc: Global, prefix: &[u8], total: u64) -> Result<bool, AllocError> {
+    match locate(prefix) {
+        Located::Found(sound) if sound.start == prefix.len() => {
+            match outline(alloc, prefix, total, Vec::new(alloc)) {
+                Ok(_) => Ok(true),
+                Err(DsfFault::Memory) => Err(AllocError),
+                Err(_) => Ok(false),
+            }
         }
         _ => Err(AllocError),
     }
@@ -113,20 +122,20 @@ fn outlines_what_is_described(rt: HostRuntime) {
 
 // The head that is written in this order of bits from the description of the file with one bit.
 fn head_in(alloc: Global, order: BitOrder) -> Result<Vec<u8>, DsfFault> {
-    let told = described(alloc, &DSF_FRONT[..92], 4188, &[])?;
-    Ok(head(alloc, &told, order)?)
+    let reported = described(alloc, &DSF_HEADER[..92], 4188, &[])?;
+    Ok(head(alloc, &reported, order)?)
 }
 
 #[test]
 fn writes_heads_from_descriptions(rt: HostRuntime) -> Result<(), Fail> {
-    let mut front = DSF_FRONT;
+    let mut prefix = DSF_HEADER;
     assert!(rt;
-        equal(&head_in(rt.alloc(), BitOrder::LeastFirst)?, &front[..92]),
+        equal(&head_in(rt.alloc(), BitOrder::LeastFirst)?, &prefix[..92]),
         "1 bit per sample"
     );
-    front[60] = 8;
+    prefix[60] = 8;
     assert!(rt;
-        equal(&head_in(rt.alloc(), BitOrder::MostFirst)?, &front[..92]),
+        equal(&head_in(rt.alloc(), BitOrder::MostFirst)?, &prefix[..92]),
         "8 bits per sample"
     );
     Ok(())

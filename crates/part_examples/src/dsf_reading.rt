@@ -1,9 +1,9 @@
 //! A DSF 1.01 file and what it holds.
 
-use crate::told::{Numbers, has_ids, has_sounds, numbers_of};
+use crate::reported::{Numbers, has_ids, has_sounds, numbers_of};
 use dsd_bits::{BitOrder, Recording};
 use dsf_core::{DsfFault, read};
-use fixtures::files::{DSF_FRONT, filled};
+use fixtures::files::{DSF_HEADER, filled};
 use std::alloc::Global;
 use std::test::Fail;
 
@@ -24,9 +24,9 @@ fn is_one_bit(recording: &Recording) -> bool {
         && has_ids(recording, &[*b"C000"])
 }
 
-// Whether the file of `DSF_FRONT` holds that bit, with the earliest bit of a byte as its lowest.
+// Whether the file of `DSF_HEADER` holds that bit, with the earliest bit of a byte as its lowest.
 fn holds_one_bit(alloc: Global) -> Result<bool, DsfFault> {
-    let file = filled(alloc, &DSF_FRONT, 4188)?;
+    let file = filled(alloc, &DSF_HEADER, 4188)?;
     let (recording, order) = read(alloc, &file)?;
     Ok(order == BitOrder::LeastFirst && is_one_bit(&recording))
 }

@@ -2,11 +2,11 @@
 
 ghost use Rattle.std.specs.Prelude.{◌≡◌, length, IfOk};
 
-use crate::told::{Numbers, has_ids, has_sound, numbers_of, sound_of};
+use crate::reported::{Numbers, has_ids, has_sound, numbers_of, sound_of};
 use dsd_bits::{BitOrder, Bits, Recording};
 use dsf_core::{DsfFault, read, write};
 use fixtures::compared::equal;
-use fixtures::files::{DSF_FRONT, dsf_of, filled};
+use fixtures::files::{DSF_HEADER, dsf_of, filled};
 use std::alloc::{AllocError, Global};
 use std::test::Fail;
 
@@ -114,9 +114,9 @@ fn written_again(alloc: Global, file: &[u8]) -> Result<Vec<u8>, DsfFault> {
     Ok(write(alloc, &recording, order)?)
 }
 
-// Whether the file of `DSF_FRONT` is written again as this one.
+// Whether the file of `DSF_HEADER` is written again as this one.
 fn is_written_again(alloc: Global, expected: &[u8]) -> Result<bool, DsfFault> {
-    let file = filled(alloc, &DSF_FRONT, 4188)?;
+    let file = filled(alloc, &DSF_HEADER, 4188)?;
     let again = written_again(alloc, &file)?;
     Ok(equal(&again, expected))
 }

@@ -1,7 +1,7 @@
 //! The sound bytes of DSF 1.01: a block of 4096 bytes of each channel in turn. The earliest bit of a byte is its lowest
 //! or its highest. All values are worked out by hand.
 
-use crate::told::has_bits;
+use crate::reported::has_bits;
 use dsd_bits::{BitOrder, Bits, LaceFault, lace_blocks, push_blocks, unlace_blocks, unlace_bytes};
 use fixtures::compared::equal;
 use fixtures::files::filled;
@@ -36,15 +36,15 @@ fn takes_whole_blocks_apart(rt: HostRuntime) -> Result<(), Fail> {
     Ok(())
 }
 
-// Whether what was made is `front` followed by zeros, `size` bytes in all.
+// Whether what was made is `prefix` followed by zeros, `size` bytes in all.
 fn is_filled(
     alloc: Global,
     made: Result<Vec<u8>, LaceFault>,
-    front: &[u8],
+    prefix: &[u8],
     size: usize,
 ) -> Result<bool, LaceFault> {
     let made = made?;
-    let expected = filled(alloc, front, size)?;
+    let expected = filled(alloc, prefix, size)?;
     Ok(equal(&made, &expected))
 }
 
@@ -76,7 +76,7 @@ fn pushed(alloc: Global) -> Result<Vec<u8>, LaceFault> {
 }
 
 #[test]
-fn pushes_blocks_behind_what_is_there(rt: HostRuntime) -> Result<(), Fail> {
+fn pushes_blocks_after_what_is_there(rt: HostRuntime) -> Result<(), Fail> {
     let alloc = rt.alloc();
     assert!(rt; is_filled(alloc, pushed(alloc), &[1, 0x80], 4097)?);
     Ok(())

@@ -1,7 +1,7 @@
 //! The sound bytes of DSDIFF 1.5: one byte of each channel in turn. All values are worked out by hand.
 
 use crate::compared::check_printed;
-use crate::told::has_bits;
+use crate::reported::has_bits;
 use dsd_bits::{Bits, LaceFault, lace_bytes, push_laced, unlace_bytes};
 use fixtures::compared::equal;
 use std::alloc::Global;
@@ -43,7 +43,7 @@ fn lace_each(alloc: Global, out: &mut Vec<u8>) -> Result<(), LaceFault> {
 }
 
 #[test]
-fn laces_behind_what_is_there(rt: HostRuntime) -> Result<(), Fail> {
+fn laces_after_what_is_there(rt: HostRuntime) -> Result<(), Fail> {
     let mut out = [7].to_vec(rt.alloc())?;
     lace_each(rt.alloc(), &mut out)?;
     assert!(rt; equal(&out, &[7, 1, 2, 3, 0xf0, 0x0f, 0xaa, 0x55]));

@@ -24,7 +24,7 @@ mod decimators;
 #[cfg(test)]
 mod devices;
 #[cfg(test)]
-mod dsdiff_fronts;
+mod dsdiff_headers;
 #[cfg(test)]
 mod dsdiff_marks;
 #[cfg(test)]
@@ -38,7 +38,7 @@ mod dsdiff_writing;
 #[cfg(test)]
 mod dsf_describing;
 #[cfg(test)]
-mod dsf_fronts;
+mod dsf_headers;
 #[cfg(test)]
 mod dsf_reading;
 #[cfg(test)]
@@ -62,11 +62,11 @@ mod projects;
 #[cfg(test)]
 mod reinterleaving;
 #[cfg(test)]
+mod reported;
+#[cfg(test)]
 mod rows;
 #[cfg(test)]
 mod streams;
-#[cfg(test)]
-mod told;
 #[cfg(test)]
 mod wave;
 #[cfg(test)]

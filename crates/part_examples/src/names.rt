@@ -21,14 +21,14 @@ fn check_shown<T: Debug>(rt: &impl Abort, alloc: Global, cases: &[(T, &str)]) {
 }
 
 // Whether a value is printed as this text.
-fn is_told<T: Display>(alloc: Global, value: &T, text: &str) -> Result<bool, AllocError> {
+fn is_reported<T: Display>(alloc: Global, value: &T, text: &str) -> Result<bool, AllocError> {
     Ok(format!(in alloc; "{value}")?.as_str() == text)
 }
 
 // Asserts that each value is printed as the text beside it.
-fn check_told<T: Display>(rt: &impl Abort, alloc: Global, cases: &[(T, &str)]) {
+fn check_reported<T: Display>(rt: &impl Abort, alloc: Global, cases: &[(T, &str)]) {
     for (value, text) in cases {
-        assert!(rt; is_told(alloc, value, text).unwrap_or(false), "{text}");
+        assert!(rt; is_reported(alloc, value, text).unwrap_or(false), "{text}");
     }
 }
 
@@ -72,11 +72,11 @@ const WRITES: &[(CertFault, &str)] = &[
 fn refusals_and_failures(rt: HostRuntime) {
     let alloc = rt.alloc();
     check_shown(&rt, alloc, LIMITS);
-    check_told(&rt, alloc, ROOMS);
-    check_told(&rt, alloc, WINDOWS);
-    check_told(&rt, alloc, SEARCHES);
-    check_told(&rt, alloc, &[(SinkFault, "SinkFault")]);
-    check_told(&rt, alloc, &[(CertReason::Extra, "Extra")]);
-    check_told(&rt, alloc, CHECKS);
-    check_told(&rt, alloc, WRITES);
+    check_reported(&rt, alloc, ROOMS);
+    check_reported(&rt, alloc, WINDOWS);
+    check_reported(&rt, alloc, SEARCHES);
+    check_reported(&rt, alloc, &[(SinkFault, "SinkFault")]);
+    check_reported(&rt, alloc, &[(CertReason::Extra, "Extra")]);
+    check_reported(&rt, alloc, CHECKS);
+    check_reported(&rt, alloc, WRITES);
 }

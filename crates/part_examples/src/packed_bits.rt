@@ -2,7 +2,7 @@
 //! reversed. All values are worked out by hand.
 
 use crate::compared::check_printed;
-use dsd_bits::{BitRoom, Bits, BitsFault, turn, turn_byte};
+use dsd_bits::{BitRoom, Bits, BitsFault, reverse, reverse_byte};
 use fixtures::compared::equal;
 use std::alloc::{AllocError, Global};
 use std::test::Fail;
@@ -130,9 +130,9 @@ fn adds_bits_and_ranges_to_held_room(rt: HostRuntime) -> Result<(), Fail> {
 }
 
 #[test]
-fn turns_bytes(rt: HostRuntime) {
-    assert!(rt; (turn_byte(0x0f), turn_byte(0x01)) == (0xf0, 0x80));
+fn reverses_bytes(rt: HostRuntime) {
+    assert!(rt; (reverse_byte(0x0f), reverse_byte(0x01)) == (0xf0, 0x80));
     let mut bytes = [0x0f, 0x01, 0x35];
-    turn(&mut bytes);
+    reverse(&mut bytes);
     assert!(rt; bytes == [0xf0, 0x80, 0xac]);
 }

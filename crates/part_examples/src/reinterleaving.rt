@@ -85,13 +85,13 @@ fn channels_in(
     }
 }
 
-// Whether these bytes are `front` followed by nothing but zeros.
-fn is_filled(bytes: &[u8], front: &[u8]) -> bool {
-    if bytes.len() < front.len() {
+// Whether these bytes are `prefix` followed by nothing but zeros.
+fn is_filled(bytes: &[u8], prefix: &[u8]) -> bool {
+    if bytes.len() < prefix.len() {
         return false;
     }
-    let (own, fill) = bytes.split_at(front.len());
-    own == front && fill.iter().all(|byte| *byte == 0)
+    let (own, fill) = bytes.split_at(prefix.len());
+    own == prefix && fill.iter().all(|byte| *byte == 0)
 }
 
 // Whether these channels are the others, each followed by nothing but zeros.

@@ -8,7 +8,7 @@ use cost_core::{LevelSink, SinkFault, Window};
 use fixtures::windows::{by_newest, ones, zeros};
 use std::alloc::{AllocError, Global};
 use std::test::Fail;
-use trellis_core::{BridgeFault, Chosen, bridge_cut_into, bridge_into};
+use trellis_core::{BridgeFault, Chosen, bridge_capped_into, bridge_into};
 
 // A sink with the numbers of the rows before one that is refused.
 #[derive(Drop)]
@@ -67,10 +67,10 @@ fn sink_for(alloc: Global, window: &Window, refused_left: usize) -> Result<Numbe
 }
 
 // The bits of a bridge and its cost, or why there is none.
-type Told = Result<(u8, u64), BridgeFault>;
+type Reported = Result<(u8, u64), BridgeFault>;
 
 // The first byte of chosen bits, and their cost.
-fn told(chosen: Result<Chosen, BridgeFault>) -> Told {
+fn reported(chosen: Result<Chosen, BridgeFault>) -> Reported {
     match chosen {
         Ok(chosen) => match chosen.bits.as_bytes() {
             [byte] => Ok((*byte, chosen.cost)),
@@ -80,22 +80,22 @@ fn told(chosen: Result<Chosen, BridgeFault>) -> Told {
     }
 }
 
-// What a search returns that passes on its rows, cut at the cost or not.
-fn searched(alloc: Global, window: &Window, sink: &mut Numbers, is_cut: bool) -> Told
+// What a search returns that passes on its rows, capped at the cost or not.
+fn searched(alloc: Global, window: &Window, sink: &mut Numbers, is_cut: bool) -> Reported
     requires left { sink.old.left ≡ window.now.levels + 1 }
     requires width { sink.old.width ≡ states (trellis_of window.now) }
     requires ready { sink.old.is_refused ≡ false }
 {
     if is_cut {
-        told(bridge_cut_into(alloc, window, sink))
+        reported(bridge_capped_into(alloc, window, sink))
     } else {
-        told(bridge_into(alloc, window, sink))
+        reported(bridge_into(alloc, window, sink))
     }
 }
 
 // A search for two bits: whether rows are cut, how many rows are still to come when one is refused, the numbers of the
 // rows before that, and what the search returns.
-type Search = (bool, usize, &'static [u64], Told);
+type Search = (bool, usize, &'static [u64], Reported);
 
 // Whether a search returns this, and a row is refused exactly if that is returned. Err is out of memory.
 fn is_so(alloc: Global, window: &Window, search: &Search) -> Result<bool, AllocError> {
@@ -118,7 +118,7 @@ fn hands_over(alloc: Global, search: &Search) -> Result<bool, Fail> {
     Ok(is_so(alloc, &window, search)?)
 }
 
-// The rows as they are, and with the first, the second and the last row refused. Then the same rows cut at the cost,
+// The rows as they are, and with the first, the second and the last row refused. Then the same rows capped at the cost,
 // which is 8: each number above it is 8.
 const SEARCHES: &[Search] = &[
     (false, 0, &[1 << 63, 0, 16, 4, 8, 20], Ok((0x80, 8))),

@@ -134,7 +134,7 @@ fn takes_samples_channel_by_channel(rt: HostRuntime) -> Result<(), Fail> {
 }
 
 // Appends a frame of three channels after a byte, and then two frames of one channel.
-fn push_behind(out: &mut Vec<u8>) -> Result<(), AllocError> {
+fn push_after(out: &mut Vec<u8>) -> Result<(), AllocError> {
     out.push(9)?;
     push_frames(out, 16, &[5, -6, 7], 1)?;
     push_frames(out, 16, &[8, 256], 2)
@@ -143,7 +143,7 @@ fn push_behind(out: &mut Vec<u8>) -> Result<(), AllocError> {
 #[test]
 fn appends_frames_to_those_before(rt: HostRuntime) -> Result<(), Fail> {
     let mut out = Vec::new(rt.alloc());
-    push_behind(&mut out)?;
+    push_after(&mut out)?;
     assert!(rt; equal(&out, &[9, 5, 0, 0xfa, 0xff, 7, 0, 8, 0, 0, 1]));
     Ok(())
 }

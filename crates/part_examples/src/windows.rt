@@ -50,9 +50,9 @@ fn tails(window: &Window) -> Tails {
 }
 
 // What is compared of a window: its shape, its steps at the levels 0 and 1, and the costs after it.
-type Told = ([usize; 4], Steps, Steps, Tails);
+type Reported = ([usize; 4], Steps, Steps, Tails);
 
-fn told(window: Result<Window, WindowFault>) -> Option<Told> {
+fn reported(window: Result<Window, WindowFault>) -> Option<Reported> {
     let window = window.ok()?;
     let first = steps(&window, 0);
     Some((shape(&window), first, steps(&window, 1), tails(&window)))
@@ -62,7 +62,7 @@ fn told(window: Result<Window, WindowFault>) -> Option<Told> {
 fn steps_of_a_bridge_of_one_bit(rt: HostRuntime) {
     let costs = Some(([16, 0, 0, 16], [16, 0, 0, 16]));
     let expected = ([1, 2, 1, 1], costs, None, Some(([0, 16], [0, 16])));
-    assert!(rt; told(by_equal(rt.alloc(), ones(0, 8), 1, zeros(2, 9))) == Some(expected));
+    assert!(rt; reported(by_equal(rt.alloc(), ones(0, 8), 1, zeros(2, 9))) == Some(expected));
 }
 
 // The state makes no difference, because only the newest bit has a weight.
@@ -71,7 +71,7 @@ fn steps_of_a_bridge_of_two_bits(rt: HostRuntime) {
     let first = Some(([16, 4, 16, 4], [16, 4, 16, 4]));
     let second = Some(([4, 16, 4, 16], [4, 16, 4, 16]));
     let expected = ([1, 2, 2, 1], first, second, Some(([0, 0], [0, 0])));
-    assert!(rt; told(by_newest(rt.alloc(), ones(0, 8), 2, zeros(3, 9))) == Some(expected));
+    assert!(rt; reported(by_newest(rt.alloc(), ones(0, 8), 2, zeros(3, 9))) == Some(expected));
 }
 
 // The cost of the first bits of a byte as a bridge.
@@ -129,7 +129,7 @@ fn costs_of_lines(rt: HostRuntime) {
 // before it counts. This is 2 off whatever the bit is, and costs 4. At the place after it the bit itself counts: a 1
 // meets the target, a 0 is 4 off.
 #[test]
-fn a_bit_costs_at_the_place_behind_it(rt: HostRuntime) {
+fn a_bit_costs_at_the_place_after_it(rt: HostRuntime) {
     let older = by_older(rt.alloc(), zeros(0, 8), 1, ones(2, 9));
     assert!(rt; both_costs(rt.alloc(), older) == [Some(20), Some(4)]);
 }

@@ -1,9 +1,9 @@
--- Which faults stand, stop the reading or come before the first write, by where they rose.
+-- Which faults are true, stop the reading or come before the first write, by where they arose.
 use Rattle.std.proofs.Common.{◌≡◌, ℕ, List, ◌++◌, Option, None, Some, ◌+◌, IfErr, IfSome, OnErr, OnOk, Result, Ok, Err, arith, refl}
 use Rattle.dsd_bits.specs.declared.sound.Sound.{Sound}
 use Rattle.fir_core.specs.Decimator.{Decimator}
 use Rattle.sound_core.specs.Faults.{IsBeforeWriting, IsSinkFault, IsWritingFault, StopsReading, failed_writes}
-use Rattle.sound_core.specs.Files.{StatesSound}
+use Rattle.sound_core.specs.Files.{LeadsToSound}
 use Rattle.sound_core.specs.Outlines.{IsOutlineFault}
 use Rattle.sound_core.specs.declared.fault.StreamFault.{StreamFault}
 use Rattle.sound_core.specs.declared.fault.StreamFault.TheVariants.{FileRefused, RateNotDivided, TooLarge, ReadFailed, WriteFailed, TurnLimit, Memory}
@@ -12,15 +12,15 @@ use Rattle.player_core.specs.Playing.{Applies}
 use Rattle.player_core.specs.Wave.{IsOpeningFault}
 
 -- ---- where the file is read
-pub outline_stands : (left : Option (List ℕ)) (d : Decimator) (f : StreamFault) → IsOutlineFault left f → IfSome left (λ file. Applies d file f)
-outline_stands None d f h = tt
-outline_stands (Some xs) d FileRefused h = h
-outline_stands (Some xs) d RateNotDivided h = absurd h
-outline_stands (Some xs) d TooLarge h = absurd h
-outline_stands (Some xs) d ReadFailed h = tt
-outline_stands (Some xs) d WriteFailed h = absurd h
-outline_stands (Some xs) d TurnLimit h = tt
-outline_stands (Some xs) d Memory h = tt
+pub outline_holds : (left : Option (List ℕ)) (d : Decimator) (f : StreamFault) → IsOutlineFault left f → IfSome left (λ file. Applies d file f)
+outline_holds None d f h = tt
+outline_holds (Some xs) d FileRefused h = h
+outline_holds (Some xs) d RateNotDivided h = absurd h
+outline_holds (Some xs) d TooLarge h = absurd h
+outline_holds (Some xs) d ReadFailed h = tt
+outline_holds (Some xs) d WriteFailed h = absurd h
+outline_holds (Some xs) d TurnLimit h = tt
+outline_holds (Some xs) d Memory h = tt
 
 pub outline_later : (left : Option (List ℕ)) (f : StreamFault) → IsOutlineFault left f → IsBeforeWriting f → ⊥
 outline_later left FileRefused h early = early
@@ -41,14 +41,14 @@ outline_unwritten X left TurnLimit h = refl
 outline_unwritten X left Memory h = refl
 
 -- ---- where the header is written
-pub opening_stands : (d : Decimator) (front rest : List ℕ) (s : Sound) → StatesSound front s → (f : StreamFault) → IsOpeningFault d s f → Applies d (front ++ rest) f
-opening_stands d front rest s tells FileRefused h = absurd h
-opening_stands d front rest s tells RateNotDivided h = record { front = front; rest = rest; sound = s; file_is = refl; tells = tells; not_divided = h }
-opening_stands d front rest s tells TooLarge h = record { front = front; rest = rest; sound = s; file_is = refl; tells = tells; divided = h.0; large = h.1 }
-opening_stands d front rest s tells ReadFailed h = absurd h
-opening_stands d front rest s tells WriteFailed h = tt
-opening_stands d front rest s tells TurnLimit h = absurd h
-opening_stands d front rest s tells Memory h = tt
+pub opening_holds : (d : Decimator) (prefix rest : List ℕ) (s : Sound) → LeadsToSound prefix s → (f : StreamFault) → IsOpeningFault d s f → Applies d (prefix ++ rest) f
+opening_holds d prefix rest s states FileRefused h = absurd h
+opening_holds d prefix rest s states RateNotDivided h = record { prefix = prefix; rest = rest; sound = s; file_is = refl; states = states; not_divided = h }
+opening_holds d prefix rest s states TooLarge h = record { prefix = prefix; rest = rest; sound = s; file_is = refl; states = states; divided = h.0; large = h.1 }
+opening_holds d prefix rest s states ReadFailed h = absurd h
+opening_holds d prefix rest s states WriteFailed h = tt
+opening_holds d prefix rest s states TurnLimit h = absurd h
+opening_holds d prefix rest s states Memory h = tt
 
 pub opening_own : (d : Decimator) (s : Sound) (f : StreamFault) → IsOpeningFault d s f → IsSinkFault f
 opening_own d s FileRefused h = tt
@@ -89,7 +89,7 @@ same_writes X Y WriteFailed = refl
 same_writes X Y TurnLimit = refl
 same_writes X Y Memory = refl
 
--- ---- of an answer all is so
+-- ---- what holds of an answer
 pub all_ok : {P Q S F : Type 0} (n m : ℕ) (r : Result (Unit {0}) StreamFault) → OnOk r P → OnOk r Q → OnOk r S → n ≡ m + failed_writes r → (P → Q → S → n ≡ m → F) → OnOk r F
 all_ok n m (Ok x) p q s failures on = on p q s (omega (arith, failures))
 all_ok n m (Err f) p q s failures on = tt

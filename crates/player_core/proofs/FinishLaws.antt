@@ -53,14 +53,14 @@ module _ (d : Decimator) (s : Sound) (bytes : List ℕ) (c : ℕ) (least : 8 ≤
       let x = channel_bytes s bytes c in
       let whole : frames_due d s (length bytes) + (div_ceil s.count d.factor - frames_due d s (length bytes)) ≡ div_ceil s.count d.factor = omega (arith, within) in
       let first = samples_of d (channel_whole s bytes c) 0 (frames_due d s (length bytes)) in
-      let told : samples d (unpacked x s.count) ≡ due d s.count x ++ finishes.0
+      let stated : samples d (unpacked x s.count) ≡ due d s.count x ++ finishes.0
       = ap₂ (λ (e : Decimator) (b : ℕ). samples e (unpacked x b)) (sym chan.filter) (sym chan.bits) ∙ finishes.2 x fits ∙ ap₂ (λ (e : Decimator) (b : ℕ). due e b x ++ finishes.0) chan.filter chan.bits in
       let split : samples d (unpacked x s.count) ≡ first ++ samples_of d (channel_whole s bytes c) (frames_due d s (length bytes)) (div_ceil s.count d.factor - frames_due d s (length bytes))
       = ap (λ k. samples_of d (channel_whole s bytes c) 0 (div_ceil k d.factor)) (length-unpacked x s.count) ∙ ap (samples_of d (channel_whole s bytes c) 0) (sym whole)
       ∙ sym (map_range_join (sample_at d (channel_whole s bytes c)) (sample_at d (channel_whole s bytes c)) (frames_due d s (length bytes)) (frames_due d s (length bytes)) (div_ceil s.count d.factor - frames_due d s (length bytes)) (λ j h. refl)) in
       let long : length (due d s.count x) ≡ length first
       = length-map-range_with_len _ 0 (due_number d s.count (length x)) ∙ ap (due_number d s.count) size ∙ sym (length-map-range_with_len (sample_at d (channel_whole s bytes c)) 0 (frames_due d s (length bytes))) in
-      finishes.1 ∙ ap (λ xs. before ++ xs) (same_backs (due d s.count x) first finishes.0 (samples_of d (channel_whole s bytes c) (frames_due d s (length bytes)) (div_ceil s.count d.factor - frames_due d s (length bytes))) long (sym told ∙ split))
+      finishes.1 ∙ ap (λ xs. before ++ xs) (same_backs (due d s.count x) first finishes.0 (samples_of d (channel_whole s bytes c) (frames_due d s (length bytes)) (div_ceil s.count d.factor - frames_due d s (length bytes))) long (sym stated ∙ split))
 
 -- ---- channel by channel
 -- channel c of the sound bytes
@@ -80,10 +80,10 @@ strided_part bytes channels c number =
     let place : (p / 1 * channels + c) * 1 + p % 1 ≡ p * channels + c = ap (λ n. (n * channels + c) * 1 + p % 1) q ∙ omega arith in
     ap (slice_index bytes) place)
 
--- ---- all bytes are heard
+-- ---- all bytes are known
 module _ (s : Sound) (is : IsSound s) (whole : s.interleaving ≡ Bytes → s.count % 8 ≡ 0) where
-  pub heard_whole : bytes_known s s.size ≡ div_ceil s.count 8
-  heard_whole = by s.interleaving refl
+  pub known_whole : bytes_known s s.size ≡ div_ceil s.count 8
+  known_whole = by s.interleaving refl
     where
       by : (interleaving : Interleaving) → s.interleaving ≡ interleaving → bytes_known s s.size ≡ div_ceil s.count 8
       by Bytes e =
@@ -102,8 +102,8 @@ module _ (s : Sound) (is : IsSound s) (whole : s.interleaving ≡ Bytes → s.co
           omega (arith, parts)
 
   module _ (bytes : List ℕ) (all : length bytes ≡ s.size) where
-    heard_all : bytes_known s (length bytes) ≡ div_ceil s.count 8
-    heard_all = ap (bytes_known s) all ∙ heard_whole
+    known_all : bytes_known s (length bytes) ≡ div_ceil s.count 8
+    known_all = ap (bytes_known s) all ∙ known_whole
 
     -- a channel's bits are those of the sound
     channel_is : (c : ℕ) → channel_whole s bytes c ≡ get_channel s.interleaving s.channels s.count bytes c
@@ -115,14 +115,14 @@ module _ (s : Sound) (is : IsSound s) (whole : s.interleaving ≡ Bytes → s.co
             let number : div_ceil s.count 8 ≡ s.count / 8 = omega (arith, whole e) in
             let bits : s.count ≡ 8 * (s.count / 8) = omega (arith, whole e) in
             let frames : length bytes / s.channels ≡ s.count / 8 = ap (λ n. n / s.channels) size ∙ mul-div_cancel (s.count / 8) is.some_channel in
-            ap₂ (λ o (n : ℕ). unpacked (channel_part o s.channels bytes c 0 n) s.count) e (heard_all ∙ number)
+            ap₂ (λ o (n : ℕ). unpacked (channel_part o s.channels bytes c 0 n) s.count) e (known_all ∙ number)
             ∙ ap (λ xs. unpacked xs s.count) (strided_part bytes s.channels c (s.count / 8))
             ∙ ap (unpacked (own_bytes bytes s.channels c (s.count / 8))) bits
             ∙ unpacked-own_bytes bytes s.channels c (s.count / 8)
             ∙ ap (λ (n : ℕ). map (laced_bit bytes s.channels c) (range_with_len 0 (8 * n))) (sym frames)
             ∙ ap (λ o. get_channel o s.channels s.count bytes c) (sym e)
         by (Blocks order) e =
-            ap₂ (λ o (n : ℕ). unpacked (channel_part o s.channels bytes c 0 n) s.count) e heard_all
+            ap₂ (λ o (n : ℕ). unpacked (channel_part o s.channels bytes c 0 n) s.count) e known_all
             ∙ ap (λ xs. unpacked xs s.count) (sym (blocks_are order s.channels bytes c (div_ceil s.count 8)))
             ∙ unblocked_is order bytes s.channels c s.count
             ∙ ap (λ o. get_channel o s.channels s.count bytes c) (sym e)
@@ -132,11 +132,11 @@ module _ (s : Sound) (is : IsSound s) (whole : s.interleaving ≡ Bytes → s.co
         map_range_same s.channels (channel_whole s bytes) (get_channel s.interleaving s.channels s.count bytes) (λ c h. channel_is c)
         ∙ all_channels s.interleaving s.channels s.count bytes
 
-    -- and all of them are heard
-    heard_are : channels_known s bytes ≡ map (channel_whole s bytes) (range_with_len 0 s.channels)
-    heard_are =
+    -- and all of them are known
+    known_are : channels_known s bytes ≡ map (channel_whole s bytes) (range_with_len 0 s.channels)
+    known_are =
         map_range_same s.channels (channel_bits s bytes) (channel_whole s bytes)
-        (λ c h. ap (unpacked (channel_bytes s bytes c)) (let full : bits_held s.count (bytes_known s (length bytes)) ≡ s.count = omega (arith, heard_all) in full))
+        (λ c h. ap (unpacked (channel_bytes s bytes c)) (let full : bits_held s.count (bytes_known s (length bytes)) ≡ s.count = omega (arith, known_all) in full))
 
     pub count_is : count_of (map (channel_whole s bytes) (range_with_len 0 s.channels)) ≡ s.count
     count_is =
@@ -160,7 +160,7 @@ module _ (s : Sound) (is : IsSound s) (whole : s.interleaving ≡ Bytes → s.co
         ∙ ap (λ k. sb (frames_below d X k)) total
         ∙ ap sb (in_two (frame d X) n m)
         ∙ flat_map-append (sample_bytes d.width) (flat_map (frame d X) (range_with_len 0 n)) (flat_map (frame d X) (range_with_len n m))
-        ∙ ap₂ (λ xs ys. sb (frames_below d xs n) ++ sb ys) (sym heard_are) (sym (frames_are d X n m) ∙ ap₂ (λ xs (l : ℕ). frames_of xs l) (sym made) (sym columns))
+        ∙ ap₂ (λ xs ys. sb (frames_below d xs n) ++ sb ys) (sym known_are) (sym (frames_are d X n m) ∙ ap₂ (λ xs (l : ℕ). frames_of xs l) (sym made) (sym columns))
 
     pub rest_in_range : (d : Decimator) (tile : List ℤ) (width : ℕ) → width ≡ d.width → (d.width ≡ 16) ⊎ (d.width ≡ 24)
         → tile ≡ tile_of d (map (channel_whole s bytes) (range_with_len 0 s.channels)) (frames_due d s (length bytes)) (div_ceil s.count d.factor - frames_due d s (length bytes))

@@ -57,7 +57,7 @@ after_take f xs i x low is =
     let more : take (i + 1) xs ≡ take i xs ++ get_or xs i x ∷ [] = rw (add-one i) (take-suc xs i x low) in
     ap (flat_map f) more ∙ flat_map-append f (take i xs) (get_or xs i x ∷ []) ∙ ap (λ ys. flat_map f (take i xs) ++ ys) (append-nil (f (get_or xs i x)) ∙ ap f (sym is))
 
--- ---- a tile of so many frames from one on
+-- ---- a tile of n frames from one on
 module _ (d : Decimator) (channels : List (List Bool)) (start number : ℕ) where
   part : List Bool → List ℤ
   part bits = samples_of d bits start number

@@ -30,9 +30,9 @@ strided_is to bytes channels c at =
 pub blocks_are : (order : BitOrder) (channels : ℕ) (bytes : List ℕ) (c number : ℕ) → map (ordered order) (own_blocks bytes channels c number) ≡ channel_part (Blocks order) channels bytes c 0 number
 blocks_are order channels bytes c number = map-map (ordered order) (block_source bytes channels c) (range_with_len 0 number)
 
--- a block, or its front, stands in the bytes
+-- a block, or its prefix, is in the bytes
 pub block_within : (channels c number group w size : ℕ) → c < channels → w ≤ 4096 → 4096 * group < number → number ≤ size / (channels * 4096) * 4096 → (group * channels + c) * 4096 + w ≤ size
-block_within channels c number group w size low front some enough =
+block_within channels c number group w size low prefix some enough =
     let groups = size / (channels * 4096) in
     let row : group * channels + c < channels * groups = mul-add-lt group channels c groups (omega (arith, enough)) low in
     let whole : groups * (channels * 4096) ≤ size = div-mul-le_self size (channels * 4096) in

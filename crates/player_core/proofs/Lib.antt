@@ -8,7 +8,7 @@ pub mod NewLaws
 pub mod FinishLaws
 pub mod FinishLoop
 pub mod SampleLaws
-pub mod FrontLaws
+pub mod PrefixLaws
 pub mod SoundLaws
 pub mod PieceLaws
 pub mod PlayLaws

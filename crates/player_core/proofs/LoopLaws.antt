@@ -18,10 +18,10 @@ pub record FedUpTo (s : Sound) (number : ℕ) (groups : List ℕ) (old now : Lis
   pub long : length now ≡ length old
   pub later : (k : ℕ) (t : Stream) → c ≤ k → get_or now k t ≡ get_or old k t
   pub done : (d : Decimator) (fed : ℕ) → AreChannels d s.count fed old → (k : ℕ) (t : Stream) → k < c → IsChannel d s.count (fed + number) (get_or now k t)
-  pub fits : (d : Decimator) (fed : ℕ) → AreChannels d s.count fed old → (front : List ℕ) (k : ℕ) → length front ≡ k * group_size s.interleaving s.channels
-      → bytes_known s (length front) ≡ fed → bytes_known s (length (front ++ groups)) ≡ fed + number → AllFit s old front
-      → ((i : ℕ) (t : Stream) → i < c → Fits (state_of (get_or now i t)) (channel_bytes s (front ++ groups) i))
-      × (tile ≡ tile_of d (map (channel_bits s (front ++ groups)) (range_with_len 0 c)) (frames_due d s (length front)) (frames_due d s (length (front ++ groups)) - frames_due d s (length front)))
+  pub fits : (d : Decimator) (fed : ℕ) → AreChannels d s.count fed old → (prefix : List ℕ) (k : ℕ) → length prefix ≡ k * group_size s.interleaving s.channels
+      → bytes_known s (length prefix) ≡ fed → bytes_known s (length (prefix ++ groups)) ≡ fed + number → AllFit s old prefix
+      → ((i : ℕ) (t : Stream) → i < c → Fits (state_of (get_or now i t)) (channel_bytes s (prefix ++ groups) i))
+      × (tile ≡ tile_of d (map (channel_bits s (prefix ++ groups)) (range_with_len 0 c)) (frames_due d s (length prefix)) (frames_due d s (length (prefix ++ groups)) - frames_due d s (length prefix)))
 
 module _ (s : Sound) (number : ℕ) (groups : List ℕ) (old now : List Stream) (tile tile' : List ℤ) (c : ℕ) (new t : Stream)
     (so_far : FedUpTo s number groups old now tile c) (low : c < length old) (few : length old ≤ s.channels)
@@ -62,23 +62,23 @@ module _ (s : Sound) (number : ℕ) (groups : List ℕ) (old now : List Stream) 
             bytes = fed_is ∙ ap (λ n. n + number) was.bytes;
           }))
     ];
-    fits = λ d fed are front k long was is all.
-        let so = so_far.fits d fed are front k long was is all in
+    fits = λ d fed are prefix k long was is all.
+        let so = so_far.fits d fed are prefix k long was is all in
         let chan = channel d fed are in
-        let fit : Fits (state_of (get_or now c t)) (channel_bytes s front c) = subst (λ (u : Stream). Fits (state_of u) (channel_bytes s front c)) (sym same) (all c t low) in
+        let fit : Fits (state_of (get_or now c t)) (channel_bytes s prefix c) = subst (λ (u : Stream). Fits (state_of u) (channel_bytes s prefix c)) (sym same) (all c t low) in
         let least : 8 ≤ d.factor = subst (λ (e : Decimator). 8 ≤ e.factor) chan.filter chan.ready.limits.least_factor in
         let within : c < s.channels = omega arith in
-        let n = frames_due d s (length front) in
-        let m = frames_due d s (length (front ++ groups)) - n in (
+        let n = frames_due d s (length prefix) in
+        let m = frames_due d s (length (prefix ++ groups)) - n in (
           λ i u h. elim (cases_lt i c) [
-            | inl before ↦ subst (λ (v : Stream). Fits (state_of v) (channel_bytes s (front ++ groups) i)) (sym (other i u (omega arith))) (so.0 i u before)
+            | inl before ↦ subst (λ (v : Stream). Fits (state_of v) (channel_bytes s (prefix ++ groups) i)) (sym (other i u (omega arith))) (so.0 i u before)
             | inr at ↦
                 let at_c : i ≡ c = omega arith in
-                subst (λ (j : ℕ). Fits (state_of (get_or set_to j u)) (channel_bytes s (front ++ groups) j)) (sym at_c)
-                (subst (λ (v : Stream). Fits (state_of v) (channel_bytes s (front ++ groups) c)) (sym (here u))
-                (fits_all d s fed number front groups k c within long was is (get_or now c t) new tile tile' chan.filter chan.bits feeds fit))
+                subst (λ (j : ℕ). Fits (state_of (get_or set_to j u)) (channel_bytes s (prefix ++ groups) j)) (sym at_c)
+                (subst (λ (v : Stream). Fits (state_of v) (channel_bytes s (prefix ++ groups) c)) (sym (here u))
+                (fits_all d s fed number prefix groups k c within long was is (get_or now c t) new tile tile' chan.filter chan.bits feeds fit))
           ],
-          gives d s fed number front groups k c within long was is (get_or now c t) new tile tile' least chan.filter chan.bits feeds fit
-              ∙ ap (λ xs. xs ++ samples_of d (channel_bits s (front ++ groups) c) n m) so.1 ∙ sym (tile_more d (channel_bits s (front ++ groups)) n m c),
+          gives d s fed number prefix groups k c within long was is (get_or now c t) new tile tile' least chan.filter chan.bits feeds fit
+              ∙ ap (λ xs. xs ++ samples_of d (channel_bits s (prefix ++ groups) c) n m) so.1 ∙ sym (tile_more d (channel_bits s (prefix ++ groups)) n m c),
         );
   }

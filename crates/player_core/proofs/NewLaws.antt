@@ -27,11 +27,11 @@ one_new_more d count streams more new is are ready made fits = subst (AreNew d c
 ])
 
 -- ---- before the first byte
-pub none_heard : (s : Sound) → bytes_known s 0 ≡ 0
-none_heard s = ap (λ n. min (div_ceil s.count 8) (n * part_size s.interleaving)) (zero-div (group_size s.interleaving s.channels)) ∙ omega arith
+pub none_known : (s : Sound) → bytes_known s 0 ≡ 0
+none_known s = ap (λ n. min (div_ceil s.count 8) (n * part_size s.interleaving)) (zero-div (group_size s.interleaving s.channels)) ∙ omega arith
 
 pub new_channels : (d : Decimator) (s : Sound) (streams : List Stream) → AreNew d s.count streams → AreChannels d s.count (bytes_known s 0) streams
-new_channels d s streams are = λ c t h. subst (λ n. IsChannel d s.count n (get_or streams c t)) (sym (none_heard s)) (are c t h).0
+new_channels d s streams are = λ c t h. subst (λ n. IsChannel d s.count n (get_or streams c t)) (sym (none_known s)) (are c t h).0
 
 pub new_fit : (d : Decimator) (s : Sound) (streams : List Stream) → AreNew d s.count streams → AllFit s streams []
-new_fit d s streams are = λ c t h. subst (Fits (state_of (get_or streams c t))) (sym (ap (channel_part s.interleaving s.channels [] c 0) (none_heard s))) (are c t h).1
+new_fit d s streams are = λ c t h. subst (Fits (state_of (get_or streams c t))) (sym (ap (channel_part s.interleaving s.channels [] c 0) (none_known s))) (are c t h).1

@@ -28,8 +28,8 @@ use Rattle.player_core.specs.Frames.{frame, frame_count, frames}
 use Rattle.player_core.specs.Groups.{channel_byte, group_size, in_order, part_size, place_in}
 use Rattle.player_core.specs.Laws.{total_frames}
 use Rattle.player_core.specs.Parts.{PartsMeet, frames_apart, frames_before, groups_apart, groups_before, part_bytes, rest_of, steps_before}
-use Rattle.player_core.proofs.FeedLaws.{mul_some, place_behind, some_part}
-use Rattle.player_core.proofs.FinishLaws.{channels_are, count_is, heard_whole}
+use Rattle.player_core.proofs.FeedLaws.{mul_some, place_after, some_part}
+use Rattle.player_core.proofs.FinishLaws.{channels_are, count_is, known_whole}
 use Rattle.player_core.proofs.FrameLaws.{moved}
 use Rattle.player_core.proofs.PlaceLaws.{some_more}
 use Rattle.player_core.proofs.SoundLaws.{frames_fill}
@@ -115,7 +115,7 @@ rest_size (Blocks order) channels count k =
 -- a byte of one of its channels
 byte_of_rest : (o : Interleaving) (channels : ℕ) (bytes : List ℕ) (c k p : ℕ) → channel_byte o channels (drop (k * (channels * part_size o)) bytes) c p ≡ channel_byte o channels bytes c (k * part_size o + p)
 byte_of_rest o channels bytes c k p =
-    ap (in_order o) (get_or-drop (k * (channels * part_size o)) bytes (place_in o channels c p) 0 ∙ ap (λ j. get_or bytes j 0) (sym (place_behind o channels c p k)))
+    ap (in_order o) (get_or-drop (k * (channels * part_size o)) bytes (place_in o channels c p) 0 ∙ ap (λ j. get_or bytes j 0) (sym (place_after o channels c p k)))
 
 module _ (s : Sound) (is : IsSound s) (whole : s.interleaving ≡ Bytes → s.count % 8 ≡ 0) (k : ℕ) where
   pub rest_sound : IsSound (rest_of s k)
@@ -141,11 +141,11 @@ module _ (s : Sound) (is : IsSound s) (whole : s.interleaving ≡ Bytes → s.co
     pub length_left : length left ≡ r.size
     length_left = length-drop (k * group_size s.interleaving s.channels) bytes ∙ ap (λ n. n - k * group_size s.interleaving s.channels) all
 
-    heard_here : bytes_known s (length bytes) ≡ div_ceil s.count 8
-    heard_here = ap (bytes_known s) all ∙ heard_whole s is whole
+    known_here : bytes_known s (length bytes) ≡ div_ceil s.count 8
+    known_here = ap (bytes_known s) all ∙ known_whole s is whole
 
-    heard_left : bytes_known r (length left) ≡ div_ceil r.count 8
-    heard_left = ap (bytes_known r) length_left ∙ heard_whole r rest_sound rest_whole
+    known_left : bytes_known r (length left) ≡ div_ceil r.count 8
+    known_left = ap (bytes_known r) length_left ∙ known_whole r rest_sound rest_whole
 
     module _ (c : ℕ) where
       abbrev q : ℕ
@@ -156,9 +156,9 @@ module _ (s : Sound) (is : IsSound s) (whole : s.interleaving ≡ Bytes → s.co
           let place : (8 * q + i) / 8 ≡ q + i / 8 = omega arith in
           let phase : (8 * q + i) % 8 ≡ i % 8 = omega arith in
           let here : get_or (channel_bytes s bytes c) (q + i / 8) 0 ≡ channel_byte s.interleaving s.channels bytes c (q + i / 8)
-          = get_or-map-range_with_len (channel_byte s.interleaving s.channels bytes c) 0 (bytes_known s (length bytes)) (q + i / 8) (q + i / 8) 0 (omega (arith, low, heard_here)) (omega arith) in
+          = get_or-map-range_with_len (channel_byte s.interleaving s.channels bytes c) 0 (bytes_known s (length bytes)) (q + i / 8) (q + i / 8) 0 (omega (arith, low, known_here)) (omega arith) in
           let there : get_or (channel_bytes r left c) (i / 8) 0 ≡ channel_byte s.interleaving s.channels left c (i / 8)
-          = get_or-map-range_with_len (channel_byte s.interleaving s.channels left c) 0 (bytes_known r (length left)) (i / 8) (i / 8) 0 (omega (arith, low, heard_left)) (omega arith) in
+          = get_or-map-range_with_len (channel_byte s.interleaving s.channels left c) 0 (bytes_known r (length left)) (i / 8) (i / 8) 0 (omega (arith, low, known_left)) (omega arith) in
           ap₂ (λ a b. eqb (bit_at (get_or (channel_bytes s bytes c) a 0) (7 - b)) 1) place phase
           ∙ ap (λ v. eqb (bit_at v (7 - i % 8)) 1) (here ∙ sym (byte_of_rest s.interleaving s.channels bytes c k (i / 8)) ∙ sym there)
 

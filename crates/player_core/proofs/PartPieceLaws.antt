@@ -5,45 +5,45 @@ use Rattle.std.proofs.lemmas.List.{nil_from_length}
 use Rattle.chunk_core.specs.Outlets.{AppendsPrefix}
 use Rattle.dsd_bits.specs.declared.sound.Sound.{Sound}
 use Rattle.player_core.specs.Due.{due_bytes}
-use Rattle.player_core.specs.PartPieces.{PutsPartDue, PutsPartFront, PutsPartRest}
+use Rattle.player_core.specs.PartPieces.{PutsPartDue, PutsPartPrefix, PutsPartRest}
 use Rattle.player_core.specs.PartView.{FeedsPart, FinishesPart, IsPartOf, IsPartPlayer, IsSamePart, part_all, part_due, part_fed, part_filter, part_rest, part_start}
 use Rattle.player_core.specs.declared.parts.PartPlayer.{PartPlayer}
 use Rattle.fir_core.specs.Decimator.{Decimator}
-use Rattle.player_core.proofs.FrontLaws.{front_of_all}
-use Rattle.player_core.proofs.PieceLaws.{front_more, front_nil, least_factor}
+use Rattle.player_core.proofs.PrefixLaws.{prefix_of_all}
+use Rattle.player_core.proofs.PieceLaws.{least_factor, prefix_more, prefix_nil}
 use Rattle.player_core.proofs.SliceLaws.{slice_more}
 
--- what is due of a part after a front of the rest is a front of all of it
-pub part_front : (p : PartPlayer) → IsPartPlayer p → (before rest : List ℕ) → length (before ++ rest) ≡ (part_rest p).size → (more : List ℕ) × (part_all p (before ++ rest) ≡ part_due p before ++ more)
-part_front p is before rest all =
+-- what is due of a part after a prefix of the rest is a prefix of all of it
+pub part_header : (p : PartPlayer) → IsPartPlayer p → (before rest : List ℕ) → length (before ++ rest) ≡ (part_rest p).size → (more : List ℕ) × (part_all p (before ++ rest) ≡ part_due p before ++ more)
+part_header p is before rest all =
     let due = due_bytes (part_filter p) (part_rest p) before in
-    let front = front_of_all (part_filter p) (part_rest p) before rest is.player.sound is.player.whole (least_factor p.player is.player) all in (
-      slice_range front.0 (p.skip - length due) (p.stop - length due),
-      ap (λ xs. slice_range xs p.skip p.stop) front.1 ∙ slice_more due front.0 p.skip p.stop,
+    let prefix = prefix_of_all (part_filter p) (part_rest p) before rest is.player.sound is.player.whole (least_factor p.player is.player) all in (
+      slice_range prefix.0 (p.skip - length due) (p.stop - length due),
+      ap (λ xs. slice_range xs p.skip p.stop) prefix.1 ∙ slice_more due prefix.0 p.skip p.stop,
     )
 
 -- ---- one piece
-pub no_part_put : (p : PartPlayer) → IsPartPlayer p → (piece : List ℕ) (a : Option (List ℕ)) → PutsPartFront p piece a a
-no_part_put p is piece a = λ before rest fed all. (let more = part_front p is before (piece ++ rest) all in (more.0, more.1, front_nil a more.0))
+pub no_part_put : (p : PartPlayer) → IsPartPlayer p → (piece : List ℕ) (a : Option (List ℕ)) → PutsPartPrefix p piece a a
+no_part_put p is piece a = λ before rest fed all. (let more = part_header p is before (piece ++ rest) all in (more.0, more.1, prefix_nil a more.0))
 
 pub part_due_put : (p q : PartPlayer) (piece given : List ℕ) (a b : Option (List ℕ)) → FeedsPart p q piece [] given → Appends a b given → PutsPartDue p q piece a b
 part_due_put p q piece given a b feeds out = (feeds.0, subst (Appends a b) feeds.1 out, feeds.2)
 
-pub part_front_put : (p q : PartPlayer) → IsPartPlayer p → (piece given : List ℕ) (a b : Option (List ℕ)) → FeedsPart p q piece [] given → AppendsPrefix a b given → PutsPartFront p piece a b
-part_front_put p q is piece given a b feeds out = λ before rest fed all.
+pub part_prefix_put : (p q : PartPlayer) → IsPartPlayer p → (piece given : List ℕ) (a b : Option (List ℕ)) → FeedsPart p q piece [] given → AppendsPrefix a b given → PutsPartPrefix p piece a b
+part_prefix_put p q is piece given a b feeds out = λ before rest fed all.
     let joined : before ++ (piece ++ rest) ≡ (before ++ piece) ++ rest = sym (append_assoc before piece rest) in
-    let behind = part_front p is (before ++ piece) rest (ap length (sym joined) ∙ all) in (
-      feeds.0 ++ behind.0,
-      ap (part_all p) joined ∙ behind.1 ∙ ap (λ xs. xs ++ behind.0) (feeds.2 before fed).1 ∙ append_assoc (part_due p before) feeds.0 behind.0,
-      front_more a b feeds.0 behind.0 (subst (AppendsPrefix a b) feeds.1 out),
+    let after = part_header p is (before ++ piece) rest (ap length (sym joined) ∙ all) in (
+      feeds.0 ++ after.0,
+      ap (part_all p) joined ∙ after.1 ∙ ap (λ xs. xs ++ after.0) (feeds.2 before fed).1 ∙ append_assoc (part_due p before) feeds.0 after.0,
+      prefix_more a b feeds.0 after.0 (subst (AppendsPrefix a b) feeds.1 out),
     )
 
 -- ---- the rest
 pub part_rest_put : (p : PartPlayer) (given : List ℕ) (a b : Option (List ℕ)) → FinishesPart p [] given → Appends a b given → PutsPartRest p a b
 part_rest_put p given a b finishes out = (finishes.0, subst (Appends a b) finishes.1 out, finishes.2)
 
-pub part_rest_front : (p : PartPlayer) → part_fed p ≡ (part_rest p).size → (given : List ℕ) (a b : Option (List ℕ)) → FinishesPart p [] given → AppendsPrefix a b given → PutsPartFront p [] a b
-part_rest_front p whole given a b finishes out = λ before rest fed all.
+pub part_rest_prefix : (p : PartPlayer) → part_fed p ≡ (part_rest p).size → (given : List ℕ) (a b : Option (List ℕ)) → FinishesPart p [] given → AppendsPrefix a b given → PutsPartPrefix p [] a b
+part_rest_prefix p whole given a b finishes out = λ before rest fed all.
     let none : rest ≡ [] = nil_from_length rest (omega (arith, fed.fed.fed, whole, all, length-append before rest)) in
     let same : before ++ rest ≡ before = ap (λ xs. before ++ xs) none ∙ append-nil before in
     (finishes.0, ap (part_all p) same ∙ finishes.2 before fed, subst (AppendsPrefix a b) finishes.1 out)

@@ -1,4 +1,4 @@
--- What of a part a file plays whose sound came to a sink, or a part of it.
+-- What is played of a part of a file whose sound came to a sink, or some of it.
 use Rattle.std.proofs.Common.{◌≡◌, ℕ, ◌+◌, ◌-◌, ◌*◌, ◌/◌, ◌%◌, ◌^◌, ◌<◌, ◌≤◌, min, inl, inr, List, ◌++◌, length, take, drop, slice_range, Option, None, Some, IfSome, sym, subst, ap, ap₂, ◌∙◌, arith, append-nil, length-append, length-take, length-drop, one-mul, refl, ℤ, [], ◌∷◌}
 use Rattle.std.specs.List.{flat_map}
 use Rattle.std.specs.Int.{div_ceil}
@@ -19,11 +19,11 @@ use Rattle.wave_core.specs.Texts.{header, pad_bytes, sample_bytes}
 use Rattle.player_core.specs.Due.{all_bytes}
 use Rattle.player_core.specs.Frames.{frame, frame_count, frames}
 use Rattle.player_core.specs.Laws.{total_frames}
-use Rattle.player_core.specs.PartPlaying.{PartIsPlayed, PartOnlyFromOutside, PlaysPart, StandsForPart, part_pcm}
+use Rattle.player_core.specs.PartPlaying.{AppliesToPart, PartIsPlayed, PartOnlyFromOutsideBy, PlaysPartBy, part_pcm}
 use Rattle.player_core.specs.Parts.{frames_sound, part_bytes, part_file}
-use Rattle.player_core.specs.Wave.{file_size}
+use Rattle.player_core.specs.Wave.{wave_file_size}
 use Rattle.sound_core.specs.Faults.{IsFromOutside}
-use Rattle.sound_core.specs.Files.{HoldsRecording, StatesSound}
+use Rattle.sound_core.specs.Files.{HoldsRecording, LeadsToSound}
 use Rattle.sound_core.specs.Outlines.{AreStated, IsPlacedIn, Surroundings, with_sound}
 use Rattle.sound_core.specs.Sinks.{BeginsSound}
 use Rattle.sound_core.specs.declared.fault.StreamFault.{StreamFault}
@@ -79,7 +79,7 @@ module _ (d : Decimator) (start stop : ℕ) (ordered : start ≤ stop) where
         length-slice_range (all_bytes d s bytes) (start * align) (stop * align) (omega (arith, most, frames_fill d s bytes is whole all))
         ∙ sym (less_times stop start align)
 
-    pub part_size : 0 < d.factor → length (part_file d s start stop bytes) ≡ file_size d (frames_sound d s (stop - start))
+    pub part_size : 0 < d.factor → length (part_file d s start stop bytes) ≡ wave_file_size d (frames_sound d s (stop - start))
     part_size some =
         let number = frames_number d s (stop - start) some (omega (arith, inside)) in
         file_has_size d (frames_sound d s (stop - start)) (part_bytes d s bytes start stop) (part_long ∙ ap (λ n. n * block_align s.channels d.width) (sym number))
@@ -114,19 +114,19 @@ part_is_played law file r s d start stop has is whole least ordered inside =
       too_large = λ large. joined.too_large (omega (arith, large, size));
     }
 
--- ---- of a file that begins with the front of one
+-- ---- of a file that begins with the prefix of one
 module _ (law : PartIsPlayed) (d : Decimator) (least : 8 ≤ d.factor) (start stop : ℕ) where
-  module _ (front : List ℕ) (s : Sound) (tells : StatesSound front s) where
+  module _ (prefix : List ℕ) (s : Sound) (states : LeadsToSound prefix s) where
     abbrev ahead : List ℕ
-    ahead = drop s.start front
+    ahead = drop s.start prefix
 
-    sound_at : (left : List ℕ) → sound_bytes (front ++ left) s ≡ take s.size (ahead ++ left)
-    sound_at left = ap (take s.size) (drop-append-le s.start front left tells.within)
+    sound_at : (left : List ℕ) → sound_bytes (prefix ++ left) s ≡ take s.size (ahead ++ left)
+    sound_at left = ap (take s.size) (drop-append-le s.start prefix left states.within)
 
-    size_at : (left : List ℕ) → length (front ++ left) ≡ s.start + length (ahead ++ left)
-    size_at left = omega (arith, length-append front left, length-append ahead left, length-drop s.start front, tells.within)
+    size_at : (left : List ℕ) → length (prefix ++ left) ≡ s.start + length (ahead ++ left)
+    size_at left = omega (arith, length-append prefix left, length-append ahead left, length-drop s.start prefix, states.within)
 
-    -- what of the part a file plays that begins so
+    -- what of the part is played of a file that begins so
     pub record IsPartOfWhole (left bytes : List ℕ) : Type 0 where
       pub divided : s.rate % d.factor ≡ 0
       pub ordered : start ≤ stop
@@ -134,20 +134,20 @@ module _ (law : PartIsPlayed) (d : Decimator) (least : 8 ≤ d.factor) (start st
       pub enough : s.size ≤ length (ahead ++ left)
       pub is : bytes ≡ part_file d s start stop (take s.size (ahead ++ left))
 
-    pub part_text_of : (left bytes : List ℕ) → PlaysPart d start stop (front ++ left) bytes → IsPartOfWhole left bytes
+    pub part_text_of : (left bytes : List ℕ) → PlaysPartBy d start stop (prefix ++ left) bytes → IsPartOfWhole left bytes
     part_text_of left bytes plays =
         let r = plays.recording in
-        let has : HasSound (front ++ left) r s = tells.has left r plays.file_holds in
+        let has : HasSound (prefix ++ left) r s = states.has left r plays.file_holds in
         let total : frame_count d r.channels ≡ total_frames d s = ap (λ k. div_ceil k d.factor) has.count in
         let inside : stop ≤ total_frames d s = omega (arith, plays.inside, total) in
-        let played = law (front ++ left) r s d start stop has tells.is_sound tells.whole least plays.ordered inside in
+        let played = law (prefix ++ left) r s d start stop has states.is_sound states.whole least plays.ordered inside in
         record {
           divided = subst (λ n. n % d.factor ≡ 0) has.rate plays.rate_divided;
           ordered = plays.ordered;
           inside = inside;
           enough = omega (arith, has.in_file, size_at left);
           is = elim (cases_lt (riff_size s.channels d.width (stop - start)) (2 ^ 32)) [
-            | inl fits ↦ (let both : Some bytes ≡ Some (part_file d s start stop (sound_bytes (front ++ left) s)) = sym plays.text ∙ played.whole fits in same both ∙ ap (λ xs. part_file d s start stop xs) (sound_at left))
+            | inl fits ↦ (let both : Some bytes ≡ Some (part_file d s start stop (sound_bytes (prefix ++ left) s)) = sym plays.text ∙ played.whole fits in same both ∙ ap (λ xs. part_file d s start stop xs) (sound_at left))
             | inr large ↦ (let both : Some bytes ≡ None = sym plays.text ∙ played.too_large large in absurd cc)
           ];
         }
@@ -161,11 +161,11 @@ module _ (law : PartIsPlayed) (d : Decimator) (least : 8 ≤ d.factor) (start st
     pub long : length (came ++ rest) ≡ s.size
     pub is : bytes ≡ part_file d s start stop (came ++ rest)
 
-  pub part_text_came : (s : Sound) (came file bytes : List ℕ) → BeginsSound s came file → length came ≤ s.size → PlaysPart d start stop file bytes → IsPartText s came bytes
+  pub part_text_came : (s : Sound) (came file bytes : List ℕ) → BeginsSound s came file → length came ≤ s.size → PlaysPartBy d start stop file bytes → IsPartText s came bytes
   part_text_came s came file bytes begins few plays =
-      let ahead = drop s.start begins.front in
+      let ahead = drop s.start begins.prefix in
       let rest = take (s.size - length came) begins.more in
-      let text = part_text_of begins.front s begins.tells begins.rest bytes (subst (λ f. PlaysPart d start stop f bytes) begins.file_is plays) in
+      let text = part_text_of begins.prefix s begins.states begins.rest bytes (subst (λ f. PlaysPartBy d start stop f bytes) begins.file_is plays) in
       let whole : take s.size (ahead ++ begins.rest) ≡ came ++ rest = ap (take s.size) begins.sound_is ∙ whole_is s.size came begins.more ∙ ap (λ zs. zs ++ take (s.size - length zs) begins.more) (take_all s.size came few) in
       record {
         rest = rest;
@@ -174,17 +174,17 @@ module _ (law : PartIsPlayed) (d : Decimator) (least : 8 ≤ d.factor) (start st
       }
 
   -- ---- whose whole sound came
-  module _ (o : Surroundings) (told : AreStated o) (file sound : List ℕ) (stands : IsPlacedIn o file sound) (divided : o.sound.rate % d.factor ≡ 0) (ordered : start ≤ stop) (inside : stop ≤ total_frames d o.sound) (fits : FitsRiff o.sound.channels d.width (stop - start)) where
-    abbrev behind : List ℕ
-    behind = stands.gap ++ (o.back ++ stands.rest)
+  module _ (o : Surroundings) (stated : AreStated o) (file sound : List ℕ) (stands : IsPlacedIn o file sound) (divided : o.sound.rate % d.factor ≡ 0) (ordered : start ≤ stop) (inside : stop ≤ total_frames d o.sound) (fits : FitsRiff o.sound.channels d.width (stop - start)) where
+    abbrev after : List ℕ
+    after = stands.gap ++ (o.back ++ stands.rest)
 
-    pub part_held : PlaysPart d start stop file (part_file d o.sound start stop sound)
+    pub part_held : PlaysPartBy d start stop file (part_file d o.sound start stop sound)
     part_held =
         let s = o.sound in
         let r = with_sound o.recording s sound in
-        let holds : HoldsRecording file r = holds_in s.interleaving file r (told.holds file sound stands) in
-        let has : HasSound file r s = subst (λ f. HasSound f r s) (sym stands.file_is) (told.tells.has (sound ++ behind) r (subst (λ f. HoldsRecording f r) stands.file_is holds)) in
-        let bytes : sound_bytes file s ≡ sound = ap (λ f. take s.size (drop s.start f)) stands.file_is ∙ ap (take s.size) (own o told file sound stands (sound ++ behind)) ∙ ap (λ n. take n (sound ++ behind)) (sym stands.sound_long) ∙ take-append_seam sound behind in
+        let holds : HoldsRecording file r = holds_in s.interleaving file r (stated.holds file sound stands) in
+        let has : HasSound file r s = subst (λ f. HasSound f r s) (sym stands.file_is) (stated.states.has (sound ++ after) r (subst (λ f. HoldsRecording f r) stands.file_is holds)) in
+        let bytes : sound_bytes file s ≡ sound = ap (λ f. take s.size (drop s.start f)) stands.file_is ∙ ap (take s.size) (own o stated file sound stands (sound ++ after)) ∙ ap (λ n. take n (sound ++ after)) (sym stands.sound_long) ∙ take-append_seam sound after in
         let total : frame_count d r.channels ≡ total_frames d s = ap (λ k. div_ceil k d.factor) has.count in
         record {
           recording = r;
@@ -192,26 +192,26 @@ module _ (law : PartIsPlayed) (d : Decimator) (least : 8 ≤ d.factor) (start st
           rate_divided = subst (λ n. n % d.factor ≡ 0) (sym has.rate) divided;
           ordered = ordered;
           inside = omega (arith, inside, total);
-          text = (law file r s d start stop has told.is_sound told.whole least ordered inside).whole fits ∙ ap (λ xs. Some (part_file d s start stop xs)) bytes;
+          text = (law file r s d start stop has stated.is_sound stated.whole least ordered inside).whole fits ∙ ap (λ xs. Some (part_file d s start stop xs)) bytes;
         }
 
   -- ---- refusals of a file whose part is played
-  pub part_outside : (file bytes : List ℕ) (f : StreamFault) → StandsForPart d start stop file f → PlaysPart d start stop file bytes → IsFromOutside f
+  pub part_outside : (file bytes : List ℕ) (f : StreamFault) → AppliesToPart d start stop file f → PlaysPartBy d start stop file bytes → IsFromOutside f
   part_outside file bytes FileRefused (inl refused) plays = refused plays.recording plays.file_holds
   part_outside file bytes FileRefused (inr stands) plays =
-      let text = part_text_of stands.front stands.sound stands.tells stands.rest bytes (subst (λ f. PlaysPart d start stop f bytes) stands.file_is plays) in
+      let text = part_text_of stands.prefix stands.sound stands.states stands.rest bytes (subst (λ f. PlaysPartBy d start stop f bytes) stands.file_is plays) in
       elim stands.outside [
         | inl turned ↦ (let none : ⊥ = omega (arith, turned, text.ordered) in none)
         | inr past ↦ (let none : ⊥ = omega (arith, past, text.inside) in none)
       ]
   part_outside file bytes RateNotDivided stands plays =
-      let has = stands.tells.has stands.rest plays.recording (subst (λ f. HoldsRecording f plays.recording) stands.file_is plays.file_holds) in
+      let has = stands.states.has stands.rest plays.recording (subst (λ f. HoldsRecording f plays.recording) stands.file_is plays.file_holds) in
       stands.not_divided (subst (λ n. n % d.factor ≡ 0) has.rate plays.rate_divided)
   part_outside file bytes TooLarge stands plays =
       let s = stands.sound in
-      let has = stands.tells.has stands.rest plays.recording (subst (λ f. HoldsRecording f plays.recording) stands.file_is plays.file_holds) in
-      let text = part_text_of stands.front s stands.tells stands.rest bytes (subst (λ f. PlaysPart d start stop f bytes) stands.file_is plays) in
-      let none = (law (stands.front ++ stands.rest) plays.recording s d start stop has stands.tells.is_sound stands.tells.whole least text.ordered text.inside).too_large stands.large in
+      let has = stands.states.has stands.rest plays.recording (subst (λ f. HoldsRecording f plays.recording) stands.file_is plays.file_holds) in
+      let text = part_text_of stands.prefix s stands.states stands.rest bytes (subst (λ f. PlaysPartBy d start stop f bytes) stands.file_is plays) in
+      let none = (law (stands.prefix ++ stands.rest) plays.recording s d start stop has stands.states.is_sound stands.states.whole least text.ordered text.inside).too_large stands.large in
       let both : Some bytes ≡ None = sym plays.text ∙ none in
       absurd cc
   part_outside file bytes ReadFailed stands plays = tt
@@ -219,6 +219,6 @@ module _ (law : PartIsPlayed) (d : Decimator) (least : 8 ≤ d.factor) (start st
   part_outside file bytes TurnLimit stands plays = tt
   part_outside file bytes Memory stands plays = tt
 
-  pub part_only_outside : (left : Option (List ℕ)) (f : StreamFault) → IfSome left (λ file. StandsForPart d start stop file f) → PartOnlyFromOutside left d start stop f
+  pub part_only_outside : (left : Option (List ℕ)) (f : StreamFault) → IfSome left (λ file. AppliesToPart d start stop file f) → PartOnlyFromOutsideBy left d start stop f
   part_only_outside None f stands = tt
   part_only_outside (Some file) f stands = λ bytes plays. part_outside file bytes f stands plays

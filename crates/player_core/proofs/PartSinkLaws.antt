@@ -18,23 +18,23 @@ use Rattle.sound_core.specs.Outlines.{AreStated, IsPlacedIn, Surroundings}
 use Rattle.sound_core.specs.Sinks.{BeginsSound, StopsTaking, TakesFile, TakesGiven}
 use Rattle.sound_core.specs.declared.fault.StreamFault.{StreamFault}
 use Rattle.player_core.specs.Laws.{file_around, total_frames}
-use Rattle.player_core.specs.PartPieces.{PutsPartDue, PutsPartFront, PutsPartRest}
-use Rattle.player_core.specs.PartPlaying.{PartFails, PartIsPlayed, PlaysPart, StandsForPart}
+use Rattle.player_core.specs.PartPieces.{PutsPartDue, PutsPartPrefix, PutsPartRest}
+use Rattle.player_core.specs.PartPlaying.{AppliesToPart, PartFails, PartIsPlayed, PlaysPartBy}
 use Rattle.player_core.specs.Parts.{frames_sound, part_bytes, part_file}
-use Rattle.player_core.specs.PartSinks.{FinishesPlayingPart, IsPartOpeningFault, IsPlayingPart, RefusesPart, frames_of}
+use Rattle.player_core.specs.PartSinks.{FinishesPlayingPart, IsPartOpeningFault, IsPlayingPart, RefusesPlayedPart, frames_as_sound}
 use Rattle.player_core.specs.PartView.{IsPartFed, IsPartOf, IsPartPlayer, IsSamePart, part_all, part_due, part_fed, part_rest, part_start}
 use Rattle.player_core.specs.PlayerView.{filter_of, sound_of}
 use Rattle.player_core.specs.Playing.{PlaysFile, PlaysGiven, WritesPrefix}
-use Rattle.player_core.specs.Wave.{file_size, sound_header, pad_of}
+use Rattle.player_core.specs.Wave.{wave_file_size, sound_header, pad_of}
 use Rattle.player_core.specs.declared.part_sink.PartSink.{PartSink}
 use Rattle.player_core.specs.declared.parts.PartPlayer.{PartPlayer}
 use Rattle.player_core.proofs.FaultLaws.{outline_later, outline_unwritten, writing_later, writing_own}
 use Rattle.player_core.proofs.PaceLaws.{parted}
-use Rattle.player_core.proofs.PartFaultLaws.{part_opening_stands, part_outline_stands, writing_part_opening}
-use Rattle.player_core.proofs.PartPieceLaws.{due_same, part_front, plays_on}
+use Rattle.player_core.proofs.PartFaultLaws.{part_opening_holds, part_outline_holds, writing_part_opening}
+use Rattle.player_core.proofs.PartPieceLaws.{due_same, part_header, plays_on}
 use Rattle.player_core.proofs.PartPlayLaws.{part_held, part_size, part_text_came}
-use Rattle.player_core.proofs.PieceLaws.{front_more, front_on}
-use Rattle.player_core.proofs.PlayLaws.{begins_held, none_front}
+use Rattle.player_core.proofs.PieceLaws.{prefix_more, prefix_on}
+use Rattle.player_core.proofs.PlayLaws.{begins_held, none_prefix}
 use Rattle.player_core.proofs.SliceLaws.{drop_more_of}
 use Rattle.player_core.proofs.SoundLaws.{nothing_is_due}
 
@@ -69,7 +69,7 @@ module _ {W : Type 0} (held : W → Option (List ℕ)) (first old : PartSink W) 
   d = first.taps.now
 
   abbrev fs : Sound
-  fs = frames_of first s
+  fs = frames_as_sound first s
 
   abbrev n : ℕ
   n = part_start p
@@ -104,7 +104,7 @@ module _ {W : Type 0} (held : W → Option (List ℕ)) (first old : PartSink W) 
     subst (λ (e : _). old.stop - old.start ≤ total_frames e.now s) (sym is.taps) (omega (arith, is.start, is.stop, is.inside)),
   )
 
-  -- ---- a piece more
+  -- ---- one piece more
   module _ (new : PartSink W) (piece : List ℕ) (reference : new.outlet.ghost_name ≡ old.outlet.ghost_name) where
     abbrev c : Option (List ℕ)
     c = held (outlet_writer new.outlet.now)
@@ -143,29 +143,29 @@ module _ {W : Type 0} (held : W → Option (List ℕ)) (first old : PartSink W) 
           failures = failures ∙ is.failures;
         }
 
-    pub part_playing_refuses : (f : StreamFault) → IsWritingFault f → PutsPartFront p (drop (n - old.came) piece) b c → outlet_failures new.outlet.now ≡ outlet_failures old.outlet.now + failed_writes {X = Unit {0}} (Err f) → RefusesPart held first new s (bytes ++ piece) f
+    pub part_playing_refuses : (f : StreamFault) → IsWritingFault f → PutsPartPrefix p (drop (n - old.came) piece) b c → outlet_failures new.outlet.now ≡ outlet_failures old.outlet.now + failed_writes {X = Unit {0}} (Err f) → RefusesPlayedPart held first new s (bytes ++ piece) f
     part_playing_refuses f fault out failures = record {
       same = reference ∙ is.same;
       fault = writing_part_opening d s first.start first.stop f fault;
       unwritten = λ early. absurd (writing_later f fault early);
-      front = λ rest long.
+      prefix = λ rest long.
           let by = part_player_of in
           let whole = (bytes ++ piece) ++ rest in
-          let behind = drop (n - length (bytes ++ piece)) rest in
-          let all : drop n whole ≡ drop n bytes ++ (fed_piece ++ behind) = drop_more_of n (bytes ++ piece) rest ∙ ap (λ xs. xs ++ behind) joined ∙ append_assoc (drop n bytes) fed_piece behind in
-          let put = subst (λ k. PutsPartFront p (drop (n - k) piece) b c) is.came out (drop n bytes) behind by.fed (ap length (sym all) ∙ rest_long whole long) in
+          let after = drop (n - length (bytes ++ piece)) rest in
+          let all : drop n whole ≡ drop n bytes ++ (fed_piece ++ after) = drop_more_of n (bytes ++ piece) rest ∙ ap (λ xs. xs ++ after) joined ∙ append_assoc (drop n bytes) fed_piece after in
+          let put = subst (λ k. PutsPartPrefix p (drop (n - k) piece) b c) is.came out (drop n bytes) after by.fed (ap length (sym all) ∙ rest_long whole long) in
           let part : part_bytes d s whole first.start first.stop ≡ part_due p (drop n bytes) ++ put.0 = sym (by.plays.gives whole long) ∙ ap (part_all p) all ∙ put.1 in
           subst (AppendsPrefix a c) (sym (ap (file_around d fs) part ∙ parted (sound_header d fs) (part_due p (drop n bytes)) put.0 (pad_of d fs)))
-          (front_on a b c (sound_header d fs ++ part_due p (drop n bytes)) (put.0 ++ pad_of d fs) so_far (front_more b c put.0 (pad_of d fs) put.2));
+          (prefix_on a b c (sound_header d fs ++ part_due p (drop n bytes)) (put.0 ++ pad_of d fs) so_far (prefix_more b c put.0 (pad_of d fs) put.2));
       failures = failures ∙ ap (λ m. m + failed_writes {X = Unit {0}} (Err f)) is.failures;
     }
 
   -- nothing more came
-  pub part_rest_refuses : (new : PartSink W) → new.outlet.ghost_name ≡ old.outlet.ghost_name → (f : StreamFault) → IsWritingFault f → PutsPartFront p [] b (held (outlet_writer new.outlet.now)) → outlet_failures new.outlet.now ≡ outlet_failures old.outlet.now + failed_writes {X = Unit {0}} (Err f)
-      → RefusesPart held first new s bytes f
+  pub part_rest_refuses : (new : PartSink W) → new.outlet.ghost_name ≡ old.outlet.ghost_name → (f : StreamFault) → IsWritingFault f → PutsPartPrefix p [] b (held (outlet_writer new.outlet.now)) → outlet_failures new.outlet.now ≡ outlet_failures old.outlet.now + failed_writes {X = Unit {0}} (Err f)
+      → RefusesPlayedPart held first new s bytes f
   part_rest_refuses new reference f fault out failures =
-      subst (λ xs. RefusesPart held first new s xs f) (append-nil bytes)
-      (part_playing_refuses new [] reference f fault (subst (λ zs. PutsPartFront p zs b (held (outlet_writer new.outlet.now))) (sym (drop-nil (n - old.came))) out) failures)
+      subst (λ xs. RefusesPlayedPart held first new s xs f) (append-nil bytes)
+      (part_playing_refuses new [] reference f fault (subst (λ zs. PutsPartPrefix p zs b (held (outlet_writer new.outlet.now))) (sym (drop-nil (n - old.came))) out) failures)
 
   -- ---- the end
   module _ (m : Option (List ℕ)) (puts : PutsPartRest p b m) (long : length bytes ≡ s.size) where
@@ -190,37 +190,37 @@ module _ {W : Type 0} (held : W → Option (List ℕ)) (first old : PartSink W) 
         failures = failures ∙ is.failures;
       }
 
-      pub part_pad_refuses : (f : StreamFault) → IsWritingFault f → AppendsPrefix m (held (outlet_writer new.outlet.now)) (pad_of old.taps.now t) → outlet_failures new.outlet.now ≡ outlet_failures old.outlet.now + failed_writes {X = Unit {0}} (Err f) → RefusesPart held first new s bytes f
+      pub part_pad_refuses : (f : StreamFault) → IsWritingFault f → AppendsPrefix m (held (outlet_writer new.outlet.now)) (pad_of old.taps.now t) → outlet_failures new.outlet.now ≡ outlet_failures old.outlet.now + failed_writes {X = Unit {0}} (Err f) → RefusesPlayedPart held first new s bytes f
       part_pad_refuses f fault out failures = record {
         same = reference ∙ is.same;
         fault = writing_part_opening d s first.start first.stop f fault;
         unwritten = λ early. absurd (writing_later f fault early);
-        front = λ rest whole.
+        prefix = λ rest whole.
             let none : bytes ++ rest ≡ bytes = ap (λ xs. bytes ++ xs) (nil_from_length rest (omega (arith, whole, long, length-append bytes rest))) ∙ append-nil bytes in
             subst (λ xs. AppendsPrefix a (held (outlet_writer new.outlet.now)) (part_file d s first.start first.stop xs)) (sym none)
             (subst (AppendsPrefix a (held (outlet_writer new.outlet.now))) (append_assoc (sound_header d fs) (part_bytes d s bytes first.start first.stop) (pad_of d fs))
-            (front_on a m (held (outlet_writer new.outlet.now)) (sound_header d fs ++ part_bytes d s bytes first.start first.stop) (pad_of d fs) all_put (subst (AppendsPrefix m (held (outlet_writer new.outlet.now))) pad out)));
+            (prefix_on a m (held (outlet_writer new.outlet.now)) (sound_header d fs ++ part_bytes d s bytes first.start first.stop) (pad_of d fs) all_put (subst (AppendsPrefix m (held (outlet_writer new.outlet.now))) pad out)));
         failures = failures ∙ ap (λ k. k + failed_writes {X = Unit {0}} (Err f)) is.failures;
       }
 
 -- ---- the whole file
-module _ {W : Type 0} (held : W → Option (List ℕ)) (old mid new : PartSink W) (o : Surroundings) (told : AreStated o) where
+module _ {W : Type 0} (held : W → Option (List ℕ)) (old mid new : PartSink W) (o : Surroundings) (stated : AreStated o) where
   abbrev has : Sound → ℕ → List ℕ → Type 0
   has s done bytes = IsPlayingPart held old mid s bytes
 
   abbrev Plays : List ℕ → List ℕ → Type 0
-  Plays file bytes = PlaysPart old.taps.now old.start old.stop file bytes
+  Plays file bytes = PlaysPartBy old.taps.now old.start old.stop file bytes
 
   abbrev all_played : List ℕ → ℕ → Type 0
   all_played file n = (bytes : List ℕ) × Plays file bytes × (n ≡ length bytes) × Appends (held (outlet_writer old.outlet.now)) (held (outlet_writer new.outlet.now)) bytes
 
   module _ (law : PartIsPlayed) (least : 8 ≤ old.taps.now.factor) (ends : (first : PartSink W) (bytes : List ℕ) → IsPlayingPart held first mid o.sound bytes → length bytes ≡ o.sound.size → FinishesPlayingPart held first new o.sound bytes)
-      (n : ℕ) (size : n ≡ file_size old.taps.now (frames_of old o.sound)) where
+      (n : ℕ) (size : n ≡ wave_file_size old.taps.now (frames_as_sound old o.sound)) where
     held_played : (file sound : List ℕ) → IsPlacedIn o file sound → IsPlayingPart held old mid o.sound sound → all_played file n
     held_played file sound stands is = (
       part_file old.taps.now o.sound old.start old.stop sound,
-      part_held law old.taps.now least old.start old.stop o told file sound stands is.divided is.ordered is.inside is.fits,
-      size ∙ sym (part_size old.taps.now old.start old.stop is.ordered o.sound told.is_sound told.whole is.inside sound stands.sound_long (omega (arith, least))),
+      part_held law old.taps.now least old.start old.stop o stated file sound stands is.divided is.ordered is.inside is.fits,
+      size ∙ sym (part_size old.taps.now old.start old.stop is.ordered o.sound stated.is_sound stated.whole is.inside sound stands.sound_long (omega (arith, least))),
       (ends old sound is stands.sound_long).written,
     )
 
@@ -242,17 +242,17 @@ module _ {W : Type 0} (held : W → Option (List ℕ)) (old mid new : PartSink W
       → (new.outlet.ghost_name ≡ old.outlet.ghost_name) × (outlet_failures new.outlet.now ≡ outlet_failures old.outlet.now)
   part_ended left i j (read, reads, taken) ends = (let end = ends old taken.0 taken.2 taken.1.sound_long in (end.same, end.failures))
 
-  pub part_size_is : {R : Type 0} (left : R → Option (List ℕ)) (i j : Inlet R) → TakesGiven has left i j o → (n : ℕ) (t : Sound) → t ≡ frames_sound mid.taps.now o.sound (mid.stop - mid.start) → n ≡ file_size mid.taps.now t → n ≡ file_size old.taps.now (frames_of old o.sound)
+  pub part_size_is : {R : Type 0} (left : R → Option (List ℕ)) (i j : Inlet R) → TakesGiven has left i j o → (n : ℕ) (t : Sound) → t ≡ frames_sound mid.taps.now o.sound (mid.stop - mid.start) → n ≡ wave_file_size mid.taps.now t → n ≡ wave_file_size old.taps.now (frames_as_sound old o.sound)
   part_size_is left i j (read, reads, taken) n t frames is =
       let p = taken.2 in
-      is ∙ ap₂ (λ e u. file_size e.now u) p.taps (frames ∙ ap₂ (λ e k. frames_sound e.now o.sound k) p.taps (ap₂ (λ i j. i - j) p.stop p.start))
+      is ∙ ap₂ (λ e u. wave_file_size e.now u) p.taps (frames ∙ ap₂ (λ e k. frames_sound e.now o.sound k) p.taps (ap₂ (λ i j. i - j) p.stop p.start))
 
   abbrev pub PartStops : Option (List ℕ) → ℕ → ℕ → PartSink W → StreamFault → Type 0
-  PartStops left g h end f = StopsTaking (λ a b s done bytes. IsPlayingPart held a b s bytes) (λ a b s came e. RefusesPart held a b s came e) left g h old end f
+  PartStops left g h end f = StopsTaking (λ a b s done bytes. IsPlayingPart held a b s bytes) (λ a b s came e. RefusesPlayedPart held a b s came e) left g h old end f
 
   -- what is written at the end was refused
   pub part_end_stops : {R : Type 0} (left : R → Option (List ℕ)) (i j : Inlet R) (g h : ℕ) (f : StreamFault) → IsWritingFault f → (taken : TakesGiven has left i j o)
-      → ((first : PartSink W) (bytes : List ℕ) → IsPlayingPart held first mid o.sound bytes → length bytes ≡ o.sound.size → RefusesPart held first new o.sound bytes f) → PartStops (left (inlet_reader i)) g h new f
+      → ((first : PartSink W) (bytes : List ℕ) → IsPlayingPart held first mid o.sound bytes → length bytes ≡ o.sound.size → RefusesPlayedPart held first new o.sound bytes f) → PartStops (left (inlet_reader i)) g h new f
   part_end_stops left i j g h f fault (read, reads, taken) refuses = inr (record {
     sound = o.sound;
     came = taken.0;
@@ -264,12 +264,12 @@ module _ {W : Type 0} (held : W → Option (List ℕ)) (old mid new : PartSink W
       by : (p q : Option (List ℕ)) → Consumes p q read → IfSome p (BeginsSound o.sound taken.0)
       by None q consumed = tt
       by (Some xs) None consumed = absurd consumed
-      by (Some xs) (Some ys) consumed = subst (BeginsSound o.sound taken.0) (sym consumed) (begins_held o told read taken.0 taken.1 ys)
+      by (Some xs) (Some ys) consumed = subst (BeginsSound o.sound taken.0) (sym consumed) (begins_held o stated read taken.0 taken.1 ys)
 
 -- ---- why it is not played to its end
 module _ {W : Type 0} (held : W → Option (List ℕ)) (left : Option (List ℕ)) (g h : ℕ) (old new : PartSink W) (f : StreamFault) where
   abbrev pub Stops : Type 0
-  Stops = StopsTaking (λ a b s done bytes. IsPlayingPart held a b s bytes) (λ a b s came e. RefusesPart held a b s came e) left g h old new f
+  Stops = StopsTaking (λ a b s done bytes. IsPlayingPart held a b s bytes) (λ a b s came e. RefusesPlayedPart held a b s came e) left g h old new f
 
   abbrev filter : Decimator
   filter = old.taps.now
@@ -288,27 +288,27 @@ module _ {W : Type 0} (held : W → Option (List ℕ)) (left : Option (List ℕ)
     | inr refuses ↦ refuses.refuses.same
   ]
 
-  refused_stands : (o : Option (List ℕ)) (s : Sound) (came : List ℕ) → IfSome o (BeginsSound s came) → IsPartOpeningFault filter s old.start old.stop f → IfSome o (λ file. StandsForPart filter old.start old.stop file f)
-  refused_stands None s came begins fault = tt
-  refused_stands (Some file) s came begins fault = subst (λ x. StandsForPart filter old.start old.stop x f) (sym begins.file_is) (part_opening_stands filter begins.front begins.rest s old.start old.stop begins.tells f fault)
+  refused_holds : (o : Option (List ℕ)) (s : Sound) (came : List ℕ) → IfSome o (BeginsSound s came) → IsPartOpeningFault filter s old.start old.stop f → IfSome o (λ file. AppliesToPart filter old.start old.stop file f)
+  refused_holds None s came begins fault = tt
+  refused_holds (Some file) s came begins fault = subst (λ x. AppliesToPart filter old.start old.stop x f) (sym begins.file_is) (part_opening_holds filter begins.prefix begins.rest s old.start old.stop begins.states f fault)
 
   module _ (law : PartIsPlayed) (least : 8 ≤ filter.factor) where
-    refused_front : (o : Option (List ℕ)) (s : Sound) (came : List ℕ) → IfSome o (BeginsSound s came) → length came ≤ s.size → RefusesPart held old new s came f → WritesPrefix o (PlaysPart filter old.start old.stop) was now
-    refused_front None s came begins few refuses = tt
-    refused_front (Some file) s came begins few refuses = λ bytes plays.
+    refused_prefix : (o : Option (List ℕ)) (s : Sound) (came : List ℕ) → IfSome o (BeginsSound s came) → length came ≤ s.size → RefusesPlayedPart held old new s came f → WritesPrefix o (PlaysPartBy filter old.start old.stop) was now
+    refused_prefix None s came begins few refuses = tt
+    refused_prefix (Some file) s came begins few refuses = λ bytes plays.
         let text = part_text_came law filter least old.start old.stop s came file bytes begins few plays in
-        subst (AppendsPrefix was now) (sym text.is) (refuses.front text.rest text.long)
+        subst (AppendsPrefix was now) (sym text.is) (refuses.prefix text.rest text.long)
 
-    ended_front : (o : Option (List ℕ)) (s : Sound) (came : List ℕ) → IfSome o (BeginsSound s came) → length came ≤ s.size → IsPlayingPart held old new s came → WritesPrefix o (PlaysPart filter old.start old.stop) was now
-    ended_front None s came begins few is = tt
-    ended_front (Some file) s came begins few is = λ bytes plays.
+    ended_prefix : (o : Option (List ℕ)) (s : Sound) (came : List ℕ) → IfSome o (BeginsSound s came) → length came ≤ s.size → IsPlayingPart held old new s came → WritesPrefix o (PlaysPartBy filter old.start old.stop) was now
+    ended_prefix None s came begins few is = tt
+    ended_prefix (Some file) s came begins few is = λ bytes plays.
         let p = is.player in
         let n = part_start p in
-        let fs = frames_of old s in
+        let fs = frames_as_sound old s in
         let text = part_text_came law filter least old.start old.stop s came file bytes begins few plays in
         let whole = came ++ text.rest in
         let all : drop n whole ≡ drop n came ++ drop (n - length came) text.rest = drop_more_of n came text.rest in
-        let more = part_front p is.is_player (drop n came) (drop (n - length came) text.rest) (ap length (sym all) ∙ rest_long held old new s came is p is.player_is whole text.long) in
+        let more = part_header p is.is_player (drop n came) (drop (n - length came) text.rest) (ap length (sym all) ∙ rest_long held old new s came is p is.player_is whole text.long) in
         let part : part_bytes filter s whole old.start old.stop ≡ part_due p (drop n came) ++ more.0 = sym (is.plays.gives whole text.long) ∙ ap (part_all p) all ∙ more.1 in (
           sound_header filter fs ++ part_due p (drop n came),
           more.0 ++ pad_of filter fs,
@@ -318,22 +318,22 @@ module _ {W : Type 0} (held : W → Option (List ℕ)) (left : Option (List ℕ)
 
     pub part_fails : Stops → PartFails held left filter old.start old.stop old.outlet.now new.outlet.now f
     part_fails (inl none) = record {
-      fault = part_outline_stands left filter old.start old.stop f none.fault;
+      fault = part_outline_holds left filter old.start old.stop f none.fault;
       unwritten = λ early. ap (λ (k : PartSink W). outlet_writer k.outlet.now) none.same;
-      front = subst (λ (k : PartSink W). WritesPrefix left (PlaysPart filter old.start old.stop) was (held (outlet_writer k.outlet.now))) (sym none.same) (none_front left (PlaysPart filter old.start old.stop) was);
+      prefix = subst (λ (k : PartSink W). WritesPrefix left (PlaysPartBy filter old.start old.stop) was (held (outlet_writer k.outlet.now))) (sym none.same) (none_prefix left (PlaysPartBy filter old.start old.stop) was);
       failures = omega (arith, ap (λ (k : PartSink W). outlet_failures k.outlet.now) none.same, outline_unwritten (Unit {0}) left f none.fault);
     }
     part_fails (inr some) = elim some.how [
       | inl ends ↦ record {
-        fault = part_outline_stands left filter old.start old.stop f ends.fault;
+        fault = part_outline_holds left filter old.start old.stop f ends.fault;
         unwritten = λ early. absurd (outline_later left f ends.fault early);
-        front = ended_front left some.sound some.came some.begins some.few ends.taken;
+        prefix = ended_prefix left some.sound some.came some.begins some.few ends.taken;
         failures = omega (arith, ends.taken.failures, outline_unwritten (Unit {0}) left f ends.fault);
       }
       | inr refuses ↦ record {
-        fault = refused_stands left some.sound some.came some.begins refuses.refuses.fault;
+        fault = refused_holds left some.sound some.came some.begins refuses.refuses.fault;
         unwritten = refuses.refuses.unwritten;
-        front = refused_front left some.sound some.came some.begins some.few refuses.refuses;
+        prefix = refused_prefix left some.sound some.came some.begins some.few refuses.refuses;
         failures = refuses.refuses.failures;
       }
     ]

@@ -1,4 +1,4 @@
--- Frames whose places stand in a front of the sound are due, and how many bytes they are.
+-- Frames whose places are in a prefix of the sound are due, and how many bytes they are.
 use Rattle.std.proofs.Common.{◌≡◌, ℕ, ◌+◌, ◌-◌, ◌*◌, ◌/◌, ◌%◌, ◌<◌, ◌≤◌, inl, inr, min, List, length, refl, sym, subst, ap, ◌∙◌, arith}
 use Rattle.std.specs.Int.{div_ceil}
 use Rattle.std.proofs.Math.Nat.{div-add-mod', mul-le-mul_right, mul_assoc}
@@ -68,26 +68,26 @@ module _ (c part wholes count u i : ℕ) (six : c + 1 ≤ 6) (some : 1 ≤ part)
   pub in_count : i < count
   in_count = omega (arith, below, parts, bits)
 
-  heard_part : q * part + part ≤ u / ((c + 1) * part) * part
+  known_part : q * part + part ≤ u / ((c + 1) * part) * part
   unfolding group
-  heard_part =
+  known_part =
       let spread : (q + 1) * group ≡ q * group + group = grind arith in
       let positive : 0 < group = omega (arith, group_is, some) in
       let most : (q + 1) * part ≤ u / group * part = mul-le-mul_right part (le-div (q + 1) u group positive (omega (arith, spread, reaches))) in
       let parted : (q + 1) * part ≡ q * part + part = grind arith in
       omega (arith, most, parted)
 
-  pub is_heard : i < min (8 * min (div_ceil count 8) (u / ((c + 1) * part) * part)) count
-  is_heard = omega (arith, in_count, below, heard_part)
+  pub is_known : i < min (8 * min (div_ceil count 8) (u / ((c + 1) * part) * part)) count
+  is_known = omega (arith, in_count, below, known_part)
 
 -- ---- places of a sound
 one_less : (n : ℕ) → 1 ≤ n → (c : ℕ) × (n ≡ c + 1)
 one_less n some = (n - 1, omega (arith, some))
 
 module _ (s : Sound) (is : IsSound s) (u i : ℕ) (within : u ≤ s.size) (stands : IsWithinBytes s (u - 65536) i) where
-  -- its bits are heard, and it is one of them
-  pub place_heard : i < bits_held s.count (bytes_known s u)
-  place_heard =
+  -- its bits are known, and it is one of them
+  pub place_known : i < bits_held s.count (bytes_known s u)
+  place_known =
       let one = one_less s.channels is.some_channel in
       by s.interleaving one.0 one.1 (subst (λ n. n ≤ sound_size s.interleaving s.channels s.count) refl (omega (arith, within, is.size))) (stands one.0 (omega (arith, one.1)))
     where
@@ -97,13 +97,13 @@ module _ (s : Sound) (is : IsSound s) (u i : ℕ) (within : u ≤ s.size) (stand
           let size : s.count / 8 * s.channels ≡ s.count / 8 * ((c + 1) * 1) = rw number (grind arith) in
           let place : (i / 8 / 1 * (c + 1) + c) * 1 + i / 8 % 1 < u - 65536 = subst (λ n. (i / 8 / 1 * n + c) * 1 + i / 8 % 1 < u - 65536) number at in
           subst (λ n. i < min (8 * min (div_ceil s.count 8) (u / (n * 1) * 1)) s.count) (sym number)
-          (is_heard c 1 (s.count / 8) s.count u i (omega (arith, number, is.six_channels)) (omega arith) (omega arith) (omega (arith, few, size)) (omega arith) place)
+          (is_known c 1 (s.count / 8) s.count u i (omega (arith, number, is.six_channels)) (omega arith) (omega arith) (omega (arith, few, size)) (omega arith) place)
       by (Blocks o) c number few at =
           let groups = div_ceil s.count 32768 in
           let size : groups * s.channels * 4096 ≡ groups * ((c + 1) * 4096) = rw number (mul_assoc groups (c + 1) 4096) in
           let place : (i / 8 / 4096 * (c + 1) + c) * 4096 + i / 8 % 4096 < u - 65536 = subst (λ n. (i / 8 / 4096 * n + c) * 4096 + i / 8 % 4096 < u - 65536) number at in
           subst (λ n. i < min (8 * min (div_ceil s.count 8) (u / (n * 4096) * 4096)) s.count) (sym number)
-          (is_heard c 4096 groups s.count u i (omega (arith, number, is.six_channels)) (omega arith) (omega arith) (omega (arith, few, size)) (omega arith) place)
+          (is_known c 4096 groups s.count u i (omega (arith, number, is.six_channels)) (omega arith) (omega arith) (omega (arith, few, size)) (omega arith) place)
 
 -- ---- numbers of frames
 pub some_more : (j n factor : ℕ) → 0 < factor → j * factor < n → j < div_ceil n factor
@@ -114,7 +114,7 @@ some_more j n factor some less = elim (cases_lt j (div_ceil n factor)) [
 
 module _ (d : Decimator) (s : Sound) (is : IsSound s) (least : 8 ≤ d.factor) (u j : ℕ) (within : u ≤ s.size) (stands : IsWithinBytes s (u - 65536) (j * d.factor + d.delay)) where
   place : j * d.factor + d.delay < bits_held s.count (bytes_known s u)
-  place = place_heard s is u (j * d.factor + d.delay) within stands
+  place = place_known s is u (j * d.factor + d.delay) within stands
 
   pub frame_due : j < frames_due d s u
   frame_due = some_more j (bits_held s.count (bytes_known s u) - d.delay) d.factor (omega (arith, least)) (omega (arith, place))
@@ -131,7 +131,7 @@ length-due d s bytes =
     ∙ ap (λ k. k * (d.width / 8)) samples
     ∙ mul_assoc n s.channels (d.width / 8)
 
--- a front of a WAVE file that holds so many frames
+-- a prefix of a WAVE file that holds n frames
 pub frames_held : (d : Decimator) (s : Sound) (n m size : ℕ) → size ≡ header_size s.channels d.width + m * (s.channels * (d.width / 8)) → ((j : ℕ) → IsWithinBytes s n (j * d.factor + d.delay) → j < m) → HoldsFrames d s n size
 frames_held d s n m size is each = record {
   header = omega (arith, is);

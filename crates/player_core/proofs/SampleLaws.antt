@@ -16,7 +16,7 @@ use Rattle.wave_core.specs.Texts.{header, pad_bytes, sample_bytes, wave_text}
 use Rattle.player_core.specs.Frames.{frame, frame_count, frames_below}
 use Rattle.player_core.specs.Samples.{pcm}
 
--- so many lists of one length, one after the other
+-- n lists of one length, one after the other
 pub length-frames : {X : Type 0} (frame : ℕ → List X) (m a n : ℕ) → ((j : ℕ) → length (frame j) ≡ m) → length (flat_map frame (range_with_len a n)) ≡ n * m
 length-frames frame m a zero each = sym (zero-mul m)
 length-frames frame m a (suc n) each =
@@ -61,10 +61,10 @@ module _ (r : Content) (d : Decimator) (some : 1 ≤ length r.channels) (law : P
       → ◌≡◌ {A = Result Y WaveFault} (Err e) (Err TooLarge) ↔ (wave_text (pcm r d) ≡ None)
   header_refused e h = (λ same. no_text (h.0 (let is : e ≡ TooLarge = cc in rw is refl)), λ none. let same = h.1 (is_large none) in let is : e ≡ TooLarge = cc in rw is refl)
 
-  -- want of memory behind a header is no want of a text
+  -- running out of memory after a header doesn't mean that there is no text
   pub memory_refused : {Y : Type 0} (e : WaveFault) → e ≡ Memory → FitsRiff (length r.channels) d.width number → ◌≡◌ {A = Result Y WaveFault} (Err e) (Err TooLarge) ↔ (wave_text (pcm r d) ≡ None)
   memory_refused e memory fits = (λ same. absurd cc, λ none. let large = is_large none in absurd (omega arith))
 
-  -- nor is an answer
+  -- an answer isn't one either
   pub answered : {Y : Type 0} (y : Y) → FitsRiff (length r.channels) d.width number → ◌≡◌ {A = Result Y WaveFault} (Ok y) (Err TooLarge) ↔ (wave_text (pcm r d) ≡ None)
   answered y fits = (λ same. absurd cc, λ none. let large = is_large none in absurd (omega arith))

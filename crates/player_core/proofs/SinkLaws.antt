@@ -19,10 +19,10 @@ use Rattle.sound_core.specs.declared.fault.StreamFault.{StreamFault}
 use Rattle.player_core.specs.Pieces.{PutsDue, PutsPrefixOf, PutsRest}
 use Rattle.player_core.specs.Playing.{PlaysBy, PlaysFile, PlaysGiven}
 use Rattle.player_core.specs.Sinks.{FinishesPlaying, IsPlaying, RefusesPlaying}
-use Rattle.player_core.specs.Wave.{file_size, sound_header, pad_of}
+use Rattle.player_core.specs.Wave.{wave_file_size, sound_header, pad_of}
 use Rattle.player_core.specs.declared.sink.PlayingSink.{PlayingSink}
 use Rattle.player_core.proofs.FaultLaws.{writing_later, writing_opening, writing_own}
-use Rattle.player_core.proofs.PieceLaws.{front_more, front_on}
+use Rattle.player_core.proofs.PieceLaws.{prefix_more, prefix_on}
 use Rattle.player_core.proofs.PaceLaws.{Stops, parted}
 use Rattle.player_core.proofs.PlayLaws.{begins_held, plays_held, size_held}
 
@@ -50,7 +50,7 @@ module _ {W : Type 0} (held : W → Option (List ℕ)) (first old : PlayingSink 
   abbrev b : Option (List ℕ)
   b = held (outlet_writer old.outlet.now)
 
-  -- ---- a piece more
+  -- ---- one piece more
   module _ (new : PlayingSink W) (piece : List ℕ) (reference : new.outlet.ghost_name ≡ old.outlet.ghost_name) (taps : new.taps ≡ old.taps) where
     abbrev c : Option (List ℕ)
     c = held (outlet_writer new.outlet.now)
@@ -83,14 +83,14 @@ module _ {W : Type 0} (held : W → Option (List ℕ)) (first old : PlayingSink 
       same = reference ∙ is.same;
       fault = writing_opening d s f fault;
       unwritten = λ early. absurd (writing_later f fault early);
-      front = λ rest long.
+      prefix = λ rest long.
           let by = player_of in
           let whole : bytes ++ (piece ++ rest) ≡ (bytes ++ piece) ++ rest = sym (append_assoc bytes piece rest) in
           let put = out bytes rest by.fed (ap length whole ∙ long ∙ ap (λ (t : Sound). t.size) (sym by.sound_is)) in
           let all : all_bytes d s ((bytes ++ piece) ++ rest) ≡ due_bytes d s bytes ++ put.0
           = ap (all_bytes d s) (sym whole) ∙ ap₂ (λ e t. all_bytes e t (bytes ++ (piece ++ rest))) (sym by.filter_is) (sym by.sound_is) ∙ put.1 ∙ ap₂ (λ e t. due_bytes e t bytes ++ put.0) by.filter_is by.sound_is in
           subst (AppendsPrefix a c) (sym (ap (file_around d s) all ∙ parted (sound_header d s) (due_bytes d s bytes) put.0 (pad_of d s)))
-          (front_on a b c (sound_header d s ++ due_bytes d s bytes) (put.0 ++ pad_of d s) is.written (front_more b c put.0 (pad_of d s) put.2));
+          (prefix_on a b c (sound_header d s ++ due_bytes d s bytes) (put.0 ++ pad_of d s) is.written (prefix_more b c put.0 (pad_of d s) put.2));
       failures = failures ∙ ap (λ n. n + failed_writes {X = Unit {0}} (Err f)) is.failures;
     }
 
@@ -124,27 +124,27 @@ module _ {W : Type 0} (held : W → Option (List ℕ)) (first old : PlayingSink 
         same = reference ∙ is.same;
         fault = writing_opening d s f fault;
         unwritten = λ early. absurd (writing_later f fault early);
-        front = λ rest whole.
+        prefix = λ rest whole.
             let none : bytes ++ rest ≡ bytes = ap (λ xs. bytes ++ xs) (nil_from_length rest (omega (arith, whole, long, length-append bytes rest))) ∙ append-nil bytes in
             subst (λ xs. AppendsPrefix a (held (outlet_writer new.outlet.now)) (file_around d s (all_bytes d s xs))) (sym none)
-            (subst (AppendsPrefix a (held (outlet_writer new.outlet.now))) (append_assoc (sound_header d s) (all_bytes d s bytes) (pad_of d s)) (front_on a m (held (outlet_writer new.outlet.now)) (sound_header d s ++ all_bytes d s bytes) (pad_of d s) all_put (subst (AppendsPrefix m (held (outlet_writer new.outlet.now))) pad out)));
+            (subst (AppendsPrefix a (held (outlet_writer new.outlet.now))) (append_assoc (sound_header d s) (all_bytes d s bytes) (pad_of d s)) (prefix_on a m (held (outlet_writer new.outlet.now)) (sound_header d s ++ all_bytes d s bytes) (pad_of d s) all_put (subst (AppendsPrefix m (held (outlet_writer new.outlet.now))) pad out)));
         failures = failures ∙ ap (λ n. n + failed_writes {X = Unit {0}} (Err f)) is.failures;
       }
 
 -- ---- the whole file
-module _ {W : Type 0} (held : W → Option (List ℕ)) (old mid new : PlayingSink W) (o : Surroundings) (told : AreStated o) where
+module _ {W : Type 0} (held : W → Option (List ℕ)) (old mid new : PlayingSink W) (o : Surroundings) (stated : AreStated o) where
   abbrev has : Sound → ℕ → List ℕ → Type 0
   has s done bytes = IsPlaying held old mid s bytes
 
   abbrev all_played : List ℕ → ℕ → Type 0
   all_played file n = (bytes : List ℕ) × PlaysBy old.taps.now file bytes × (n ≡ length bytes) × Appends (held (outlet_writer old.outlet.now)) (held (outlet_writer new.outlet.now)) bytes
 
-  module _ (law : SoundIsPlayed) (ends : (first : PlayingSink W) (bytes : List ℕ) → IsPlaying held first mid o.sound bytes → length bytes ≡ o.sound.size → FinishesPlaying held first new o.sound bytes) (n : ℕ) (size : n ≡ file_size old.taps.now o.sound) where
+  module _ (law : SoundIsPlayed) (ends : (first : PlayingSink W) (bytes : List ℕ) → IsPlaying held first mid o.sound bytes → length bytes ≡ o.sound.size → FinishesPlaying held first new o.sound bytes) (n : ℕ) (size : n ≡ wave_file_size old.taps.now o.sound) where
     held_played : (file sound : List ℕ) → IsPlacedIn o file sound → IsPlaying held old mid o.sound sound → all_played file n
     held_played file sound stands is = (
       file_around old.taps.now o.sound (all_bytes old.taps.now o.sound sound),
-      plays_held o told file sound stands law old.taps.now is.divided is.fits,
-      size ∙ sym (size_held o told file sound stands old.taps.now),
+      plays_held o stated file sound stands law old.taps.now is.divided is.fits,
+      size ∙ sym (size_held o stated file sound stands old.taps.now),
       (ends old sound is stands.sound_long).written,
     )
 
@@ -163,8 +163,8 @@ module _ {W : Type 0} (held : W → Option (List ℕ)) (old mid new : PlayingSin
       → (new.outlet.ghost_name ≡ old.outlet.ghost_name) × (outlet_failures new.outlet.now ≡ outlet_failures old.outlet.now)
   ended left i j (read, reads, taken) ends = (let end = ends old taken.0 taken.2 taken.1.sound_long in (end.same, end.failures))
 
-  pub size_is : {R : Type 0} (left : R → Option (List ℕ)) (i j : Inlet R) → TakesGiven has left i j o → (n : ℕ) → n ≡ file_size mid.taps.now o.sound → n ≡ file_size old.taps.now o.sound
-  size_is left i j (read, reads, taken) n is = is ∙ ap (λ t. file_size t.now o.sound) taken.2.taps
+  pub size_is : {R : Type 0} (left : R → Option (List ℕ)) (i j : Inlet R) → TakesGiven has left i j o → (n : ℕ) → n ≡ wave_file_size mid.taps.now o.sound → n ≡ wave_file_size old.taps.now o.sound
+  size_is left i j (read, reads, taken) n is = is ∙ ap (λ t. wave_file_size t.now o.sound) taken.2.taps
 
   -- what is written at the end was refused
   pub end_stops : {R : Type 0} (left : R → Option (List ℕ)) (i j : Inlet R) (g h : ℕ) (f : StreamFault) → IsWritingFault f → (taken : TakesGiven has left i j o)
@@ -180,4 +180,4 @@ module _ {W : Type 0} (held : W → Option (List ℕ)) (old mid new : PlayingSin
       by : (p q : Option (List ℕ)) → Consumes p q read → IfSome p (BeginsSound o.sound taken.0)
       by None q consumed = tt
       by (Some xs) None consumed = absurd consumed
-      by (Some xs) (Some ys) consumed = subst (BeginsSound o.sound taken.0) (sym consumed) (begins_held o told read taken.0 taken.1 ys)
+      by (Some xs) (Some ys) consumed = subst (BeginsSound o.sound taken.0) (sym consumed) (begins_held o stated read taken.0 taken.1 ys)

@@ -16,7 +16,7 @@ use Rattle.player_core.specs.Due.{all_bytes, bytes_known, channel_whole, channel
 use Rattle.player_core.specs.Frames.{frame, frame_count, frames, frames_below}
 use Rattle.player_core.specs.Laws.{FileHasSize, FramesFill, NothingIsDue, SoundIsPlayed, file_around, total_frames}
 use Rattle.player_core.proofs.FinishLaws.{channels_are, count_is}
-use Rattle.player_core.proofs.NewLaws.{none_heard}
+use Rattle.player_core.proofs.NewLaws.{none_known}
 use Rattle.player_core.proofs.SampleLaws.{length-frames, no_text, text_is}
 
 -- ---- the text of a recording is the file around the frames of its sound
@@ -60,7 +60,7 @@ file_has_size d s bytes long =
 -- ---- nothing is due before the first byte
 pub nothing_is_due : NothingIsDue
 nothing_is_due d s =
-    let bits : bits_held s.count (bytes_known s 0) - d.delay ≡ 0 = omega (arith, none_heard s) in
+    let bits : bits_held s.count (bytes_known s 0) - d.delay ≡ 0 = omega (arith, none_known s) in
     let number : due_number d s.count (bytes_known s 0) ≡ 0
     = ap (λ k. div_ceil k d.factor) bits ∙ ap₂ (λ a b. a + min 1 b) (zero-div d.factor) (zero-mod d.factor) in
     ap (λ n. flat_map (sample_bytes d.width) (frames_below d (channels_known s []) n)) number

@@ -19,13 +19,13 @@ use Rattle.player_core.specs.Due.{bytes_known, channel_bytes, channels_known, du
 use Rattle.player_core.specs.Frames.{frame, tile_of}
 use Rattle.player_core.specs.Groups.{group_size, part_size}
 use Rattle.player_core.specs.PlayerView.{AllFit, AreChannels, AreReady, AreWhole, FeedAll}
-use Rattle.player_core.proofs.DueLaws.{bytes_of_front, due_next, due_of_front, heard_of_front, whole}
+use Rattle.player_core.proofs.DueLaws.{bytes_of_prefix, due_next, due_of_prefix, read_of_prefix, whole}
 use Rattle.player_core.proofs.FeedLaws.{due_grows, mul_some, some_part}
 use Rattle.player_core.proofs.FrameLaws.{all_samples, frames_are, length-tile}
 
 -- ---- how many bytes a channel gets
-pub heard_grows : (s : Sound) (a b : ℕ) → 1 ≤ s.channels → a ≤ b → bytes_known s a ≤ bytes_known s b
-heard_grows s a b some h =
+pub known_grows : (s : Sound) (a b : ℕ) → 1 ≤ s.channels → a ≤ b → bytes_known s a ≤ bytes_known s b
+known_grows s a b some h =
     let gs = s.channels * part_size s.interleaving in
     let whole : a / gs ≤ b / gs = le-div (a / gs) b gs (mul_some s.channels (part_size s.interleaving) some (some_part s.interleaving)) (omega (arith, div-mul-le_self a gs)) in
     let parts : a / gs * part_size s.interleaving ≤ b / gs * part_size s.interleaving = mul-le-mul_right (part_size s.interleaving) whole in
@@ -40,17 +40,17 @@ module _ (s : Sound) (before bytes : List ℕ) (some : 1 ≤ s.channels) where
   unfolding gs
   positive = mul_some s.channels (part_size s.interleaving) some (some_part s.interleaving)
 
-  -- the whole groups before, and what stands behind them
+  -- the whole groups before, and what follows them
   k : ℕ
   k = length before / gs
 
-  front : List ℕ
-  front = take (k * gs) before
+  prefix : List ℕ
+  prefix = take (k * gs) before
 
   rest : List ℕ
   rest = drop (k * gs) before
 
-  -- the whole groups of what stands behind them and the next bytes
+  -- the whole groups of what follows them and the next bytes
   more : ℕ
   more = length (rest ++ bytes) / gs
 
@@ -60,18 +60,18 @@ module _ (s : Sound) (before bytes : List ℕ) (some : 1 ≤ s.channels) where
   left : List ℕ
   left = drop (more * gs) (rest ++ bytes)
 
-  parted : front ++ rest ≡ before
-  unfolding front rest
+  parted : prefix ++ rest ≡ before
+  unfolding prefix rest
   parted = take-append-drop (k * gs) before
 
-  parted_next : (front ++ groups) ++ left ≡ before ++ bytes
+  parted_next : (prefix ++ groups) ++ left ≡ before ++ bytes
   unfolding groups left
   parted_next =
-      append_assoc front groups left ∙ ap (λ xs. front ++ xs) (take-append-drop (more * gs) (rest ++ bytes))
-      ∙ sym (append_assoc front rest bytes) ∙ ap (λ xs. xs ++ bytes) parted
+      append_assoc prefix groups left ∙ ap (λ xs. prefix ++ xs) (take-append-drop (more * gs) (rest ++ bytes))
+      ∙ sym (append_assoc prefix rest bytes) ∙ ap (λ xs. xs ++ bytes) parted
 
-  long : length front ≡ k * gs
-  unfolding front k
+  long : length prefix ≡ k * gs
+  unfolding prefix k
   long = omega (arith, length-take (length before / gs * gs) before, div-mul-le_self (length before) gs)
 
   part : length rest < gs
@@ -86,48 +86,48 @@ module _ (s : Sound) (before bytes : List ℕ) (some : 1 ≤ s.channels) where
   unfolding left more
   part_left = omega (arith, length-drop (length (rest ++ bytes) / gs * gs) (rest ++ bytes), div-add-mod' (length (rest ++ bytes)) gs, mod_below (length (rest ++ bytes)) gs positive)
 
-  long_next : length (front ++ groups) ≡ (k + more) * gs
-  long_next = let spread : (k + more) * gs ≡ k * gs + more * gs = grind arith in omega (arith, length-append front groups, long, long_groups, spread)
+  long_next : length (prefix ++ groups) ≡ (k + more) * gs
+  long_next = let spread : (k + more) * gs ≡ k * gs + more * gs = grind arith in omega (arith, length-append prefix groups, long, long_groups, spread)
 
-  heard_before : bytes_known s (length before) ≡ bytes_known s (length front)
+  known_before : bytes_known s (length before) ≡ bytes_known s (length prefix)
   unfolding gs
-  heard_before = ap (λ xs. bytes_known s (length xs)) (sym parted) ∙ heard_of_front s front rest k long part
+  known_before = ap (λ xs. bytes_known s (length xs)) (sym parted) ∙ read_of_prefix s prefix rest k long part
 
-  heard_next : bytes_known s (length (before ++ bytes)) ≡ bytes_known s (length (front ++ groups))
+  known_next : bytes_known s (length (before ++ bytes)) ≡ bytes_known s (length (prefix ++ groups))
   unfolding gs
-  heard_next = ap (λ xs. bytes_known s (length xs)) (sym parted_next) ∙ heard_of_front s (front ++ groups) left (k + more) long_next part_left
+  known_next = ap (λ xs. bytes_known s (length xs)) (sym parted_next) ∙ read_of_prefix s (prefix ++ groups) left (k + more) long_next part_left
 
   pub held_next : (held : List ℕ) → held ≡ drop (length before / group_size s.interleaving s.channels * group_size s.interleaving s.channels) before
       → drop (length (held ++ bytes) / group_size s.interleaving s.channels * group_size s.interleaving s.channels) (held ++ bytes)
       ≡ drop (length (before ++ bytes) / group_size s.interleaving s.channels * group_size s.interleaving s.channels) (before ++ bytes)
   unfolding gs k rest more left
   held_next held is =
-      let all : length (before ++ bytes) / gs ≡ k + more = ap (λ xs. length xs / gs) (sym parted_next) ∙ whole s (front ++ groups) left (k + more) long_next part_left in
+      let all : length (before ++ bytes) / gs ≡ k + more = ap (λ xs. length xs / gs) (sym parted_next) ∙ whole s (prefix ++ groups) left (k + more) long_next part_left in
       ap (λ (xs : List ℕ). drop (length (xs ++ bytes) / gs * gs) (xs ++ bytes)) is
-      ∙ sym (drop-append_seam (front ++ groups) left)
-      ∙ ap (λ n. drop n ((front ++ groups) ++ left)) (long_next ∙ ap (λ n. n * gs) (sym all))
+      ∙ sym (drop-append_seam (prefix ++ groups) left)
+      ∙ ap (λ n. drop n ((prefix ++ groups) ++ left)) (long_next ∙ ap (λ n. n * gs) (sym all))
       ∙ ap (drop (length (before ++ bytes) / gs * gs)) parted_next
 
-  fit_front : (streams : List Stream) → length streams ≤ s.channels → AllFit s streams before → AllFit s streams front
+  fit_prefix : (streams : List Stream) → length streams ≤ s.channels → AllFit s streams before → AllFit s streams prefix
   unfolding gs
-  fit_front streams few all = λ c t low. subst (Fits (state_of (get_or streams c t))) (ap (λ xs. channel_bytes s xs c) (sym parted) ∙ bytes_of_front s front rest k long part c (omega arith)) (all c t low)
+  fit_prefix streams few all = λ c t low. subst (Fits (state_of (get_or streams c t))) (ap (λ xs. channel_bytes s xs c) (sym parted) ∙ bytes_of_prefix s prefix rest k long part c (omega arith)) (all c t low)
 
-  fit_next : (streams : List Stream) → length streams ≤ s.channels → AllFit s streams (front ++ groups) → AllFit s streams (before ++ bytes)
+  fit_next : (streams : List Stream) → length streams ≤ s.channels → AllFit s streams (prefix ++ groups) → AllFit s streams (before ++ bytes)
   unfolding gs
-  fit_next streams few all = λ c t low. subst (Fits (state_of (get_or streams c t))) (sym (ap (λ xs. channel_bytes s xs c) (sym parted_next) ∙ bytes_of_front s (front ++ groups) left (k + more) long_next part_left c (omega arith))) (all c t low)
+  fit_next streams few all = λ c t low. subst (Fits (state_of (get_or streams c t))) (sym (ap (λ xs. channel_bytes s xs c) (sym parted_next) ∙ bytes_of_prefix s (prefix ++ groups) left (k + more) long_next part_left c (omega arith))) (all c t low)
 
   pub due_step : (d : Decimator) → 8 ≤ d.factor → (given : List ℕ) × (due_bytes d s (before ++ bytes) ≡ due_bytes d s before ++ given)
   unfolding gs
   due_step d least =
-      let n = frames_due d s (length front) in
-      let grown = heard_grows s (length front) (length (front ++ groups)) some (omega (arith, length-append front groups)) in
-      let grows : n ≤ frames_due d s (length (front ++ groups)) = due_grows d s.count (bytes_known s (length front)) (bytes_known s (length (front ++ groups))) (omega (arith, least)) grown in
-      let m = frames_due d s (length (front ++ groups)) - n in
-      let number = bytes_known s (length (front ++ groups)) - bytes_known s (length front) in (
-        flat_map (sample_bytes d.width) (flat_map (frame d (channels_known s (front ++ groups))) (range_with_len n m)),
-        ap (due_bytes d s) (sym parted_next) ∙ due_of_front s (front ++ groups) left (k + more) long_next part_left d
-            ∙ due_next d s (bytes_known s (length front)) number front groups k long refl (omega (arith, grown)) least n m refl (omega (arith, grows))
-            ∙ ap (λ xs. xs ++ flat_map (sample_bytes d.width) (flat_map (frame d (channels_known s (front ++ groups))) (range_with_len n m))) (sym (due_of_front s front rest k long part d) ∙ ap (due_bytes d s) parted),
+      let n = frames_due d s (length prefix) in
+      let grown = known_grows s (length prefix) (length (prefix ++ groups)) some (omega (arith, length-append prefix groups)) in
+      let grows : n ≤ frames_due d s (length (prefix ++ groups)) = due_grows d s.count (bytes_known s (length prefix)) (bytes_known s (length (prefix ++ groups))) (omega (arith, least)) grown in
+      let m = frames_due d s (length (prefix ++ groups)) - n in
+      let number = bytes_known s (length (prefix ++ groups)) - bytes_known s (length prefix) in (
+        flat_map (sample_bytes d.width) (flat_map (frame d (channels_known s (prefix ++ groups))) (range_with_len n m)),
+        ap (due_bytes d s) (sym parted_next) ∙ due_of_prefix s (prefix ++ groups) left (k + more) long_next part_left d
+            ∙ due_next d s (bytes_known s (length prefix)) number prefix groups k long refl (omega (arith, grown)) least n m refl (omega (arith, grows))
+            ∙ ap (λ xs. xs ++ flat_map (sample_bytes d.width) (flat_map (frame d (channels_known s (prefix ++ groups))) (range_with_len n m))) (sym (due_of_prefix s prefix rest k long part d) ∙ ap (due_bytes d s) parted),
       )
 
   -- what the next bytes give
@@ -140,46 +140,46 @@ module _ (s : Sound) (before bytes : List ℕ) (some : 1 ≤ s.channels) where
     unfolding gs k rest more groups
     feeds = subst (λ (xs : List ℕ). FeedAll d s fed number old new xs tile) (given_is ∙ ap (λ (xs : List ℕ). take (length (xs ++ bytes) / group_size s.interleaving s.channels * group_size s.interleaving s.channels) (xs ++ bytes)) held_is) feeds_given
 
-    was_front : bytes_known s (length front) ≡ fed
-    was_front = sym heard_before ∙ was
+    was_prefix : bytes_known s (length prefix) ≡ fed
+    was_prefix = sym known_before ∙ was
 
-    is_next : bytes_known s (length (front ++ groups)) ≡ fed + number
-    is_next = sym heard_next ∙ is
+    is_next : bytes_known s (length (prefix ++ groups)) ≡ fed + number
+    is_next = sym known_next ∙ is
 
     n : ℕ
-    n = frames_due d s (length front)
+    n = frames_due d s (length prefix)
 
     m : ℕ
-    m = frames_due d s (length (front ++ groups)) - n
+    m = frames_due d s (length (prefix ++ groups)) - n
 
-    fed_all : AllFit s new (front ++ groups) × (tile ≡ tile_of d (channels_known s (front ++ groups)) n m)
+    fed_all : AllFit s new (prefix ++ groups) × (tile ≡ tile_of d (channels_known s (prefix ++ groups)) n m)
     unfolding gs n m
-    fed_all = feeds front k long was_front is_next (fit_front old (omega (arith, all_old)) fits)
+    fed_all = feeds prefix k long was_prefix is_next (fit_prefix old (omega (arith, all_old)) fits)
 
     pub all_fit : AllFit s new (before ++ bytes)
     all_fit = fit_next new (omega (arith, all_new)) fed_all.0
 
     pub in_range : (width : ℕ) → width ≡ d.width → (d.width ≡ 16) ⊎ (d.width ≡ 24) → All (IsSample width) tile
-    in_range width same known = subst (All (IsSample width)) (sym fed_all.1) (all_samples d (channels_known s (front ++ groups)) n m width same known)
+    in_range width same known = subst (All (IsSample width)) (sym fed_all.1) (all_samples d (channels_known s (prefix ++ groups)) n m width same known)
 
     columns : length tile / s.channels ≡ m
     columns =
-        let number_of : length (channels_known s (front ++ groups)) ≡ s.channels = length-map-range_with_len _ 0 s.channels in
-        let size : length tile ≡ s.channels * m = ap length fed_all.1 ∙ length-tile d (channels_known s (front ++ groups)) n m ∙ ap (λ c. c * m) number_of in
+        let number_of : length (channels_known s (prefix ++ groups)) ≡ s.channels = length-map-range_with_len _ 0 s.channels in
+        let size : length tile ≡ s.channels * m = ap length fed_all.1 ∙ length-tile d (channels_known s (prefix ++ groups)) n m ∙ ap (λ c. c * m) number_of in
         ap (λ l. l / s.channels) size ∙ mul-div_cancel_left m some
 
     pub gives_due : due_bytes d s (before ++ bytes) ≡ due_bytes d s before ++ flat_map (sample_bytes d.width) (frames_of tile (length tile / s.channels))
     unfolding gs n m
     gives_due =
-        let grows : frames_due d s (length front) ≤ frames_due d s (length (front ++ groups)) = due_grows d s.count (bytes_known s (length front)) (bytes_known s (length (front ++ groups))) (omega (arith, least)) (omega (arith, was_front, is_next)) in
-        ap (due_bytes d s) (sym parted_next) ∙ due_of_front s (front ++ groups) left (k + more) long_next part_left d
-        ∙ due_next d s fed number front groups k long was_front is_next least (frames_due d s (length front)) (frames_due d s (length (front ++ groups)) - frames_due d s (length front)) refl (omega arith)
-        ∙ ap₂ (λ xs ys. xs ++ flat_map (sample_bytes d.width) ys) (sym (due_of_front s front rest k long part d) ∙ ap (due_bytes d s) parted)
-        (sym (frames_are d (channels_known s (front ++ groups)) n m) ∙ ap₂ (λ xs (l : ℕ). frames_of xs l) (sym fed_all.1) (sym columns))
+        let grows : frames_due d s (length prefix) ≤ frames_due d s (length (prefix ++ groups)) = due_grows d s.count (bytes_known s (length prefix)) (bytes_known s (length (prefix ++ groups))) (omega (arith, least)) (omega (arith, was_prefix, is_next)) in
+        ap (due_bytes d s) (sym parted_next) ∙ due_of_prefix s (prefix ++ groups) left (k + more) long_next part_left d
+        ∙ due_next d s fed number prefix groups k long was_prefix is_next least (frames_due d s (length prefix)) (frames_due d s (length (prefix ++ groups)) - frames_due d s (length prefix)) refl (omega arith)
+        ∙ ap₂ (λ xs ys. xs ++ flat_map (sample_bytes d.width) ys) (sym (due_of_prefix s prefix rest k long part d) ∙ ap (due_bytes d s) parted)
+        (sym (frames_are d (channels_known s (prefix ++ groups)) n m) ∙ ap₂ (λ xs (l : ℕ). frames_of xs l) (sym fed_all.1) (sym columns))
 
-pub heard_more : (s : Sound) (fed size held whole : ℕ) → 1 ≤ s.channels → held ≡ fed % group_size s.interleaving s.channels → whole ≡ (held + size) / group_size s.interleaving s.channels * group_size s.interleaving s.channels
+pub known_more : (s : Sound) (fed size held whole : ℕ) → 1 ≤ s.channels → held ≡ fed % group_size s.interleaving s.channels → whole ≡ (held + size) / group_size s.interleaving s.channels * group_size s.interleaving s.channels
     → bytes_known s (fed + size) - bytes_known s fed ≤ whole / group_size s.interleaving s.channels * part_size s.interleaving
-heard_more s fed size held whole some rest is =
+known_more s fed size held whole some rest is =
     let gs = s.channels * part_size s.interleaving in
     let ps = part_size s.interleaving in
     let positive : 0 < gs = mul_some s.channels ps some (some_part s.interleaving) in
@@ -190,7 +190,7 @@ heard_more s fed size held whole some rest is =
     let parts : whole / gs * ps ≡ (held + size) / gs * ps = ap (λ n. n * ps) back in
     omega (arith, both, parts)
 
--- what stands behind the whole groups
+-- what follows the whole groups
 pub held_size : (before held : List ℕ) (gs : ℕ) → held ≡ drop (length before / gs * gs) before → length held ≡ length before % gs
 held_size before held gs is = omega (arith, ap length is ∙ length-drop (length before / gs * gs) before, div-add-mod' (length before) gs)
 
@@ -198,7 +198,7 @@ held_size before held gs is = omega (arith, ap length is ∙ length-drop (length
 pub ready_more : (d : Decimator) (s : Sound) (streams : List Stream) (a b number : ℕ) → 1 ≤ s.channels → a ≤ b → number ≡ bytes_known s b - bytes_known s a → AreChannels d s.count (bytes_known s a) streams → AreReady number streams
 ready_more d s streams a b number some h is are = λ i t low.
     let chan = are i t low in
-    let grows = heard_grows s a b some h in
+    let grows = known_grows s a b some h in
     let bits : div_ceil (get_or streams i t).count 8 ≡ div_ceil s.count 8 = ap (λ n. div_ceil n 8) chan.bits in
     (chan.ready, omega (arith, is, grows, bits, chan.bytes))
 
@@ -215,7 +215,7 @@ pub filter_known : (d : Decimator) (count fed : ℕ) (streams : List Stream) →
 filter_known d count fed [] some are = absurd (omega arith)
 filter_known d count fed (t ∷ ts) some are = let chan = are 0 t some in subst IsWithinLimits chan.filter chan.ready.limits
 
--- streams of which all is heard
+-- streams of which all is known
 pub all_whole : (d : Decimator) (s : Sound) (streams : List Stream) (size : ℕ) → bytes_known s size ≡ div_ceil s.count 8 → AreChannels d s.count (bytes_known s size) streams → AreWhole streams
 all_whole d s streams size all are = λ i t low.
     let chan = are i t low in

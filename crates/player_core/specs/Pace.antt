@@ -5,7 +5,7 @@ use Rattle.dsd_bits.specs.declared.sound.Sound.{Sound}
 use Rattle.fir_core.specs.Decimator.{Decimator}
 use Rattle.player_core.specs.Groups.{place_in}
 use Rattle.wave_core.specs.Sizes.{block_align, header_size}
-use Rattle.sound_core.specs.Files.{StatesSound}
+use Rattle.sound_core.specs.Files.{LeadsToSound}
 use Rattle.sound_core.specs.Sinks.{sound_given}
 use Rattle.player_core.specs.Playing.{PlaysBy, Applies, WritesPrefix}
 use Rattle.chunk_core.specs.Outlets.{outlet_failures, outlet_writer}
@@ -25,12 +25,12 @@ pub record HoldsFrames (d : Decimator) (s : Sound) (n size : ℕ) : Type 0 where
 
 -- a prefix of these bytes was written that holds them
 abbrev pub WritesFrames : Decimator → Sound → ℕ → List ℕ → Option (List ℕ) → Option (List ℕ) → Type 0
-WritesFrames d s n bytes held_old held_new = (front : List ℕ) × (back : List ℕ) × (bytes ≡ front ++ back) × Appends held_old held_new front × HoldsFrames d s n (length front)
+WritesFrames d s n bytes held_old held_new = (prefix : List ℕ) × (back : List ℕ) × (bytes ≡ prefix ++ back) × Appends held_old held_new prefix × HoldsFrames d s n (length prefix)
 
 -- if more than 131,072 bytes of the sound of a file that can be played were read, what was written lags by at most that
 -- many: it holds the header, and each frame whose place is in the bytes before
-abbrev pub KeepsUp : Option (List ℕ) → Decimator → List ℕ → ℕ → Option (List ℕ) → Option (List ℕ) → Type 0
-KeepsUp left_old d front given held_old held_new = IfSome left_old (λ left. (bytes : List ℕ) (s : Sound) → PlaysBy d (front ++ left) bytes → StatesSound (front ++ left) s → 131072 < sound_given s given
+abbrev pub KeepsUpBy : Option (List ℕ) → Decimator → List ℕ → ℕ → Option (List ℕ) → Option (List ℕ) → Type 0
+KeepsUpBy left_old d prefix given held_old held_new = IfSome left_old (λ left. (bytes : List ℕ) (s : Sound) → PlaysBy d (prefix ++ left) bytes → LeadsToSound (prefix ++ left) s → 131072 < sound_given s given
     → WritesFrames d s (sound_given s given - 131072) bytes held_old held_new)
 
 -- ---- stages
@@ -40,6 +40,6 @@ KeepsUp left_old d front given held_old held_new = IfSome left_old (λ left. (by
 pub record PlayFails {W : Type 0} (held : W → Option (List ℕ)) (left : Option (List ℕ)) (d : Decimator) (given : ℕ) (old new : Outlet W) (f : StreamFault) : Type 0 where
   pub fault : IfSome left (λ file. Applies d file f)
   pub unwritten : IsBeforeWriting f → outlet_writer new ≡ outlet_writer old
-  pub front : WritesPrefix left (PlaysBy d) (held (outlet_writer old)) (held (outlet_writer new))
-  pub keeps_up : StopsReading f → KeepsUp left d [] given (held (outlet_writer old)) (held (outlet_writer new))
+  pub prefix : WritesPrefix left (PlaysBy d) (held (outlet_writer old)) (held (outlet_writer new))
+  pub keeps_up : StopsReading f → KeepsUpBy left d [] given (held (outlet_writer old)) (held (outlet_writer new))
   pub failures : outlet_failures new ≡ outlet_failures old + failed_writes {X = Unit {0}} (Err f)

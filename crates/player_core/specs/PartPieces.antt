@@ -5,7 +5,8 @@ use Rattle.chunk_core.specs.Outlets.{AppendsPrefix}
 use Rattle.player_core.specs.PartView.{IsPartFed, part_all, part_due, part_rest}
 use Rattle.player_core.specs.declared.parts.PartPlayer.{PartPlayer}
 
--- after whatever bytes of the rest the player was fed, it was fed these, and what of the part was due then and not before was written
+-- after whatever bytes of the rest the player was fed, it was fed these, and what of the part was due then and not
+-- before was written
 abbrev pub PutsPartDue : PartPlayer → PartPlayer → List ℕ → Option (List ℕ) → Option (List ℕ) → Type 0
 PutsPartDue old new bytes held_old held_new = (more : List ℕ) × Appends held_old held_new more
     × ((before : List ℕ) → IsPartFed old before → IsPartFed new (before ++ bytes) × (part_due old (before ++ bytes) ≡ part_due old before ++ more))
@@ -15,7 +16,8 @@ abbrev pub PutsPartRest : PartPlayer → Option (List ℕ) → Option (List ℕ)
 PutsPartRest old held_old held_new = (more : List ℕ) × Appends held_old held_new more
     × ((before : List ℕ) → IsPartFed old before → part_all old before ≡ part_due old before ++ more)
 
--- whatever the sound is whose rest the player was fed a front of, with these bytes behind it, a front was written of those frames of the part that were not due
-abbrev pub PutsPartFront : PartPlayer → List ℕ → Option (List ℕ) → Option (List ℕ) → Type 0
-PutsPartFront p bytes held_old held_new = (before rest : List ℕ) → IsPartFed p before → length (before ++ (bytes ++ rest)) ≡ (part_rest p).size
+-- whatever the sound is whose rest the player was fed a prefix of, with these bytes behind it, a prefix was written of
+-- those frames of the part that were not due
+abbrev pub PutsPartPrefix : PartPlayer → List ℕ → Option (List ℕ) → Option (List ℕ) → Type 0
+PutsPartPrefix p bytes held_old held_new = (before rest : List ℕ) → IsPartFed p before → length (before ++ (bytes ++ rest)) ≡ (part_rest p).size
     → (more : List ℕ) × (part_all p (before ++ (bytes ++ rest)) ≡ part_due p before ++ more) × AppendsPrefix held_old held_new more

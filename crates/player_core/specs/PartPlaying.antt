@@ -11,7 +11,7 @@ use Rattle.wave_core.specs.Contents.{Pcm}
 use Rattle.wave_core.specs.Sizes.{FitsRiff, riff_size}
 use Rattle.wave_core.specs.Texts.{wave_text}
 use Rattle.sound_core.specs.Faults.{IsBeforeWriting, IsFromOutside, failed_writes}
-use Rattle.sound_core.specs.Files.{HoldsRecording, IsRefused, StatesSound}
+use Rattle.sound_core.specs.Files.{HoldsRecording, IsRefused, LeadsToSound}
 use Rattle.sound_core.specs.declared.fault.StreamFault.{StreamFault}
 use Rattle.sound_core.specs.declared.fault.StreamFault.TheVariants.{FileRefused, RateNotDivided, TooLarge, ReadFailed, WriteFailed, TurnLimit, Memory}
 use Rattle.player_core.specs.Frames.{frame_count, frames}
@@ -19,7 +19,8 @@ use Rattle.player_core.specs.Laws.{total_frames}
 use Rattle.player_core.specs.Parts.{part_file}
 use Rattle.player_core.specs.Playing.{IsNotDivided, WritesPrefix}
 
--- the samples of the frames of a recording from one on, up to another that is not among them: a slice of those of all its frames
+-- the samples of the frames of a recording from one on, up to another that is not among them: a slice of those of all
+-- its frames
 abbrev pub part_pcm : Content → Decimator → ℕ → ℕ → Pcm
 part_pcm r d start stop = record {
   channels = length r.channels;
@@ -28,8 +29,9 @@ part_pcm r d start stop = record {
   samples = slice_range (frames d r.channels) (start * length r.channels) (stop * length r.channels);
 }
 
--- the file holds a recording that has these frames, whose rate the factor divides, and these bytes are the WAVE text of their samples
-pub record PlaysPart (d : Decimator) (start stop : ℕ) (file bytes : List ℕ) : Type 0 where
+-- the file holds a recording that has these frames, whose rate the factor divides, and these bytes are the WAVE text of
+-- their samples
+pub record PlaysPartBy (d : Decimator) (start stop : ℕ) (file bytes : List ℕ) : Type 0 where
   pub recording : Content
   pub file_holds : HoldsRecording file recording
   pub rate_divided : recording.rate % d.factor ≡ 0
@@ -41,39 +43,41 @@ pub record PlaysPart (d : Decimator) (start stop : ℕ) (file bytes : List ℕ) 
 abbrev pub IsOutside : Decimator → Sound → ℕ → ℕ → Type 0
 IsOutside d s start stop = (stop < start) ⊎ (total_frames d s < stop)
 
--- the front of the file tells of a sound outside of which the part lies
+-- the prefix of the file tells of a sound outside of which the part lies
 pub record IsOutsideOf (d : Decimator) (start stop : ℕ) (file : List ℕ) : Type 0 where
-  pub front : List ℕ
+  pub prefix : List ℕ
   pub rest : List ℕ
   pub sound : Sound
-  pub file_is : file ≡ front ++ rest
-  pub tells : StatesSound front sound
+  pub file_is : file ≡ prefix ++ rest
+  pub states : LeadsToSound prefix sound
   pub outside : IsOutside d sound start stop
 
--- the front of the file tells of a sound whose rate the factor divides, and the sizes of the part's WAVE file do not fit
+-- the prefix of the file tells of a sound whose rate the factor divides, and the sizes of the part's WAVE file do not
+-- fit
 pub record IsPartTooLarge (d : Decimator) (start stop : ℕ) (file : List ℕ) : Type 0 where
-  pub front : List ℕ
+  pub prefix : List ℕ
   pub rest : List ℕ
   pub sound : Sound
-  pub file_is : file ≡ front ++ rest
-  pub tells : StatesSound front sound
+  pub file_is : file ≡ prefix ++ rest
+  pub states : LeadsToSound prefix sound
   pub large : 2 ^ 32 ≤ riff_size sound.channels d.width (stop - start)
 
 -- this fault of playing a part stands
-abbrev pub StandsForPart : Decimator → ℕ → ℕ → List ℕ → StreamFault → Type 0
-StandsForPart d start stop file FileRefused = IsRefused file ⊎ IsOutsideOf d start stop file
-StandsForPart d start stop file RateNotDivided = IsNotDivided d file
-StandsForPart d start stop file TooLarge = IsPartTooLarge d start stop file
-StandsForPart d start stop file ReadFailed = ⊤
-StandsForPart d start stop file WriteFailed = ⊤
-StandsForPart d start stop file TurnLimit = ⊤
-StandsForPart d start stop file Memory = ⊤
+abbrev pub AppliesToPart : Decimator → ℕ → ℕ → List ℕ → StreamFault → Type 0
+AppliesToPart d start stop file FileRefused = IsRefused file ⊎ IsOutsideOf d start stop file
+AppliesToPart d start stop file RateNotDivided = IsNotDivided d file
+AppliesToPart d start stop file TooLarge = IsPartTooLarge d start stop file
+AppliesToPart d start stop file ReadFailed = ⊤
+AppliesToPart d start stop file WriteFailed = ⊤
+AppliesToPart d start stop file TurnLimit = ⊤
+AppliesToPart d start stop file Memory = ⊤
 
 -- a file whose part is played is refused for memory, a device or the number of reads alone
-abbrev pub PartOnlyFromOutside : Option (List ℕ) → Decimator → ℕ → ℕ → StreamFault → Type 0
-PartOnlyFromOutside left d start stop f = IfSome left (λ file. (bytes : List ℕ) → PlaysPart d start stop file bytes → IsFromOutside f)
+abbrev pub PartOnlyFromOutsideBy : Option (List ℕ) → Decimator → ℕ → ℕ → StreamFault → Type 0
+PartOnlyFromOutsideBy left d start stop f = IfSome left (λ file. (bytes : List ℕ) → PlaysPartBy d start stop file bytes → IsFromOutside f)
 
--- what is played of a part of a recording in a file: the WAVE file around the bytes of the part's frames, or nothing where its sizes are too large
+-- what is played of a part of a recording in a file: the WAVE file around the bytes of the part's frames, or nothing
+-- where its sizes are too large
 pub record IsPartPlayed (file : List ℕ) (r : Content) (s : Sound) (d : Decimator) (start stop : ℕ) : Type 0 where
   pub whole : FitsRiff s.channels d.width (stop - start) → wave_text (part_pcm r d start stop) ≡ Some (part_file d s start stop (sound_bytes file s))
   pub too_large : 2 ^ 32 ≤ riff_size s.channels d.width (stop - start) → wave_text (part_pcm r d start stop) ≡ None
@@ -83,9 +87,9 @@ abbrev pub PartIsPlayed : Type 0
 PartIsPlayed = (file : List ℕ) (r : Content) (s : Sound) (d : Decimator) (start stop : ℕ) → HasSound file r s → IsSound s → (s.interleaving ≡ Bytes → s.count % 8 ≡ 0) → 8 ≤ d.factor → start ≤ stop → stop ≤ total_frames d s → IsPartPlayed file r s d start stop
 
 -- ---- stages
--- why a part is not played to its end: a fault stands, and of what is played a front was written
+-- why a part is not played to its end: a fault stands, and of what is played a prefix was written
 pub record PartFails {W : Type 0} (held : W → Option (List ℕ)) (left : Option (List ℕ)) (d : Decimator) (start stop : ℕ) (old new : Outlet W) (f : StreamFault) : Type 0 where
-  pub fault : IfSome left (λ file. StandsForPart d start stop file f)
+  pub fault : IfSome left (λ file. AppliesToPart d start stop file f)
   pub unwritten : IsBeforeWriting f → outlet_writer new ≡ outlet_writer old
-  pub front : WritesPrefix left (PlaysPart d start stop) (held (outlet_writer old)) (held (outlet_writer new))
+  pub prefix : WritesPrefix left (PlaysPartBy d start stop) (held (outlet_writer old)) (held (outlet_writer new))
   pub failures : outlet_failures new ≡ outlet_failures old + failed_writes {X = Unit {0}} (Err f)

@@ -18,10 +18,11 @@ use Rattle.player_core.specs.declared.part_sink.PartSink.{PartSink}
 use Rattle.player_core.specs.declared.parts.PartPlayer.{PartPlayer}
 
 -- the frames of the part that a sink plays of a sound, as a sound of their own
-abbrev pub frames_of : {W : Type 0} → PartSink W → Sound → Sound
-frames_of p s = frames_sound p.taps.now s (p.stop - p.start)
+abbrev pub frames_as_sound : {W : Type 0} → PartSink W → Sound → Sound
+frames_as_sound p s = frames_sound p.taps.now s (p.stop - p.start)
 
--- after these bytes of a sound, which the factor divides and in which the part lies, whose sizes fit, the player was fed those from its start on; the header was written, and the part's frames that are due
+-- after these bytes of a sound, which the factor divides and in which the part lies, whose sizes fit, the player was
+-- fed those from its start on; the header was written, and the part's frames that are due
 pub record IsPlayingPart {W : Type 0} (held : W → Option (List ℕ)) (first now : PartSink W) (s : Sound) (bytes : List ℕ) : Type 0 where
   pub same : now.outlet.ghost_name ≡ first.outlet.ghost_name
   pub taps : now.taps ≡ first.taps
@@ -38,11 +39,12 @@ pub record IsPlayingPart {W : Type 0} (held : W → Option (List ℕ)) (first no
   pub plays : IsPartOf first.taps.now s first.start first.stop player
   pub fed : IsPartFed player (drop (part_start player) bytes)
   pub came : now.came ≡ length bytes
-  pub written : Appends (held (outlet_writer first.outlet.now)) (held (outlet_writer now.outlet.now)) (sound_header first.taps.now (frames_of first s) ++ part_due player (drop (part_start player) bytes))
+  pub written : Appends (held (outlet_writer first.outlet.now)) (held (outlet_writer now.outlet.now)) (sound_header first.taps.now (frames_as_sound first s) ++ part_due player (drop (part_start player) bytes))
   pub ready : outlet_failures first.outlet.now < 2 ^ 64 - 1
   pub failures : outlet_failures now.outlet.now ≡ outlet_failures first.outlet.now
 
--- a fault of the part's header: the part lies outside of the sound, the factor does not divide the rate, the part's sizes do not fit, or the header is not written
+-- a fault of the part's header: the part lies outside of the sound, the factor does not divide the rate, the part's
+-- sizes do not fit, or the header is not written
 abbrev pub IsPartOpeningFault : Decimator → Sound → ℕ → ℕ → StreamFault → Type 0
 IsPartOpeningFault d s start stop FileRefused = IsOutside d s start stop
 IsPartOpeningFault d s start stop RateNotDivided = s.rate % d.factor ≢ 0
@@ -51,12 +53,13 @@ IsPartOpeningFault d s start stop WriteFailed = ⊤
 IsPartOpeningFault d s start stop Memory = ⊤
 IsPartOpeningFault d s start stop _ = ⊥
 
--- it was refused for this fault, which stands; of what a sound plays that begins with these bytes a front was written, and nothing where the fault comes before that
-pub record RefusesPart {W : Type 0} (held : W → Option (List ℕ)) (first now : PartSink W) (s : Sound) (came : List ℕ) (f : StreamFault) : Type 0 where
+-- it was refused for this fault, which stands; of what a sound plays that begins with these bytes a prefix was written,
+-- and nothing where the fault comes before that
+pub record RefusesPlayedPart {W : Type 0} (held : W → Option (List ℕ)) (first now : PartSink W) (s : Sound) (came : List ℕ) (f : StreamFault) : Type 0 where
   pub same : now.outlet.ghost_name ≡ first.outlet.ghost_name
   pub fault : IsPartOpeningFault first.taps.now s first.start first.stop f
   pub unwritten : IsBeforeWriting f → outlet_writer now.outlet.now ≡ outlet_writer first.outlet.now
-  pub front : (rest : List ℕ) → length (came ++ rest) ≡ s.size → AppendsPrefix (held (outlet_writer first.outlet.now)) (held (outlet_writer now.outlet.now)) (part_file first.taps.now s first.start first.stop (came ++ rest))
+  pub prefix : (rest : List ℕ) → length (came ++ rest) ≡ s.size → AppendsPrefix (held (outlet_writer first.outlet.now)) (held (outlet_writer now.outlet.now)) (part_file first.taps.now s first.start first.stop (came ++ rest))
   pub failures : outlet_failures now.outlet.now ≡ outlet_failures first.outlet.now + failed_writes {X = Unit {0}} (Err f)
 
 -- the WAVE file of the part of these sound bytes was written

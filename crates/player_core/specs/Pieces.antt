@@ -19,10 +19,10 @@ PutsRest old held_old held_new = (more : List ℕ) × Appends held_old held_new 
     × ((before : List ℕ) → IsPlayerFed old before → all_bytes (filter_of old) (sound_of old) before ≡ due_bytes (filter_of old) (sound_of old) before ++ more)
 
 -- a prefix was written of those frames of the whole sound that were not due after some bytes
-abbrev pub PutsPrefix : Decimator → Sound → List ℕ → List ℕ → Option (List ℕ) → Option (List ℕ) → Type 0
-PutsPrefix d s before whole held_old held_new = (more : List ℕ) × (all_bytes d s whole ≡ due_bytes d s before ++ more) × AppendsPrefix held_old held_new more
+abbrev pub PutsFramesPrefix : Decimator → Sound → List ℕ → List ℕ → Option (List ℕ) → Option (List ℕ) → Type 0
+PutsFramesPrefix d s before whole held_old held_new = (more : List ℕ) × (all_bytes d s whole ≡ due_bytes d s before ++ more) × AppendsPrefix held_old held_new more
 
 -- P holds of every sound that begins with what the player was fed and then these bytes
 abbrev pub PutsPrefixOf : Player → List ℕ → Option (List ℕ) → Option (List ℕ) → Type 0
 PutsPrefixOf p bytes held_old held_new = (before rest : List ℕ) → IsPlayerFed p before → length (before ++ (bytes ++ rest)) ≡ (sound_of p).size
-    → PutsPrefix (filter_of p) (sound_of p) before (before ++ (bytes ++ rest)) held_old held_new
+    → PutsFramesPrefix (filter_of p) (sound_of p) before (before ++ (bytes ++ rest)) held_old held_new

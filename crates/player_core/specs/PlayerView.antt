@@ -71,9 +71,9 @@ pub record IsPlayer (p : Player) : Type 0 where
 -- streams that fit whole groups of sound bytes, which are `fed` bytes of each channel, fit `number` more after them,
 -- and returned the samples that are due then and not before
 abbrev pub FeedAll : Decimator → Sound → ℕ → ℕ → List Stream → List Stream → List ℕ → List ℤ → Type 0
-FeedAll d s fed number old new groups tile = (front : List ℕ) (k : ℕ) → length front ≡ k * group_size s.interleaving s.channels
-    → bytes_known s (length front) ≡ fed → bytes_known s (length (front ++ groups)) ≡ fed + number
-    → AllFit s old front → AllFit s new (front ++ groups) × (tile ≡ tile_of d (channels_known s (front ++ groups)) (frames_due d s (length front)) (frames_due d s (length (front ++ groups)) - frames_due d s (length front)))
+FeedAll d s fed number old new groups tile = (prefix : List ℕ) (k : ℕ) → length prefix ≡ k * group_size s.interleaving s.channels
+    → bytes_known s (length prefix) ≡ fed → bytes_known s (length (prefix ++ groups)) ≡ fed + number
+    → AllFit s old prefix → AllFit s new (prefix ++ groups) × (tile ≡ tile_of d (channels_known s (prefix ++ groups)) (frames_due d s (length prefix)) (frames_due d s (length (prefix ++ groups)) - frames_due d s (length prefix)))
 
 -- streams that fit all sound bytes returned the rest of their samples
 abbrev pub FinishAll : Decimator → Sound → List Stream → List ℤ → Type 0

@@ -11,7 +11,7 @@ use Rattle.player_core.specs.Samples.{pcm}
 use Rattle.wave_core.specs.Sizes.{riff_size}
 use Rattle.wave_core.specs.Texts.{wave_text}
 use Rattle.sound_core.specs.Faults.{IsFromOutside}
-use Rattle.sound_core.specs.Files.{HoldsRecording, IsRefused, StatesSound}
+use Rattle.sound_core.specs.Files.{HoldsRecording, IsRefused, LeadsToSound}
 use Rattle.sound_core.specs.Reads.{Reads}
 use Rattle.sound_core.specs.declared.fault.StreamFault.{StreamFault}
 use Rattle.sound_core.specs.declared.fault.StreamFault.TheVariants.{FileRefused, RateNotDivided, TooLarge, ReadFailed, WriteFailed, TurnLimit, Memory}
@@ -23,22 +23,22 @@ pub record PlaysBy (d : Decimator) (file bytes : List ℕ) : Type 0 where
   pub rate_divided : recording.rate % d.factor ≡ 0
   pub text : wave_text (pcm recording d) ≡ Some bytes
 
--- the front of the file describes a sound whose rate the factor does not divide
+-- the prefix of the file describes a sound whose rate the factor does not divide
 pub record IsNotDivided (d : Decimator) (file : List ℕ) : Type 0 where
-  pub front : List ℕ
+  pub prefix : List ℕ
   pub rest : List ℕ
   pub sound : Sound
-  pub file_is : file ≡ front ++ rest
-  pub tells : StatesSound front sound
+  pub file_is : file ≡ prefix ++ rest
+  pub states : LeadsToSound prefix sound
   pub not_divided : sound.rate % d.factor ≢ 0
 
--- the front of the file describes a sound whose rate the factor divides, and the sizes of its WAVE file do not fit
+-- the prefix of the file describes a sound whose rate the factor divides, and the sizes of its WAVE file do not fit
 pub record IsTooLarge (d : Decimator) (file : List ℕ) : Type 0 where
-  pub front : List ℕ
+  pub prefix : List ℕ
   pub rest : List ℕ
   pub sound : Sound
-  pub file_is : file ≡ front ++ rest
-  pub tells : StatesSound front sound
+  pub file_is : file ≡ prefix ++ rest
+  pub states : LeadsToSound prefix sound
   pub divided : sound.rate % d.factor ≡ 0
   pub large : 2 ^ 32 ≤ riff_size sound.channels d.width (total_frames d sound)
 
@@ -67,5 +67,5 @@ abbrev pub WritesPrefix : Option (List ℕ) → (List ℕ → List ℕ → Type 
 WritesPrefix left Plays held_old held_new = IfSome left (λ file. (bytes : List ℕ) → Plays file bytes → AppendsPrefix held_old held_new bytes)
 
 -- a file that can be played is refused only for memory, a device or the number of reads
-abbrev pub OnlyFromOutside : Option (List ℕ) → Decimator → StreamFault → Type 0
-OnlyFromOutside left_old d f = IfSome left_old (λ file. (bytes : List ℕ) → PlaysBy d file bytes → IsFromOutside f)
+abbrev pub OnlyFromOutsideBy : Option (List ℕ) → Decimator → StreamFault → Type 0
+OnlyFromOutsideBy left_old d f = IfSome left_old (λ file. (bytes : List ℕ) → PlaysBy d file bytes → IsFromOutside f)

@@ -37,7 +37,7 @@ pub record RefusesPlaying {W : Type 0} (held : W → Option (List ℕ)) (first n
   pub same : now.outlet.ghost_name ≡ first.outlet.ghost_name
   pub fault : IsOpeningFault first.taps.now s f
   pub unwritten : IsBeforeWriting f → outlet_writer now.outlet.now ≡ outlet_writer first.outlet.now
-  pub front : (rest : List ℕ) → length (came ++ rest) ≡ s.size → AppendsPrefix (held (outlet_writer first.outlet.now)) (held (outlet_writer now.outlet.now)) (file_around first.taps.now s (all_bytes first.taps.now s (came ++ rest)))
+  pub prefix : (rest : List ℕ) → length (came ++ rest) ≡ s.size → AppendsPrefix (held (outlet_writer first.outlet.now)) (held (outlet_writer now.outlet.now)) (file_around first.taps.now s (all_bytes first.taps.now s (came ++ rest)))
   pub failures : outlet_failures now.outlet.now ≡ outlet_failures first.outlet.now + failed_writes {X = Unit {0}} (Err f)
 
 -- the WAVE file of these sound bytes was written

@@ -19,8 +19,8 @@ abbrev pub pad_of : Decimator → Sound → List ℕ
 pad_of d s = pad_bytes s.channels d.width (total_frames d s)
 
 -- the number of bytes of the file
-abbrev pub file_size : Decimator → Sound → ℕ
-file_size d s = sizes.file_size s.channels d.width (total_frames d s)
+abbrev pub wave_file_size : Decimator → Sound → ℕ
+wave_file_size d s = sizes.file_size s.channels d.width (total_frames d s)
 
 -- the factor divides the rate, the sizes fit, and the header was written
 pub record OpensWave (d : Decimator) (s : Sound) (held_old held_new : Option (List ℕ)) : Type 0 where

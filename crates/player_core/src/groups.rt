@@ -7,7 +7,7 @@ ghost use Rattle.player_core.specs.Due as Due;
 ghost use Rattle.player_core.specs.Groups as Groups;
 ghost use Rattle.player_core.specs.Groups.{channel_part, in_order};
 
-use dsd_bits::{BitOrder, Interleaving, Sound, turn};
+use dsd_bits::{BitOrder, Interleaving, Sound, reverse};
 use std::alloc::AllocError;
 
 // The bytes of a block.
@@ -137,7 +137,7 @@ fn push_in_order(own: &mut Vec<u8>, bytes: &[u8], order: BitOrder) -> Result<(),
     own.extend_from_slice(bytes)?;
     if order == BitOrder::LeastFirst {
         let (_, added) = own.as_mut_slice().split_at_mut(kept);
-        turn(added);
+        reverse(added);
     }
     Ok(())
 }

@@ -10,9 +10,9 @@
 //! holds at most one block of 65,536 bytes of the sound, what a player holds, the bytes before the sound, and those
 //! that follow it in a DSDIFF form, or the tag of a DSF file.
 //!
-//! A [`PartPlayer`] gives some of the frames, from any on: it is fed the sound from a place on before which no tap of its
-//! first frame reads, and drops what it gives before that frame and after its last. [`play_part`] plays a part of a file,
-//! by a sink of its own (`part_sink.rt`); the header and the sizes are those of the part.
+//! A [`PartPlayer`] gives some of the frames, from any on: it is fed the sound from a place on before which no tap of
+//! its first frame reads, and drops what it gives before that frame and after its last. [`play_part`] plays a part of a
+//! file, by a sink of its own (`part_sink.rt`); the header and the sizes are those of the part.
 //!
 //! The words of the contracts:
 //!
@@ -28,14 +28,15 @@
 //!   (`specs/Laws.antt`).
 //! - `PlaysBy d file bytes` says that these bytes are the WAVE text of the file's recording by this decimator, `Applies
 //!   d file fault` that a fault applies (`specs/Playing.antt`).
-//! - `KeepsUp left d front given old new` says that what was written lags what was read by at most 131,072 bytes of the
-//!   sound (`specs/Pace.antt`).
-//! - `IsPlaying held first now s bytes` says what the sink has written after these bytes of a sound (`specs/Sinks.antt`).
+//! - `KeepsUpBy left d prefix given old new` says that what was written lags what was read by at most 131,072 bytes of
+//!   the sound (`specs/Pace.antt`).
+//! - `IsPlaying held first now s bytes` says what the sink has written after these bytes of a sound
+//!   (`specs/Sinks.antt`).
 //!
 //! - `part_bytes d s bytes start stop` are the bytes of frames `start` to `stop - 1`, a slice of those of all frames
 //!   (`specs/Parts.antt`). `IsPartOf d s start stop p` says that a player plays these, `IsPartFed p bytes` that it was
-//!   fed these bytes from its start on (`specs/PartView.antt`), and `PlaysPart d start stop file bytes` that these bytes
-//!   are the WAVE text of the part of a file's recording (`specs/PartPlaying.antt`).
+//!   fed these bytes from its start on (`specs/PartView.antt`), and `PlaysPartBy d start stop file bytes` that these
+//!   bytes are the WAVE text of the part of a file's recording (`specs/PartPlaying.antt`).
 //!
 //! What it promises: whatever bytes a player was fed before, what [`Player::feed`] appends turns the bytes that were
 //! due into those that are due now, and what [`Player::finish`] appends turns them into those of all frames. So the
@@ -44,8 +45,9 @@
 //! memory, a device or the number of reads, after a prefix of its WAVE file, which keeps up with the reading if that
 //! stops.
 //!
-//! Laws of parts: [`parts_meet`], parts that meet are one part; [`whole_is_a_part`]; [`part_has_its_frames`], a part has
-//! the bytes of its frames; and [`part_is_played`], its WAVE text is a header of its own, these bytes, and the pad.
+//! Laws of parts: [`parts_meet`], parts that meet are one part; [`whole_is_a_part`]; [`part_has_its_frames`], a part
+//! has the bytes of its frames; and [`part_is_played`], its WAVE text is a header of its own, these bytes, and the
+//! pad.
 //!
 //! Laws for those who write the file in parts: [`sound_is_played`], the WAVE text of a recording in a file is the
 //! header, the bytes of all frames of its sound, and the pad; [`frames_fill_the_data`] and [`file_has_its_size`], their

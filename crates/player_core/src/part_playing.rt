@@ -1,11 +1,12 @@
 //! The way of a part of a file's frames, from a reader to a writer.
 
-ghost use Rattle.std.specs.Prelude.{◌≡◌, ◌+◌, ◌-◌, ◌<◌, ◌≤◌, ◌^◌, IfErr, IfOk, IfSome, IsErrOf, OnErr, OnOk};
-ghost use Rattle.chunk_core.specs.Inlets.{inlet_failures, inlet_given, inlet_reader, inlet_reads};
+ghost use Rattle.std.specs.Prelude.{◌≡◌, ◌⊎◌, ◌+◌, ◌-◌, ◌<◌, ◌≤◌, ◌^◌, IfErr, IfOk, IfSome, IsErrOf, OnErr, OnOk};
+ghost use Rattle.chunk_core.specs.Inlets.{inlet_failures, inlet_reader, inlet_reads};
 ghost use Rattle.chunk_core.specs.Outlets.{outlet_failures, outlet_writer};
 ghost use Rattle.fir_core.specs.Decimator.{IsWithinLimits};
 ghost use Rattle.sound_core.specs.Faults.{IsBeforeWriting, failed_reads, failed_writes};
-ghost use Rattle.player_core.specs.PartPlaying.{PartFails, PartOnlyFromOutside, PlaysPart, StandsForPart};
+ghost use Rattle.sound_core.specs.Readers.{CanFail, RunsOut};
+ghost use Rattle.player_core.specs.PartPlaying.{AppliesToPart, PartFails, PartOnlyFromOutsideBy, PlaysPartBy};
 ghost use Rattle.player_core.specs.Playing.{PlaysFile, PlaysGiven, WritesPrefix};
 
 use crate::laws::part_is_played;
@@ -13,7 +14,7 @@ use crate::part_sink::{PartSink, finish_part, frames_sound};
 use crate::wave::file_size;
 use chunk_core::{Inlet, Outlet};
 use fir_core::Taps;
-use sound_core::{StreamFault, read_into};
+use sound_core::{StreamFault, can_fail, read_into};
 use std::alloc::Global;
 use std::io::{Read, Write};
 
@@ -22,7 +23,8 @@ use std::io::{Read, Write};
 /// lies before the part is dropped.
 ///
 /// Refusals: `FileRefused` if the bytes are neither a DSDIFF nor a DSF file that holds a recording with these frames;
-/// `RateNotDivided`, `TooLarge`, before the first write; `ReadFailed`, `WriteFailed`; `TurnLimit` after `2^40` reads;
+/// `RateNotDivided`, `TooLarge`, before the first write; `ReadFailed`, `WriteFailed`; `TurnLimit` after `2^40` reads,
+/// or at once if the inlet had counted `2^63` reads or bytes, or inlet or outlet as many failures as they can;
 /// `Memory`.
 pub fn play_part<R: Read, W: Write>(
     alloc: Global,
@@ -32,27 +34,24 @@ pub fn play_part<R: Read, W: Write>(
     inlet: &mut Inlet<R>,
     outlet: &mut Outlet<W>,
 ) -> Result<u64, StreamFault>
-    requires inlet_ready { inlet_failures inlet.old < 2 ^ 64 - 1 }
-    requires outlet_ready { outlet_failures outlet.old < 2 ^ 64 - 1 }
-    requires reads_low { inlet_reads inlet.old < 2 ^ 63 }
-    requires given_low { inlet_given inlet.old < 2 ^ 63 }
     // What is played of the part of the reader's file was written, however its reads are cut.
-    ensures ok { IfOk result (PlaysFile (R.remaining (inlet_reader inlet.old)) (PlaysPart taps.now start stop)
+    ensures ok { IfOk result (PlaysFile (R.remaining (inlet_reader inlet.old)) (PlaysPartBy taps.now start stop)
         (W.contents (outlet_writer outlet.old)) (W.contents (outlet_writer outlet.new))) }
     // The same of what was read, where the reader doesn't tell its bytes.
-    ensures any_reader { IfOk result (PlaysGiven R.remaining inlet.old inlet.new (PlaysPart taps.now start stop)
+    ensures any_reader { IfOk result (PlaysGiven R.remaining inlet.old inlet.new (PlaysPartBy taps.now start stop)
         (W.contents (outlet_writer outlet.old)) (W.contents (outlet_writer outlet.new))) }
-    // A fault of the file stands; a part that is played is refused from outside alone, and a front of it was written.
-    ensures fault { IfErr result (λ f. IfSome (R.remaining (inlet_reader inlet.old)) (λ file. StandsForPart taps.now start stop file f)) }
-    ensures cause { IfErr result (PartOnlyFromOutside (R.remaining (inlet_reader inlet.old)) taps.now start stop) }
+    // A fault of the file stands; a part that is played is refused from outside alone, and a prefix of it was written.
+    ensures fault { IfErr result (λ f. IfSome (R.remaining (inlet_reader inlet.old)) (λ file. AppliesToPart taps.now start stop file f)) }
+    ensures cause { IfErr result (PartOnlyFromOutsideBy (R.remaining (inlet_reader inlet.old)) taps.now start stop) }
     ensures unwritten { IfErr result (λ f. IsBeforeWriting f → outlet_writer outlet.new ≡ outlet_writer outlet.old) }
-    ensures front { OnErr result (WritesPrefix (R.remaining (inlet_reader inlet.old)) (PlaysPart taps.now start stop)
+    ensures prefix { OnErr result (WritesPrefix (R.remaining (inlet_reader inlet.old)) (PlaysPartBy taps.now start stop)
         (W.contents (outlet_writer outlet.old)) (W.contents (outlet_writer outlet.new))) }
     ensures read_failed { inlet_failures inlet.new ≡ inlet_failures inlet.old + failed_reads result }
     ensures write_failed { outlet_failures outlet.new ≡ outlet_failures outlet.old + failed_writes result }
     // Whatever is answered, there were at most 2^40 reads.
     ensures reads { inlet_reads inlet.new ≤ inlet_reads inlet.old + 2 ^ 40 }
-    ensures turn_limit { IsErrOf result StreamFault.TurnLimit → inlet_reads inlet.new ≡ inlet_reads inlet.old + 2 ^ 40 }
+    ensures turn_limit { IsErrOf result StreamFault.TurnLimit
+        → (CanFail outlet.old → ⊥) ⊎ RunsOut inlet.old inlet.new }
 {
     part_is_played();
     keeps_limits(taps);
@@ -75,24 +74,24 @@ fn play_part_file<R: Read, W: Write>(
     inlet: &mut Inlet<R>,
     sink: &mut PartSink<'_, '_, W>,
 ) -> Result<u64, StreamFault>
-    requires inlet_ready { inlet_failures inlet.old < 2 ^ 64 - 1 }
-    requires outlet_ready { outlet_failures sink.old.outlet.now < 2 ^ 64 - 1 }
-    requires reads_low { inlet_reads inlet.old < 2 ^ 63 }
-    requires given_low { inlet_given inlet.old < 2 ^ 63 }
     requires least { 8 ≤ sink.old.taps.now.factor }
     ensures same { sink.new.outlet.ghost_name ≡ sink.old.outlet.ghost_name }
-    ensures ok { IfOk result (PlaysFile (R.remaining (inlet_reader inlet.old)) (PlaysPart sink.old.taps.now sink.old.start sink.old.stop)
+    ensures ok { IfOk result (PlaysFile (R.remaining (inlet_reader inlet.old)) (PlaysPartBy sink.old.taps.now sink.old.start sink.old.stop)
         (W.contents (outlet_writer sink.old.outlet.now)) (W.contents (outlet_writer sink.new.outlet.now))) }
-    ensures any_reader { IfOk result (PlaysGiven R.remaining inlet.old inlet.new (PlaysPart sink.old.taps.now sink.old.start sink.old.stop)
+    ensures any_reader { IfOk result (PlaysGiven R.remaining inlet.old inlet.new (PlaysPartBy sink.old.taps.now sink.old.start sink.old.stop)
         (W.contents (outlet_writer sink.old.outlet.now)) (W.contents (outlet_writer sink.new.outlet.now))) }
     ensures failures { OnOk result (outlet_failures sink.new.outlet.now ≡ outlet_failures sink.old.outlet.now) }
     ensures fault { IfErr result (PartFails W.contents (R.remaining (inlet_reader inlet.old)) sink.old.taps.now
         sink.old.start sink.old.stop sink.old.outlet.now sink.new.outlet.now) }
     ensures read_failed { inlet_failures inlet.new ≡ inlet_failures inlet.old + failed_reads result }
     ensures reads { inlet_reads inlet.new ≤ inlet_reads inlet.old + 2 ^ 40 }
-    ensures turn_limit { IsErrOf result StreamFault.TurnLimit → inlet_reads inlet.new ≡ inlet_reads inlet.old + 2 ^ 40 }
+    ensures turn_limit { IsErrOf result StreamFault.TurnLimit
+        → (CanFail sink.old.outlet.now → ⊥) ⊎ RunsOut inlet.old inlet.new }
 {
     part_is_played();
+    if !can_fail(sink.outlet) {
+        return Err(StreamFault::TurnLimit);
+    }
     let outline = read_into(alloc, inlet, sink)?;
     let frames = frames_sound(sink.taps, &outline.sound, sink.stop - sink.start);
     let size = file_size(sink.taps, &frames);

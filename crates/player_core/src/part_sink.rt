@@ -6,8 +6,8 @@ ghost use Rattle.dsd_bits.specs.Sounds.{IsSound};
 ghost use Rattle.fir_core.specs.Decimator.{IsWithinLimits};
 ghost use Rattle.player_core.specs.Laws.{total_frames};
 ghost use Rattle.player_core.specs.PartPlaying.{IsOutside};
-ghost use Rattle.player_core.specs.PartPieces.{PutsPartDue, PutsPartFront, PutsPartRest};
-ghost use Rattle.player_core.specs.PartSinks.{FinishesPlayingPart, IsPlayingPart, RefusesPart};
+ghost use Rattle.player_core.specs.PartPieces.{PutsPartDue, PutsPartPrefix, PutsPartRest};
+ghost use Rattle.player_core.specs.PartSinks.{FinishesPlayingPart, IsPlayingPart, RefusesPlayedPart};
 ghost use Rattle.player_core.specs.PartView.{IsPartPlayer, IsSamePart, part_fed, part_rest, part_start};
 ghost use Rattle.player_core.specs.Parts as Parts;
 ghost use Rattle.player_core.specs.declared.part_sink.PartSink.{PartSink as Sink};
@@ -74,13 +74,13 @@ impl<'a, 't, W> PartSink<'a, 't, W> {
 impl<'a, 't, W: Write> SoundSink for PartSink<'a, 't, W> {
     ghost use Rattle.std.specs.Prelude.{◌-◌, ◌<◌, ◌^◌};
     ghost use Rattle.chunk_core.specs.Outlets.{outlet_failures};
-    ghost use Rattle.player_core.specs.PartSinks.{IsPlayingPart, RefusesPart};
+    ghost use Rattle.player_core.specs.PartSinks.{IsPlayingPart, RefusesPlayedPart};
 
     ghost ready = { λ p. outlet_failures p.outlet.now < 2 ^ 64 - 1 };
 
     ghost has = { λ first p s done bytes. IsPlayingPart W.contents first p s bytes };
 
-    ghost refused = { λ first p s came f. RefusesPart W.contents first p s came f };
+    ghost refused = { λ first p s came f. RefusesPlayedPart W.contents first p s came f };
 
     fn begin(&mut self, alloc: Global, sound: Sound) -> Result<(), StreamFault> {
         if !lies_in(self.taps, &sound, self.start, self.stop) {
@@ -153,7 +153,7 @@ fn put_part_due<W: Write>(
     ensures same { OnOk result (IsSamePart player.old player.new) }
     ensures ok { OnOk result (PutsPartDue player.old player.new (drop (part_start player.old - came) piece.now)
         (W.contents (outlet_writer outlet.old)) (W.contents (outlet_writer outlet.new))) }
-    ensures front { OnErr result (PutsPartFront player.old (drop (part_start player.old - came) piece.now)
+    ensures prefix { OnErr result (PutsPartPrefix player.old (drop (part_start player.old - came) piece.now)
         (W.contents (outlet_writer outlet.old)) (W.contents (outlet_writer outlet.new))) }
     ensures fault { IfErr result IsWritingFault }
     ensures failures { outlet_failures outlet.new ≡ outlet_failures outlet.old + failed_writes result }
@@ -176,7 +176,7 @@ fn put_part_rest<W: Write>(
     requires ready { outlet_failures outlet.old < 2 ^ 64 - 1 }
     ensures ok { OnOk result (PutsPartRest player.old (W.contents (outlet_writer outlet.old))
         (W.contents (outlet_writer outlet.new))) }
-    ensures front { OnErr result (PutsPartFront player.old [] (W.contents (outlet_writer outlet.old))
+    ensures prefix { OnErr result (PutsPartPrefix player.old [] (W.contents (outlet_writer outlet.old))
         (W.contents (outlet_writer outlet.new))) }
     ensures fault { IfErr result IsWritingFault }
     ensures failures { outlet_failures outlet.new ≡ outlet_failures outlet.old + failed_writes result }
@@ -199,7 +199,7 @@ pub(crate) fn finish_part<W: Write>(
         → length bytes ≡ sound.now.size → FinishesPlayingPart W.contents first sink.new sound.now bytes) }
     ensures refused { IfErr result (λ f. (first : Sink W) (bytes : List ℕ)
         → IsPlayingPart W.contents first sink.old sound.now bytes → length bytes ≡ sound.now.size
-        → RefusesPart W.contents first sink.new sound.now bytes f) }
+        → RefusesPlayedPart W.contents first sink.new sound.now bytes f) }
     ensures fault { IfErr result IsWritingFault }
 {
     match &mut *sink.player {

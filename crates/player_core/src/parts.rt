@@ -119,8 +119,8 @@ fn push_within(
 {
     let first = skip.saturating_sub(given).min(bytes.len());
     let last = stop.saturating_sub(given).min(bytes.len());
-    let (front, _) = bytes.split_at(last);
-    let (_, within) = front.split_at(first.min(last));
+    let (prefix, _) = bytes.split_at(last);
+    let (_, within) = prefix.split_at(first.min(last));
     out.extend_from_slice(within)
 }
 

@@ -26,7 +26,7 @@ pub(crate) fn put_due<W: Write>(
         × (sound_of player.new ≡ sound_of player.old) × (fed_of player.new ≡ fed_of player.old + length piece.now)) }
     ensures ok { OnOk result (PutsDue player.old player.new piece.now (W.contents (outlet_writer outlet.old))
         (W.contents (outlet_writer outlet.new))) }
-    ensures front { OnErr result (PutsPrefixOf player.old piece.now (W.contents (outlet_writer outlet.old))
+    ensures prefix { OnErr result (PutsPrefixOf player.old piece.now (W.contents (outlet_writer outlet.old))
         (W.contents (outlet_writer outlet.new))) }
     ensures fault { IfErr result IsWritingFault }
     ensures failures { outlet_failures outlet.new ≡ outlet_failures outlet.old + failed_writes result }
@@ -47,7 +47,7 @@ pub(crate) fn put_rest<W: Write>(
     requires ready { outlet_failures outlet.old < 2 ^ 64 - 1 }
     ensures ok { OnOk result (PutsRest player.old (W.contents (outlet_writer outlet.old))
         (W.contents (outlet_writer outlet.new))) }
-    ensures front { OnErr result (PutsPrefixOf player.old [] (W.contents (outlet_writer outlet.old))
+    ensures prefix { OnErr result (PutsPrefixOf player.old [] (W.contents (outlet_writer outlet.old))
         (W.contents (outlet_writer outlet.new))) }
     ensures fault { IfErr result IsWritingFault }
     ensures failures { outlet_failures outlet.new ≡ outlet_failures outlet.old + failed_writes result }

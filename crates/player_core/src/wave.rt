@@ -6,7 +6,7 @@ ghost use Rattle.dsd_bits.specs.Sounds.{IsSound};
 ghost use Rattle.player_core.specs.Laws.{total_frames};
 ghost use Rattle.wave_core.specs.Contents.{spec_of};
 ghost use Rattle.sound_core.specs.Faults.{IsBeforeWriting, IsWritingFault, failed_writes};
-ghost use Rattle.player_core.specs.Wave.{IsOpeningFault, OpensWave, file_size, sound_header, pad_of};
+ghost use Rattle.player_core.specs.Wave.{IsOpeningFault, OpensWave, wave_file_size, sound_header, pad_of};
 
 use crate::spec::wave_spec;
 use chunk_core::Outlet;
@@ -35,7 +35,7 @@ fn spec_of(taps: &Taps, sound: &Sound) -> WaveSpec
 /// How many bytes the WAVE file of a sound has.
 pub(crate) fn file_size(taps: &Taps, sound: &Sound) -> u64
     requires { IsSound sound.now }
-    ensures { result ≡ file_size taps.now sound.now }
+    ensures { result ≡ wave_file_size taps.now sound.now }
 {
     spec_of(taps, sound).file_size(total_frames(taps, sound))
 }

@@ -11,56 +11,56 @@ use Rattle.project_core.specs.Steps.{◌>>=◌, Fails, each}
 use Rattle.project_core.specs.Tables.{list_of}
 
 -- what was read before, and what is still read
-abbrev pub with_front : {B : Type 0} → List B → Result (List B) ProjectFault → Result (List B) ProjectFault
-with_front front read = read >>= λ ys. Ok (front ++ ys)
+abbrev pub with_prefix : {B : Type 0} → List B → Result (List B) ProjectFault → Result (List B) ProjectFault
+with_prefix prefix read = read >>= λ ys. Ok (prefix ++ ys)
 
-regroup : {B : Type 0} (front : List B) (y : B) (read : Result (List B) ProjectFault) → with_front front (read >>= λ ys. Ok (y ∷ ys)) ≡ with_front (front ++ y ∷ []) read
-regroup {B = B} front y (Ok ys) = ap (λ (zs : List B). Ok zs) (sym (append_assoc front (y ∷ []) ys))
-regroup front y (Err f) = refl
+regroup : {B : Type 0} (prefix : List B) (y : B) (read : Result (List B) ProjectFault) → with_prefix prefix (read >>= λ ys. Ok (y ∷ ys)) ≡ with_prefix (prefix ++ y ∷ []) read
+regroup {B = B} prefix y (Ok ys) = ap (λ (zs : List B). Ok zs) (sym (append_assoc prefix (y ∷ []) ys))
+regroup prefix y (Err f) = refl
 
-pub each_goes_on : {A B : Type 0} (f : ℕ → A → Result B ProjectFault) (front : List B) (xs : List A) (i : ℕ) (d x : A) (y : B) (total : Result (List B) ProjectFault) → i < length xs → x ≡ get_or xs i d → f i x ≡ Ok y
-    → with_front front (each f i (drop i xs)) ≡ total → with_front (front ++ y ∷ []) (each f (i + 1) (drop (i + 1) xs)) ≡ total
-each_goes_on f front xs i d x y total lt is h so_far =
-    let one : with_front front (each f i (drop i xs)) ≡ with_front (front ++ y ∷ []) (each f (i + 1) (drop (i + 1) xs)) = rw (drop-cons xs i d, ← is, h, add-one) (regroup front y (each f (suc i) (drop (suc i) xs))) in
+pub each_goes_on : {A B : Type 0} (f : ℕ → A → Result B ProjectFault) (prefix : List B) (xs : List A) (i : ℕ) (d x : A) (y : B) (total : Result (List B) ProjectFault) → i < length xs → x ≡ get_or xs i d → f i x ≡ Ok y
+    → with_prefix prefix (each f i (drop i xs)) ≡ total → with_prefix (prefix ++ y ∷ []) (each f (i + 1) (drop (i + 1) xs)) ≡ total
+each_goes_on f prefix xs i d x y total lt is h so_far =
+    let one : with_prefix prefix (each f i (drop i xs)) ≡ with_prefix (prefix ++ y ∷ []) (each f (i + 1) (drop (i + 1) xs)) = rw (drop-cons xs i d, ← is, h, add-one) (regroup prefix y (each f (suc i) (drop (suc i) xs))) in
     sym one ∙ so_far
 
-fails_at : {A B : Type 0} (e : ProjectFault) (f : ℕ → A → Result B ProjectFault) (front : List B) (i : ℕ) (x : A) (xs : List A) → Fails e (f i x) → Fails e (with_front front (each f i (x ∷ xs)))
-fails_at Memory f front i x xs h = tt
-fails_at NotToml f front i x xs h = rw h
-fails_at UnknownKey f front i x xs h = rw h
-fails_at (MissingKey k) f front i x xs h = rw h
-fails_at (WrongKind k) f front i x xs h = rw h
-fails_at (OutOfLimit k) f front i x xs h = rw h
-fails_at (NoTake k) f front i x xs h = rw h
-fails_at (ShortCue k) f front i x xs h = rw h
-fails_at LastBridge f front i x xs h = rw h
+fails_at : {A B : Type 0} (e : ProjectFault) (f : ℕ → A → Result B ProjectFault) (prefix : List B) (i : ℕ) (x : A) (xs : List A) → Fails e (f i x) → Fails e (with_prefix prefix (each f i (x ∷ xs)))
+fails_at Memory f prefix i x xs h = tt
+fails_at NotToml f prefix i x xs h = rw h
+fails_at UnknownKey f prefix i x xs h = rw h
+fails_at (MissingKey k) f prefix i x xs h = rw h
+fails_at (WrongKind k) f prefix i x xs h = rw h
+fails_at (OutOfLimit k) f prefix i x xs h = rw h
+fails_at (NoTake k) f prefix i x xs h = rw h
+fails_at (ShortCue k) f prefix i x xs h = rw h
+fails_at LastBridge f prefix i x xs h = rw h
 
-pub each_ends : {A B : Type 0} (e : ProjectFault) (f : ℕ → A → Result B ProjectFault) (front : List B) (xs : List A) (i : ℕ) (d x : A) (total : Result (List B) ProjectFault) → i < length xs → x ≡ get_or xs i d → Fails e (f i x)
-    → with_front front (each f i (drop i xs)) ≡ total → Fails e total
-each_ends e f front xs i d x total lt is h so_far = rw (← so_far, drop-cons xs i d, ← is) (fails_at e f front i x (drop (suc i) xs) h)
+pub each_ends : {A B : Type 0} (e : ProjectFault) (f : ℕ → A → Result B ProjectFault) (prefix : List B) (xs : List A) (i : ℕ) (d x : A) (total : Result (List B) ProjectFault) → i < length xs → x ≡ get_or xs i d → Fails e (f i x)
+    → with_prefix prefix (each f i (drop i xs)) ≡ total → Fails e total
+each_ends e f prefix xs i d x total lt is h so_far = rw (← so_far, drop-cons xs i d, ← is) (fails_at e f prefix i x (drop (suc i) xs) h)
 
-pub each_done : {A B : Type 0} (f : ℕ → A → Result B ProjectFault) (front : List B) (xs : List A) (i : ℕ) (total : Result (List B) ProjectFault) → length xs ≤ i → with_front front (each f i (drop i xs)) ≡ total → total ≡ Ok front
-each_done {B = B} f front xs i total le so_far =
-    let one : with_front front (each f i (drop i xs)) ≡ Ok front = rw (drop_all i xs le) (ap (λ (ys : List B). Ok ys) (append-nil front)) in
+pub each_done : {A B : Type 0} (f : ℕ → A → Result B ProjectFault) (prefix : List B) (xs : List A) (i : ℕ) (total : Result (List B) ProjectFault) → length xs ≤ i → with_prefix prefix (each f i (drop i xs)) ≡ total → total ≡ Ok prefix
+each_done {B = B} f prefix xs i total le so_far =
+    let one : with_prefix prefix (each f i (drop i xs)) ≡ Ok prefix = rw (drop_all i xs le) (ap (λ (ys : List B). Ok ys) (append-nil prefix)) in
     sym so_far ∙ one
 
 -- The same over the values of an array.
 abbrev pub values_left : {B : Type 0} → (ℕ → Data → Result B ProjectFault) → List B → ℕ → List Value → Result (List B) ProjectFault
-values_left f front i vs = with_front front (each f i (list_of (items_view (drop i vs))))
+values_left f prefix i vs = with_prefix prefix (each f i (list_of (items_view (drop i vs))))
 
-pub values_go_on : {B : Type 0} (f : ℕ → Data → Result B ProjectFault) (front : List B) (vs : List Value) (i : ℕ) (v : Value) (y : B) (total : Result (List B) ProjectFault) → i < length vs → v ≡ get_or vs i v → f i (view v) ≡ Ok y
-    → values_left f front i vs ≡ total → values_left f (front ++ y ∷ []) (i + 1) vs ≡ total
-values_go_on f front vs i v y total lt is h so_far =
-    let one : values_left f front i vs ≡ values_left f (front ++ y ∷ []) (i + 1) vs = rw (items_view-drop vs i v lt, ← is, h) (regroup front y (each f (i + 1) (list_of (items_view (drop (i + 1) vs))))) in
+pub values_go_on : {B : Type 0} (f : ℕ → Data → Result B ProjectFault) (prefix : List B) (vs : List Value) (i : ℕ) (v : Value) (y : B) (total : Result (List B) ProjectFault) → i < length vs → v ≡ get_or vs i v → f i (view v) ≡ Ok y
+    → values_left f prefix i vs ≡ total → values_left f (prefix ++ y ∷ []) (i + 1) vs ≡ total
+values_go_on f prefix vs i v y total lt is h so_far =
+    let one : values_left f prefix i vs ≡ values_left f (prefix ++ y ∷ []) (i + 1) vs = rw (items_view-drop vs i v lt, ← is, h) (regroup prefix y (each f (i + 1) (list_of (items_view (drop (i + 1) vs))))) in
     sym one ∙ so_far
 
-pub values_end : {B : Type 0} (e : ProjectFault) (f : ℕ → Data → Result B ProjectFault) (front : List B) (vs : List Value) (i : ℕ) (v : Value) (total : Result (List B) ProjectFault) → i < length vs → v ≡ get_or vs i v → Fails e (f i (view v))
-    → values_left f front i vs ≡ total → Fails e total
-values_end e f front vs i v total lt is h so_far = rw (← so_far, items_view-drop vs i v lt, ← is) (fails_at e f front i (view v) (list_of (items_view (drop (i + 1) vs))) h)
+pub values_end : {B : Type 0} (e : ProjectFault) (f : ℕ → Data → Result B ProjectFault) (prefix : List B) (vs : List Value) (i : ℕ) (v : Value) (total : Result (List B) ProjectFault) → i < length vs → v ≡ get_or vs i v → Fails e (f i (view v))
+    → values_left f prefix i vs ≡ total → Fails e total
+values_end e f prefix vs i v total lt is h so_far = rw (← so_far, items_view-drop vs i v lt, ← is) (fails_at e f prefix i (view v) (list_of (items_view (drop (i + 1) vs))) h)
 
-pub values_done : {B : Type 0} (f : ℕ → Data → Result B ProjectFault) (front : List B) (vs : List Value) (i : ℕ) (total : Result (List B) ProjectFault) → length vs ≤ i → values_left f front i vs ≡ total → total ≡ Ok front
-values_done {B = B} f front vs i total le so_far =
-    let one : values_left f front i vs ≡ Ok front = rw (drop_all i vs le) (ap (λ (ys : List B). Ok ys) (append-nil front)) in
+pub values_done : {B : Type 0} (f : ℕ → Data → Result B ProjectFault) (prefix : List B) (vs : List Value) (i : ℕ) (total : Result (List B) ProjectFault) → length vs ≤ i → values_left f prefix i vs ≡ total → total ≡ Ok prefix
+values_done {B = B} f prefix vs i total le so_far =
+    let one : values_left f prefix i vs ≡ Ok prefix = rw (drop_all i vs le) (ap (λ (ys : List B). Ok ys) (append-nil prefix)) in
     sym so_far ∙ one
 
 -- an array has as many items as values

@@ -4,7 +4,7 @@ use Rattle.project_core.specs.declared.fault.ProjectFault.{ProjectFault}
 use Rattle.project_core.specs.declared.fault.ProjectFault.TheVariants.{NotToml, UnknownKey, MissingKey, WrongKind, OutOfLimit, NoTake, ShortCue, LastBridge, Memory}
 use Rattle.project_core.specs.Steps.{◌>>=◌, Fails, Gives}
 
--- behind a step with a value
+-- after a step with a value
 pub then_fails : {A B : Type 0} (e : ProjectFault) (s : Result A ProjectFault) (f : A → Result B ProjectFault) (x : A) → s ≡ Ok x → Fails e (f x) → Fails e (s >>= f)
 then_fails e s f x is h = rw is h
 

@@ -107,7 +107,7 @@ limited_ok key limit t n e =
     let b = below_ok (limit + 1) a.0 (OutOfLimit key) n a.2 in
     (a.1 ∙ ap (λ (z : ℤ). Some (integer z)) b.0, omega arith)
 
--- how each item that was read stands to what it was read from
+-- how each item that was read relates to what it was read from
 pub each_ok : {A B : Type 0} (f : ℕ → A → Result B ProjectFault) (R : A → B → Type 0) → ((i : ℕ) (x : A) (y : B) → f i x ≡ Ok y → R x y) → (i : ℕ) (xs : List A) (ys : List B) → each f i xs ≡ Ok ys → AllZip R xs ys
 each_ok f R step i [] [] e = tt
 each_ok f R step i [] (y ∷ ys) e = absurd cc

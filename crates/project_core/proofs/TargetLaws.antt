@@ -65,11 +65,11 @@ line_said t n g (inl there) is e =
 line_said t n g (inr none) is e = let first : 102 ≡ 108 = ap (λ (s : List ℕ). get_or s 0 0) (sym none.1 ∙ is) in absurd (omega (arith, first))
 
 named_said : (t : Members) (n : List ℕ) (g : Target) → (get_member (key_name keys.Target) t ≡ Some (string n)) ⊎ ((get_member (key_name keys.Target) t ≡ None) × (n ≡ codes "fade")) → target_named n t ≡ Ok g → SaysTarget t g
-named_said t n g told e = by (bytes_eq n (codes "fade")) (bytes_eq n (codes "line")) refl refl e
+named_said t n g stated e = by (bytes_eq n (codes "fade")) (bytes_eq n (codes "line")) refl refl e
   where
     by : (p q : Bool) → bytes_eq n (codes "fade") ≡ p → bytes_eq n (codes "line") ≡ q → cond p (fade_at t) (cond q (line_at t) (Err (OutOfLimit keys.Target))) ≡ Ok g → SaysTarget t g
-    by true q is or e = fade_said t n g told ((bytes_eq-Decides n (codes "fade")).0 is) e
-    by false true isnt is e = line_said t n g told ((bytes_eq-Decides n (codes "line")).0 is) e
+    by true q is or e = fade_said t n g stated ((bytes_eq-Decides n (codes "fade")).0 is) e
+    by false true isnt is e = line_said t n g stated ((bytes_eq-Decides n (codes "line")).0 is) e
     by false false isnt nor e = absurd cc
 
 pub target_ok : (t : Members) (g : Target) → target_at t ≡ Ok g → SaysTarget t g
@@ -84,8 +84,8 @@ end_is z h = le-leb (unsigned_abs z) 4096 h
 
 line_read : (t : Members) (a b : ℤ) → get_member (key_name keys.Line) t ≡ Some (numbers (a ∷ b ∷ [])) → IsLine a b → line_at t ≡ Ok (Line a b)
 unfolding line_at
-line_read t a b told fits =
-    rw (integers_again keys.Line t (a ∷ b ∷ []) told (fits_one a (omega (arith, fits.a_fits)), (fits_one b (omega (arith, fits.b_fits)), tt)), end_is a fits.a_fits, end_is b fits.b_fits)
+line_read t a b stated fits =
+    rw (integers_again keys.Line t (a ∷ b ∷ []) stated (fits_one a (omega (arith, fits.a_fits)), (fits_one b (omega (arith, fits.b_fits)), tt)), end_is a fits.a_fits, end_is b fits.b_fits)
 
 name_read : (o : Option Data) (g : Target) → (o ≡ Some (string (target_name g))) ⊎ ((o ≡ None) × (g ≡ Fade)) → target_name_of o ≡ Ok (target_name g)
 name_read o g (inl h) = rw h

@@ -1,4 +1,4 @@
--- The bytes behind a sound, by the format's own reading.
+-- The bytes after a sound, by the format's own reading.
 use Rattle.std.proofs.Common.{◌≡◌, ℕ, ◌≤◌, ◌↔◌, true, false, List, [], ◌++◌, length, take, Option, Some, None, refl, sym, subst, ap, ◌∙◌, arith, append_assoc, length-append, length-take-le}
 use Rattle.std.proofs.lemmas.List.{take-append-le}
 use Rattle.std.specs.Io.KnownBytes.{IsAtEnd}
@@ -12,26 +12,26 @@ use Rattle.dsd_bits.specs.Ids.{DSD, same_id}
 use Rattle.dsd_bits.specs.Sounds.{has_blocks}
 use Rattle.dsdiff_core.specs.Fields.{form_size}
 use Rattle.dsdiff_core.specs.Files.{IsDsdiff}
-use Rattle.dsdiff_core.specs.Fronts as dsdiff
+use Rattle.dsdiff_core.specs.Headers as dsdiff
 use Rattle.dsdiff_core.specs.Kinds.{FRM8}
 use Rattle.dsdiff_core.proofs.HeadLaws.{ends_at_head}
 use Rattle.dsdiff_core.proofs.FormEnds.{form_ends}
-use Rattle.dsdiff_core.proofs.FrontEnds as form
-use Rattle.dsdiff_core.proofs.LeadLaws.{number_front}
+use Rattle.dsdiff_core.proofs.HeaderEnds as form
+use Rattle.dsdiff_core.proofs.LeadLaws.{number_prefix}
 use Rattle.dsdiff_core.proofs.WalkLaws as form_walk
-use Rattle.dsf_core.specs.Fronts as dsf
-use Rattle.dsf_core.proofs.FrontLaws as blocks
-use Rattle.dsf_core.proofs.FrontLaws.{found_leads}
-use Rattle.sound_core.specs.Files.{EndsAt, StatesSoundAs, StatesSound}
-use Rattle.sound_core.proofs.HeadLaws.{IsFound, found_told, told_found}
+use Rattle.dsf_core.specs.Headers as dsf
+use Rattle.dsf_core.proofs.HeaderLaws as blocks
+use Rattle.dsf_core.proofs.HeaderLaws.{found_leads}
+use Rattle.sound_core.specs.Files.{IsHeaderOf, StatesSoundAs, LeadsToSound}
+use Rattle.sound_core.proofs.HeadLaws.{IsFound, found_stated, stated_found}
 
 -- ---- the head, up to the sound
-pub ends_at : (front : List ℕ) (s : Sound) → StatesSound front s → EndsAt (take s.start front) s
-ends_at front s tells = record { leads = found_told s.interleaving (take s.start front) s (by s.interleaving (told_found s.interleaving front s tells.leads)); start = sym (length-take-le s.start front tells.within) }
+pub ends_at : (prefix : List ℕ) (s : Sound) → LeadsToSound prefix s → IsHeaderOf (take s.start prefix) s
+ends_at prefix s states = record { leads = found_stated s.interleaving (take s.start prefix) s (by s.interleaving (stated_found s.interleaving prefix s states.leads)); start = sym (length-take-le s.start prefix states.within) }
   where
-    by : (o : Interleaving) → IsFound o front s → IsFound o (take s.start front) s
-    by Bytes e = form.ends_front front s e
-    by (Blocks order) e = blocks.ends_front front s e
+    by : (o : Interleaving) → IsFound o prefix s → IsFound o (take s.start prefix) s
+    by Bytes e = form.ends_prefix prefix s e
+    by (Blocks order) e = blocks.ends_prefix prefix s e
 
 -- ---- where nothing is left
 -- where nothing is left, nothing follows
@@ -51,9 +51,9 @@ no_order Bytes none = refl
 no_order (Blocks order) none = absurd cc
 
 -- ---- a DSF file
-module _ (head : List ℕ) (s : Sound) (at : EndsAt head s) (order : BitOrder) (told : s.interleaving ≡ Blocks order) where
+module _ (head : List ℕ) (s : Sound) (at : IsHeaderOf head s) (order : BitOrder) (stated : s.interleaving ≡ Blocks order) where
   pub leads : dsf.sound_at head ≡ Found s
-  leads = told_found (Blocks order) head s (subst (λ o. StatesSoundAs o head s) told at.leads)
+  leads = stated_found (Blocks order) head s (subst (λ o. StatesSoundAs o head s) stated at.leads)
 
   pub ends : dsf.EndsAtSound head
   ends = (s, leads, at.start)
@@ -66,9 +66,9 @@ module _ (head : List ℕ) (s : Sound) (at : EndsAt head s) (order : BitOrder) (
       apart (sym is.form ∙ id)
 
 -- ---- a DSDIFF file
-module _ (head : List ℕ) (s : Sound) (at : EndsAt head s) (told : s.interleaving ≡ Bytes) where
+module _ (head : List ℕ) (s : Sound) (at : IsHeaderOf head s) (stated : s.interleaving ≡ Bytes) where
   pub found : dsdiff.sound_at head ≡ Found s
-  found = told_found Bytes head s (subst (λ o. StatesSoundAs o head s) told at.leads)
+  found = stated_found Bytes head s (subst (λ o. StatesSoundAs o head s) stated at.leads)
 
   pub form_ends_at : dsdiff.EndsAt head s
   form_ends_at = record { found = found; start = at.start }
@@ -80,6 +80,6 @@ module _ (head : List ℕ) (s : Sound) (at : EndsAt head s) (told : s.interleavi
   same_form sound back rest r long enough =
       let file = head ++ (sound ++ back) in
       let least : 28 ≤ length head = form_walk.long head (ends_at_head head s form_ends_at).0 in
-      let size : form_size file ≡ form_size head = number_front 8 4 head (sound ++ back) (omega (arith, least)) in
+      let size : form_size file ≡ form_size head = number_prefix 8 4 head (sound ++ back) (omega (arith, least)) in
       let law = form_ends file rest r (omega (arith, size, enough, long, length-append head (sound ++ back), length-append sound back)) in
       (λ is. subst (λ f. IsDsdiff f r) (joined sound back rest) (law.0 is), λ is. law.1 (subst (λ f. IsDsdiff f r) (sym (joined sound back rest)) is))

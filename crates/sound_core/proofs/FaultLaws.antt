@@ -1,5 +1,5 @@
 -- What holds of each fault of a kind; faults of a stage are faults of the whole.
-use Rattle.std.proofs.Common.{◌≡◌, ◌≢◌, ◌-◌, ◌<◌, ℕ, inl, inr, arith, List, Option, None, Some, Result, Ok, Err, IfErr, IsErrAnd, IsErrOf, refl, subst}
+use Rattle.std.proofs.Common.{◌≡◌, ◌≢◌, ◌<◌, ℕ, inl, arith, List, Option, None, Some, Result, Ok, Err, IfErr, IsErrAnd, IsErrOf, refl, subst}
 use Rattle.sound_core.specs.Faults.{IsReadingFault, IsSinkFault, IsWritingFault, failed_reads}
 use Rattle.sound_core.specs.Files.{IsHeaderFault}
 use Rattle.sound_core.specs.Outlines.{IsOutlineFault, IsTagFault}
@@ -36,13 +36,13 @@ pub unread : {X : Type 0} (r : Result X StreamFault) → IfErr r IsWritingFault 
 unread (Ok x) h = refl
 unread {X} (Err f) h = by_writing (λ g. failed_reads {X = X} (Err g) ≡ 0) refl refl f h
 
--- ---- want of memory is no read too many
+-- ---- running out of memory is not a read too many
 pub memory_no_turn : {X Q : Type 0} → IsErrOf {T = X} (Err Memory) TurnLimit → Q
 memory_no_turn turn = absurd (subst (λ r. IfErr r IsWritingFault) turn tt)
 
 -- ---- stages
-pub reading_in_front : (left : Option (List ℕ)) (f : StreamFault) → IsReadingFault f → IsHeaderFault left f
-reading_in_front left f h = by_reading (IsHeaderFault left) tt tt tt f h
+pub reading_in_prefix : (left : Option (List ℕ)) (f : StreamFault) → IsReadingFault f → IsHeaderFault left f
+reading_in_prefix left f h = by_reading (IsHeaderFault left) tt tt tt f h
 
 pub reading_in_pass : (left : Option (List ℕ)) (n : ℕ) (ahead : List ℕ) (f : StreamFault) → IsReadingFault f → IsPassFault left n ahead f
 reading_in_pass left n ahead f h = by_reading (IsPassFault left n ahead) tt tt tt f h
@@ -50,32 +50,21 @@ reading_in_pass left n ahead f h = by_reading (IsPassFault left n ahead) tt tt t
 pub reading_in_tag : (left : Option (List ℕ)) (place stop : ℕ) (back : List ℕ) (f : StreamFault) → IsReadingFault f → IsTagFault left place stop back f
 reading_in_tag left place stop back f h = by_reading (IsTagFault left place stop back) tt tt tt f h
 
--- the tag would stand behind the file's end
-pub pass_in_tag : (left : Option (List ℕ)) (place stop : ℕ) (back : List ℕ) (f : StreamFault) → place ≢ 0 → IsPassFault left (place - stop) back f → IsTagFault left place stop back f
-pass_in_tag None place stop back FileRefused some h = tt
-pass_in_tag (Some xs) place stop back FileRefused some h = (some, inr (omega (arith, h)))
-pass_in_tag left place stop back RateNotDivided some h = absurd h
-pass_in_tag left place stop back TooLarge some h = absurd h
-pass_in_tag left place stop back ReadFailed some h = tt
-pass_in_tag left place stop back WriteFailed some h = absurd h
-pass_in_tag left place stop back TurnLimit some h = tt
-pass_in_tag left place stop back Memory some h = tt
-
 -- it would stand in the sound
 pub early_tag : (left : Option (List ℕ)) (place stop : ℕ) (back : List ℕ) → place ≢ 0 → place < stop → IsTagFault left place stop back FileRefused
 early_tag None place stop back some early = tt
 early_tag (Some xs) place stop back some early = (some, inl early)
 
-pub front_in_outline : (left : Option (List ℕ)) (f : StreamFault) → IsHeaderFault left f → IsOutlineFault left f
-front_in_outline left FileRefused h = h
-front_in_outline left RateNotDivided h = absurd h
-front_in_outline left TooLarge h = absurd h
-front_in_outline left ReadFailed h = tt
-front_in_outline left WriteFailed h = absurd h
-front_in_outline left TurnLimit h = tt
-front_in_outline left Memory h = tt
+pub prefix_in_outline : (left : Option (List ℕ)) (f : StreamFault) → IsHeaderFault left f → IsOutlineFault left f
+prefix_in_outline left FileRefused h = h
+prefix_in_outline left RateNotDivided h = absurd h
+prefix_in_outline left TooLarge h = absurd h
+prefix_in_outline left ReadFailed h = tt
+prefix_in_outline left WriteFailed h = absurd h
+prefix_in_outline left TurnLimit h = tt
+prefix_in_outline left Memory h = tt
 
--- ---- a fault of a sink is none of reading
+-- ---- a fault of a sink is no fault of reading
 pub own_unread : (X : Type 0) (f : StreamFault) → IsSinkFault f → failed_reads {X = X} (Err f) ≡ 0
 own_unread X FileRefused h = refl
 own_unread X RateNotDivided h = refl
@@ -88,7 +77,7 @@ own_unread X Memory h = refl
 pub own_no_turn : {X : Type 0} (f : StreamFault) → IsSinkFault f → IsErrOf {T = X} (Err f) TurnLimit → ⊥
 own_no_turn f h turn = subst IsSinkFault (let is : f ≡ TurnLimit = cc in is) h
 
--- of an answer both is so
+-- both hold of an answer
 pub both : {X : Type 0} (r : Result X StreamFault) (P Q F : StreamFault → Type 0) → ((f : StreamFault) → P f → Q f → F f) → IfErr r P → IfErr r Q → IfErr r F
 both (Ok x) P Q F on p q = tt
 both (Err f) P Q F on p q = on f p q

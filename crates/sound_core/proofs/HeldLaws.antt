@@ -17,7 +17,7 @@ use Rattle.sound_core.specs.Outlines.{AreStated, IsPlacedIn, around_of, with_sou
 use Rattle.sound_core.specs.declared.outline.Outline.{Outline}
 use Rattle.sound_core.proofs.KeeperLaws.{channel_bits}
 
--- the channels of a sound are as many as it tells
+-- a sound has as many channels as it states
 pub channels_number : (interleaving : Interleaving) (channels count : ℕ) (bytes : List ℕ) → length (sound_channels interleaving channels count bytes) ≡ channels
 channels_number Bytes channels count bytes = length-map-range_with_len (unlaced bytes channels) 0 channels
 channels_number (Blocks order) channels count bytes = length-map-range_with_len (unblocked order bytes channels count) 0 channels
@@ -39,21 +39,21 @@ channels_level : (interleaving : Interleaving) (channels count : ℕ) (bytes : L
 channels_level Bytes channels count bytes some = level_of (unlaced bytes channels) (8 * (length bytes / channels)) channels some (λ c. length-map-range_with_len (laced_bit bytes channels c) 0 (8 * (length bytes / channels)))
 channels_level (Blocks order) channels count bytes some = level_of (unblocked order bytes channels count) count channels some (λ c. length-map-range_with_len (block_bit order bytes channels c) 0 count)
 
-module _ (outline : Outline) (shape : HasShape outline.recording) (told : AreStated (around_of outline)) (file sound : List ℕ) (stands : IsPlacedIn (around_of outline) file sound) where
+module _ (outline : Outline) (shape : HasShape outline.recording) (stated : AreStated (around_of outline)) (file sound : List ℕ) (stands : IsPlacedIn (around_of outline) file sound) where
   abbrev pub held : Content
   held = with_sound outline.recording outline.sound sound
 
   long : length sound ≡ sound_size outline.sound.interleaving outline.sound.channels outline.sound.count
-  long = stands.sound_long ∙ told.is_sound.size
+  long = stands.sound_long ∙ stated.is_sound.size
 
   pub held_number : length held.channels ≡ outline.sound.channels
   held_number = channels_number outline.sound.interleaving outline.sound.channels outline.sound.count sound
 
   pub held_count : count_of held.channels ≡ outline.sound.count
-  held_count = channels_count outline.sound.interleaving outline.sound.channels outline.sound.count sound told.is_sound.some_channel told.whole long
+  held_count = channels_count outline.sound.interleaving outline.sound.channels outline.sound.count sound stated.is_sound.some_channel stated.whole long
 
   as_many : length outline.recording.channels ≡ length held.channels
-  as_many = ap length told.silent ∙ length-replicate outline.sound.channels [] ∙ sym held_number
+  as_many = ap length stated.silent ∙ length-replicate outline.sound.channels [] ∙ sym held_number
 
   -- it keeps the rules of recordings
   pub held_shape : HasShape held
@@ -62,8 +62,8 @@ module _ (outline : Outline) (shape : HasShape outline.recording) (told : AreSta
     rate_high = shape.rate_high;
     some_channel = omega (arith, as_many, shape.some_channel);
     six_channels = omega (arith, as_many, shape.six_channels);
-    level = channels_level outline.sound.interleaving outline.sound.channels outline.sound.count sound told.is_sound.some_channel;
-    in_limit = omega (arith, held_count, told.is_sound.in_limit);
+    level = channels_level outline.sound.interleaving outline.sound.channels outline.sound.count sound stated.is_sound.some_channel;
+    in_limit = omega (arith, held_count, stated.is_sound.in_limit);
     id_for_each = shape.id_for_each ∙ as_many;
     layout_fits = shape.layout_fits ∙ as_many;
     short_texts = shape.short_texts;
@@ -71,6 +71,6 @@ module _ (outline : Outline) (shape : HasShape outline.recording) (told : AreSta
     no_parts = shape.no_parts;
   }
 
-  -- without its bits it is what is told
+  -- without its bits it is what is stated
   pub held_silent : outline.recording ≡ silent held
-  held_silent = ap (λ (channels : List (List Bool)). record outline.recording { channels = channels }) (told.silent ∙ ap (λ (n : ℕ). replicate n []) (sym held_number))
+  held_silent = ap (λ (channels : List (List Bool)). record outline.recording { channels = channels }) (stated.silent ∙ ap (λ (n : ℕ). replicate n []) (sym held_number))

@@ -24,21 +24,21 @@ use Rattle.sound_core.proofs.ReadLaws.{whole_is}
 long_slice : (xs : List Bool) (a b : ℕ) → length (slice_range xs a b) ≡ min (b - a) (length xs - a)
 long_slice xs a b = omega (arith, length-take (b - a) (drop a xs), length-drop a xs)
 
--- no bit stands there
+-- no bit is there
 pub slice_none : (xs : List Bool) (a b : ℕ) → (b ≤ a) ⊎ (length xs ≤ a) → slice_range xs a b ≡ []
 slice_none xs a b (inl before) = nil_from_length (slice_range xs a b) (omega (arith, long_slice xs a b, before))
-slice_none xs a b (inr behind) = nil_from_length (slice_range xs a b) (omega (arith, long_slice xs a b, behind))
+slice_none xs a b (inr after) = nil_from_length (slice_range xs a b) (omega (arith, long_slice xs a b, after))
 
 -- of two parts of a channel
 pub slice_join : (xs ys : List Bool) (a b : ℕ) → slice_range (xs ++ ys) a b ≡ slice_range xs a b ++ slice_range ys (a - length xs) (b - length xs)
 slice_join xs ys a b = elim (cases_lt (length xs) a) [
-  | inl behind ↦ (
+  | inl after ↦ (
       let n = length xs in
       let rest = drop (a - n) ys in
-      let parts : n + (a - n) ≡ a = omega (arith, behind) in
+      let parts : n + (a - n) ≡ a = omega (arith, after) in
       let on : drop a (xs ++ ys) ≡ rest = ap (λ k. drop k (xs ++ ys)) (sym parts) ∙ sym (drop-drop (a - n) n (xs ++ ys)) ∙ ap (drop (a - n)) (drop_at xs ys n refl) in
-      let size : b - a ≡ b - n - (a - n) = omega (arith, behind) in
-      ap₂ (λ k zs. take k zs) size on ∙ ap (λ zs. zs ++ take (b - n - (a - n)) rest) (sym (slice_none xs a b (inr (omega (arith, behind))))))
+      let size : b - a ≡ b - n - (a - n) = omega (arith, after) in
+      ap₂ (λ k zs. take k zs) size on ∙ ap (λ zs. zs ++ take (b - n - (a - n)) rest) (sym (slice_none xs a b (inr (omega (arith, after))))))
   | inr before ↦ (
       let n = length xs in
       let own = drop a xs in
@@ -101,7 +101,7 @@ module _ (all first more : List (List Bool)) (n a : ℕ) (joined : Appended all 
             let s = get_or ranges i r in
             let below : c < n = omega (arith, k, old_long i r (omega (arith, h, are.number))) in
             let none : slice_range (get_or more c []) (s.start - a) (s.stop - a) ≡ [] = slice_none (get_or more c []) (s.start - a) (s.stop - a) (elim (apart i r (omega (arith, h, are.number))) [
-              | inl behind ↦ inr (omega (arith, behind, bits c below))
+              | inl after ↦ inr (omega (arith, after, bits c below))
               | inr before ↦ inl (omega (arith, before))
             ]) in
             sym (append-nil (get_or (get_or old i []) c [])) ∙ ap (λ zs. get_or (get_or old i []) c [] ++ zs) (sym none);

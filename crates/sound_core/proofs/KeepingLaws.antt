@@ -23,8 +23,8 @@ module _ (first k : Keeper) (o : Surroundings) (ranges : List BitRange) (own : f
   )
 
   pub file_kept : (left : Option (List ℕ)) → TakesFile (IsKeeping first k) left o → KeepsFile left o ranges (items_of k.stretches.items)
-  file_kept None (told, h) = (told, tt)
-  file_kept (Some file) (told, h) = (told, taken_kept file h)
+  file_kept None (stated, h) = (stated, tt)
+  file_kept (Some file) (stated, h) = (stated, taken_kept file h)
 
   pub given_kept : {R : Type 0} (left : R → Option (List ℕ)) (i j : Inlet R) → TakesGiven (IsKeeping first k) left i j o → KeepsGiven left i j o ranges (items_of k.stretches.items)
   given_kept left i j (read, reads, h) = (read, reads, taken_kept read h)

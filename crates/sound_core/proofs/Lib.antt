@@ -1,11 +1,13 @@
 pub mod ReadLaws
 pub mod ReaderLaws
 pub mod HeadLaws
-pub mod ToldLaws
+pub mod StatedLaws
 pub mod OutlineLaws
 pub mod ClosingLaws
 pub mod NamingLaws
-pub mod BehindLaws
+pub mod CauseLaws
+pub mod AfterLaws
+pub mod UnsureLaws
 pub mod KeeperLaws
 pub mod TakingLaws
 pub mod KeepingLaws

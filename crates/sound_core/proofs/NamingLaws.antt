@@ -1,6 +1,7 @@
 -- Which fault a file has, by what was read of it.
 use Rattle.std.proofs.Common.{◌≡◌, ◌≢◌, ℕ, ◌+◌, ◌≤◌, ◌<◌, inl, inr, true, false, List, [], ◌++◌, length, take, Option, Some, None, IfSome, Result, Ok, Err, refl, sym, ap, subst, ◌∙◌, arith, append-nil, length-append}
-use Rattle.std.proofs.lemmas.Bool.{le-ltb, lt-ltb}
+use Rattle.std.specs.Prelude.{◌⊎◌}
+use Rattle.std.proofs.lemmas.Bool.{cases_lt, le-ltb, lt-ltb, ne_eqb}
 use Rattle.std.proofs.lemmas.List.{length-take, take-append-le, take-take}
 use Rattle.std.specs.Io.KnownBytes.{IsAtEnd}
 use Rattle.chunk_core.specs.Inlets.{inlet_reader}
@@ -15,58 +16,60 @@ use Rattle.dsd_bits.specs.Ids.{DSD, same_id}
 use Rattle.dsd_bits.specs.Sounds.{IfFound, IfMore, IfRefused}
 use Rattle.dsdiff_core.specs.declared.fault.DsdiffFault.{DsdiffFault}
 use Rattle.dsdiff_core.specs.declared.fault.DsdiffFault.TheVariants as faults
-use Rattle.dsdiff_core.specs.Fronts as dsdiff
-use Rattle.dsdiff_core.specs.Cuts.{last_size}
+use Rattle.dsdiff_core.specs.Headers as dsdiff
+use Rattle.dsdiff_core.specs.Cuts.{GoesPastForm, last_size}
 use Rattle.dsdiff_core.specs.Fields.{form_end}
 use Rattle.dsdiff_core.specs.Kinds.{FRM8}
 use Rattle.dsdiff_core.specs.Reading as dsdiff_reading
 use Rattle.dsdiff_core.proofs.FileLaws.{parts_again, parts_from}
-use Rattle.dsdiff_core.proofs.FrontLaws as form_fronts
+use Rattle.dsdiff_core.proofs.HeaderLaws as form_headers
 use Rattle.dsdiff_core.specs.Located.{EndsAtHead}
 use Rattle.dsdiff_core.proofs.HeadLaws.{ends_at_head, form_ok}
 use Rattle.dsdiff_core.proofs.LocatedLaws.{form_refused}
 use Rattle.dsdiff_core.proofs.WalkLaws.{long as form_long}
 use Rattle.dsf_core.specs.declared.fault.DsfFault.{DsfFault}
 use Rattle.dsf_core.specs.declared.fault.DsfFault.TheVariants as dsf_faults
+use Rattle.dsf_core.specs.Fields.{pointer}
 use Rattle.dsf_core.specs.Files.{IsDsf}
-use Rattle.dsf_core.specs.Fronts as dsf
+use Rattle.dsf_core.specs.Headers as dsf
 use Rattle.dsf_core.specs.Reading as dsf_reading
 use Rattle.dsf_core.proofs.DescribingLaws.{refused}
+use Rattle.dsf_core.proofs.FileLaws.{prefix_ok}
 use Rattle.dsf_core.specs.declared.locating.Located.{Located}
 use Rattle.dsf_core.specs.declared.locating.Located.TheVariants as answers
-use Rattle.dsf_core.proofs.FrontLaws as blocks
-use Rattle.dsf_core.proofs.FrontLaws.{found_front, found_leads as blocks_found}
+use Rattle.dsf_core.proofs.HeaderLaws as blocks
+use Rattle.dsf_core.proofs.HeaderLaws.{found_leads as blocks_found, found_prefix}
 use Rattle.form_core.specs.Faults.{dsdiff_fault, dsf_fault}
 use Rattle.form_core.specs.Opening.{from_dsdiff, is_other, opened_of}
 use Rattle.form_core.specs.declared.fault.ReadFault.{ReadFault}
 use Rattle.form_core.specs.declared.fault.ReadFault.TheVariants.{UnknownForm}
 use Rattle.form_core.specs.declared.opening.Opened.{Opened}
-use Rattle.sound_core.specs.Files.{EndsAt, HoldsRecording, IsBeforeSound, IsRefused, StatesSound}
+use Rattle.sound_core.specs.Files.{HoldsRecording, IsBeforeSound, IsHeaderOf, IsRefused, LeadsToSound}
 use Rattle.sound_core.specs.Naming.{IsSure, NamesFault}
 use Rattle.sound_core.specs.Reads.{Reads}
 use Rattle.sound_core.proofs.ClosingLaws.{apart, leads}
 use Rattle.sound_core.proofs.OutlineLaws.{left_is}
 use Rattle.sound_core.proofs.HeadLaws.{dsdiff_found, dsdiff_more, dsf_found, dsf_more, dsf_refused}
-use Rattle.sound_core.proofs.ToldLaws.{dsf_wanted, form_wanted}
+use Rattle.sound_core.proofs.StatedLaws.{dsf_wanted, form_wanted}
 
 -- ---- by the DSDIFF reading
-module _ (front : List ℕ) (x : SoundAt) (is : x ≡ dsdiff.sound_at front) where
-  pub form_found : IfFound x (StatesSound front)
-  form_found = dsdiff_found front x is (form_fronts.if_found front x is) (form_fronts.in_limits front x is) (form_fronts.inside front x is)
+module _ (prefix : List ℕ) (x : SoundAt) (is : x ≡ dsdiff.sound_at prefix) where
+  pub form_found : IfFound x (LeadsToSound prefix)
+  form_found = dsdiff_found prefix x is (form_headers.if_found prefix x is) (form_headers.in_limits prefix x is) (form_headers.inside prefix x is)
 
-  pub form_more : IfMore x (IsRefused front)
-  form_more = dsdiff_more front x is (form_fronts.if_more front x is)
+  pub form_more : IfMore x (IsRefused prefix)
+  form_more = dsdiff_more prefix x is (form_headers.if_more prefix x is)
 
-  pub form_before : IfMore x (IsBeforeSound front)
-  form_before = form_wanted front x is (form_fronts.if_more front x is)
+  pub form_before : IfMore x (IsBeforeSound prefix)
+  form_before = form_wanted prefix x is (form_headers.if_more prefix x is)
 
 -- ---- a file of one format is none of the other
 form_differs : (file : List ℕ) → take 4 file ≡ DSD → dsdiff.form_of file ≡ Err faults.NotDsdiff
 unfolding dsdiff.form_of
 form_differs file id = rw id refl
 
-pub no_form_read : (front rest : List ℕ) → 16 ≤ length front → take 4 front ≡ DSD → dsdiff_reading.recording_of (front ++ rest) ≡ Err faults.NotDsdiff
-no_form_read front rest long id = form_refused front rest faults.NotDsdiff long (form_differs front id)
+pub no_form_read : (prefix rest : List ℕ) → 16 ≤ length prefix → take 4 prefix ≡ DSD → dsdiff_reading.recording_of (prefix ++ rest) ≡ Err faults.NotDsdiff
+no_form_read prefix rest long id = form_refused prefix rest faults.NotDsdiff long (form_differs prefix id)
 
 dsf_no_form : (file : List ℕ) (r : Content) (order : BitOrder) → IsDsf file r order → dsdiff_reading.recording_of file ≡ Err faults.NotDsdiff
 dsf_no_form file r order is = subst (λ f. dsdiff_reading.recording_of f ≡ Err faults.NotDsdiff) (append-nil file) (no_form_read file [] (omega (arith, is.in_file, is.second_long)) is.first)
@@ -86,38 +89,41 @@ refused_by file e fails other r (inl form) = no_recording file e fails (r, form)
 refused_by file e fails other r (inr (order, is)) = (let both : failed e ≡ failed faults.NotDsdiff = sym fails ∙ dsf_no_form file r order is in other (let same : e ≡ faults.NotDsdiff = cc (both) in same))
 
 -- a form that begins is no DSF file
-pub form_refuses : (front : List ℕ) → take 4 front ≡ FRM8 → Refused ≡ dsdiff.sound_at front → (rest : List ℕ) → IsRefused (front ++ rest)
-form_refuses front id is rest r (inl form) = form_fronts.if_refused front Refused is rest (r, form)
-form_refuses front id is rest r (inr (order, other)) = apart (sym id ∙ sym (take-append-le 4 front rest (omega (arith, ap length id, length-take 4 front))) ∙ other.first)
+pub form_refuses : (prefix : List ℕ) → take 4 prefix ≡ FRM8 → Refused ≡ dsdiff.sound_at prefix → (rest : List ℕ) → IsRefused (prefix ++ rest)
+form_refuses prefix id is rest r (inl form) = form_headers.if_refused prefix Refused is rest (r, form)
+form_refuses prefix id is rest r (inr (order, other)) = apart (sym id ∙ sym (take-append-le 4 prefix rest (omega (arith, ap length id, length-take 4 prefix))) ∙ other.first)
 
-pub untold_refuses : (front : List ℕ) (at : ℕ) → EndsAtHead (take (at + 12) front) → Refused ≡ dsdiff.sound_at front → (rest : List ℕ) → IsRefused (front ++ rest)
-untold_refuses front at head is = form_refuses front (sym (take-take 4 (at + 12) front (omega arith)) ∙ head.form) is
+pub unstated_refuses : (prefix : List ℕ) (at : ℕ) → EndsAtHead (take (at + 12) prefix) → Refused ≡ dsdiff.sound_at prefix → (rest : List ℕ) → IsRefused (prefix ++ rest)
+unstated_refuses prefix at head is = form_refuses prefix (sym (take-take 4 (at + 12) prefix (omega arith)) ∙ head.form) is
 
-pub lost_refuses : (front : List ℕ) → dsdiff.form_of front ≡ Ok tt → Refused ≡ dsdiff.sound_at front → (rest : List ℕ) → IsRefused (front ++ rest)
-lost_refuses front form is = form_refuses front (form_ok front form).0 is
+pub past_refuses : (prefix : List ℕ) (at : ℕ) → GoesPastForm (take (at + 12) prefix) → Refused ≡ dsdiff.sound_at prefix → (rest : List ℕ) → IsRefused (prefix ++ rest)
+past_refuses prefix at past is = form_refuses prefix (sym (take-take 4 (at + 12) prefix (omega arith)) ∙ past.0.form) is
 
--- ---- by the DSF reading, of a front with which no DSDIFF file begins
-module _ (front : List ℕ) (no_form : (rest : List ℕ) → dsdiff_reading.recording_of (front ++ rest) ≡ Err faults.NotDsdiff) where
-  none : (rest : List ℕ) → dsdiff.IsAccepted (front ++ rest) → ⊥
-  none rest = no_recording (front ++ rest) faults.NotDsdiff (no_form rest)
+pub lost_refuses : (prefix : List ℕ) → dsdiff.form_of prefix ≡ Ok tt → Refused ≡ dsdiff.sound_at prefix → (rest : List ℕ) → IsRefused (prefix ++ rest)
+lost_refuses prefix form is = form_refuses prefix (form_ok prefix form).0 is
 
-  located_is : (x : Located) → x ≡ dsf.located front → dsf.without_fault x ≡ dsf.sound_at front
+-- ---- by the DSF reading, of a prefix with which no DSDIFF file begins
+module _ (prefix : List ℕ) (no_form : (rest : List ℕ) → dsdiff_reading.recording_of (prefix ++ rest) ≡ Err faults.NotDsdiff) where
+  none : (rest : List ℕ) → dsdiff.IsAccepted (prefix ++ rest) → ⊥
+  none rest = no_recording (prefix ++ rest) faults.NotDsdiff (no_form rest)
+
+  located_is : (x : Located) → x ≡ dsf.located prefix → dsf.without_fault x ≡ dsf.sound_at prefix
   unfolding dsf.sound_at
   located_is x e = ap dsf.without_fault e
 
-  pub blocks_tell : (s : Sound) → answers.Found s ≡ dsf.located front → StatesSound front s
-  blocks_tell s e =
-      let is : Found s ≡ dsf.sound_at front = located_is (answers.Found s) e in
-      dsf_found front none (Found s) is (blocks.if_found front (Found s) is) (blocks.in_limits front (Found s) is) (blocks.inside front (Found s) is) (blocks.in_blocks front (Found s) is)
+  pub blocks_state : (s : Sound) → answers.Found s ≡ dsf.located prefix → LeadsToSound prefix s
+  blocks_state s e =
+      let is : Found s ≡ dsf.sound_at prefix = located_is (answers.Found s) e in
+      dsf_found prefix none (Found s) is (blocks.if_found prefix (Found s) is) (blocks.in_limits prefix (Found s) is) (blocks.inside prefix (Found s) is) (blocks.in_blocks prefix (Found s) is)
 
-  pub blocks_more : (d : DsfFault) → answers.More d ≡ dsf.located front → dsf.IsLocated front (answers.More d) → IsRefused front
-  blocks_more d e told = dsf_more front none More (located_is (answers.More d) e) told.0
+  pub blocks_more : (d : DsfFault) → answers.More d ≡ dsf.located prefix → dsf.IsLocated prefix (answers.More d) → IsRefused prefix
+  blocks_more d e stated = dsf_more prefix none More (located_is (answers.More d) e) stated.0
 
-  pub blocks_before : (d : DsfFault) → dsf.IsLocated front (answers.More d) → IsBeforeSound front
-  blocks_before d told = dsf_wanted front none More told.0
+  pub blocks_before : (d : DsfFault) → dsf.IsLocated prefix (answers.More d) → IsBeforeSound prefix
+  blocks_before d stated = dsf_wanted prefix none More stated.0
 
-  pub blocks_refuse : (d : DsfFault) → answers.Refused d ≡ dsf.located front → dsf.IsLocated front (answers.Refused d) → (rest : List ℕ) → IsRefused (front ++ rest)
-  blocks_refuse d e told = dsf_refused front none Refused (located_is (answers.Refused d) e) (blocks.if_refused front (answers.Refused d) told)
+  pub blocks_refuse : (d : DsfFault) → answers.Refused d ≡ dsf.located prefix → dsf.IsLocated prefix (answers.Refused d) → (rest : List ℕ) → IsRefused (prefix ++ rest)
+  blocks_refuse d e stated = dsf_refused prefix none Refused (located_is (answers.Refused d) e) (blocks.if_refused prefix (answers.Refused d) stated)
 
 -- ---- the fault, by the fault of its format
 not_other : (e : DsdiffFault) → e ≢ faults.NotDsdiff → is_other e ≡ false
@@ -168,15 +174,43 @@ file_named left i j e named = by (left (inlet_reader i)) refl
 blocks_cut : (head rest : List ℕ) (s : Sound) → dsf.sound_at head ≡ Found s → s.start ≡ length head → length (head ++ rest) < length head + s.size → dsf_reading.recording_of (head ++ rest) ≡ Err dsf_faults.DataCut
 unfolding dsf_reading.ends_fit
 blocks_cut head rest s leads start short =
-    let f = found_front head s leads in
+    let f = found_prefix head s leads in
     let end : length (head ++ rest) < f.1.sound.start + f.1.sound.size = omega (arith, short, start, ap (λ (t : Sound). t.start) f.3, ap (λ (t : Sound). t.size) f.3) in
     refused head f.1 f.2 [] (length (head ++ rest)) dsf_faults.DataCut (rw (lt-ltb (length (head ++ rest)) (f.1.sound.start + f.1.sound.size) end) refl) rest refl
 
-pub cut_blocks : (head rest : List ℕ) (s : Sound) (at : EndsAt head s) (order : BitOrder) → s.interleaving ≡ Blocks order → length (head ++ rest) < length head + s.size → opened_of (head ++ rest) ≡ Err (dsf_fault dsf_faults.DataCut)
-cut_blocks head rest s at order told short =
-    let lead = leads head s at order told in
+pub cut_blocks : (head rest : List ℕ) (s : Sound) (at : IsHeaderOf head s) (order : BitOrder) → s.interleaving ≡ Blocks order → length (head ++ rest) < length head + s.size → opened_of (head ++ rest) ≡ Err (dsf_fault dsf_faults.DataCut)
+cut_blocks head rest s at order stated short =
+    let lead = leads head s at order stated in
     let holds = blocks_found head s lead in
     blocks_named (head ++ rest) dsf_faults.DataCut (no_form_read head rest (omega (arith, holds.holds.fields)) holds.heads.first) (blocks_cut head rest s lead at.start short)
+
+-- a wrong place of the tag
+pointer_off : (head rest : List ℕ) (s : Sound) → dsf.sound_at head ≡ Found s → s.start ≡ length head → length head + s.size ≤ length (head ++ rest) → pointer head ≢ 0 → (pointer head < length head + s.size) ⊎ (length (head ++ rest) < pointer head)
+    → dsf_reading.recording_of (head ++ rest) ≡ Err dsf_faults.BadPointer
+unfolding dsf_reading.ends_fit
+pointer_off head rest s leads start whole some off =
+    let f = found_prefix head s leads in
+    let n : ℕ = length (head ++ rest) in
+    let stop : ℕ = f.1.sound.start + f.1.sound.size in
+    let stop_is : stop ≡ length head + s.size = omega (arith, start, ap (λ (t : Sound). t.start) f.3, ap (λ (t : Sound). t.size) f.3) in
+    let at : f.1.tag_at ≡ pointer head = ap (λ g. g.tag_at) (prefix_ok head f.1 f.2).1 in
+    let differs : f.1.tag_at ≢ 0 = λ zero. some (sym at ∙ zero) in
+    refused head f.1 f.2 [] n dsf_faults.BadPointer (elim (cases_lt f.1.tag_at stop) [
+      | inl early ↦ rw (le-ltb n stop (omega (arith, whole, stop_is)), ne_eqb f.1.tag_at 0 differs, lt-ltb f.1.tag_at stop early) refl
+      | inr later ↦ (
+          let late : n < f.1.tag_at = elim off [
+            | inl early ↦ absurd (omega (arith, early, later, stop_is, at))
+            | inr late ↦ omega (arith, late, at)
+          ] in
+          rw (le-ltb n stop (omega (arith, whole, stop_is)), ne_eqb f.1.tag_at 0 differs, le-ltb f.1.tag_at stop later, lt-ltb n f.1.tag_at late) refl)
+    ]) rest refl
+
+pub blocks_pointer : (head rest : List ℕ) (s : Sound) (at : IsHeaderOf head s) (order : BitOrder) → s.interleaving ≡ Blocks order → length head + s.size ≤ length (head ++ rest) → pointer head ≢ 0 → (pointer head < length head + s.size) ⊎ (length (head ++ rest) < pointer head)
+    → opened_of (head ++ rest) ≡ Err (dsf_fault dsf_faults.BadPointer)
+blocks_pointer head rest s at order stated whole some off =
+    let lead = leads head s at order stated in
+    let holds = blocks_found head s lead in
+    blocks_named (head ++ rest) dsf_faults.BadPointer (no_form_read head rest (omega (arith, holds.holds.fields)) holds.heads.first) (pointer_off head rest s lead at.start whole some off)
 
 pub form_cut_size : (head rest : List ℕ) (s : Sound) → dsdiff.EndsAt head s → length (head ++ rest) < length head + s.size → form_end (head ++ rest) < length head + last_size head
 form_cut_size head rest s ends short = omega (arith, short, (ends_at_head head s ends).1)
@@ -187,10 +221,9 @@ cut_form head rest s e ends fails =
     let long : 28 ≤ length head = form_long head h in
     form_starts (head ++ rest) e (omega (arith, long, length-append head rest)) (take-append-le 4 head rest (omega (arith, long)) ∙ h.form) fails
 
--- ---- the front that was read
-pub front_sure : {R : Type 0} (left : R → Option (List ℕ)) (i j : Inlet R) (front : List ℕ) (e : ReadFault) → Reads left i j front → ((rest : List ℕ) → opened_of (front ++ rest) ≡ Err e) → NamesFault left i j e
-front_sure left i j front e reads fails = record { read = front; reads = reads; sure = sure_all (left (inlet_reader j)) front e fails }
+-- ---- the prefix that was read
+pub prefix_sure : {R : Type 0} (left : R → Option (List ℕ)) (i j : Inlet R) (prefix : List ℕ) (e : ReadFault) → Reads left i j prefix → ((rest : List ℕ) → opened_of (prefix ++ rest) ≡ Err e) → NamesFault left i j e
+prefix_sure left i j prefix e reads fails = record { read = prefix; reads = reads; sure = sure_all (left (inlet_reader j)) prefix e fails }
 
-pub whole_sure : {R : Type 0} (left : R → Option (List ℕ)) (i j : Inlet R) (file : List ℕ) (cause : Option ReadFault) → Reads left i j file → IsAtEnd (left (inlet_reader j)) → IfSome cause (λ e. opened_of file ≡ Err e) → IfSome cause (NamesFault left i j)
-whole_sure left i j file None reads end h = tt
-whole_sure left i j file (Some e) reads end h = record { read = file; reads = reads; sure = sure_end (left (inlet_reader j)) file e end h }
+pub whole_sure : {R : Type 0} (left : R → Option (List ℕ)) (i j : Inlet R) (file : List ℕ) (e : ReadFault) → Reads left i j file → IsAtEnd (left (inlet_reader j)) → opened_of file ≡ Err e → NamesFault left i j e
+whole_sure left i j file e reads end h = record { read = file; reads = reads; sure = sure_end (left (inlet_reader j)) file e end h }

@@ -1,14 +1,14 @@
 -- What was read of a file, part by part, and what its outline tells.
-use Rattle.std.proofs.Common.{◌≡◌, ◌≢◌, ℕ, ◌+◌, ◌<◌, ◌≤◌, List, [], ◌++◌, length, take, drop, Option, None, Some, IfSome, refl, sym, subst, ap, ◌∙◌, arith, append_assoc, append-nil, length-append, length-take, take-append-drop}
+use Rattle.std.proofs.Common.{◌≡◌, ◌≢◌, ℕ, ◌+◌, ◌<◌, ◌≤◌, List, [], ◌++◌, length, take, drop, Option, None, Some, refl, sym, subst, ap, ◌∙◌, arith, append_assoc, append-nil, length-append, length-take, take-append-drop}
 use Rattle.std.specs.Io.KnownBytes.{Consumes, IsAtEnd}
 use Rattle.chunk_core.specs.Inlets.{inlet_reader}
 use Rattle.chunk_core.specs.declared.inlet.Inlet.{Inlet}
 use Rattle.sound_core.specs.Outlines.{ReadsTag}
-use Rattle.sound_core.specs.Readers.{Passes}
+use Rattle.sound_core.specs.Readers.{FallsShort, Passes}
 use Rattle.sound_core.specs.Reads.{Reads, ReadsAll, ReadsToEnd}
-use Rattle.sound_core.proofs.ReadLaws.{at_end, reads_none, reads_on}
+use Rattle.sound_core.proofs.ReadLaws.{reads_none, reads_on}
 
--- as many bytes are left as there are behind those that were read
+-- as many bytes are left as there are after those that were read
 pub left_is : {R : Type 0} (left : R → Option (List ℕ)) (i j : Inlet R) (read : List ℕ) → Reads left i j read → (xs : List ℕ) → left (inlet_reader i) ≡ Some xs → (ys : List ℕ) × (left (inlet_reader j) ≡ Some ys) × (xs ≡ read ++ ys)
 left_is left i j read reads xs known = by (left (inlet_reader j)) refl (subst (λ o. Consumes o (left (inlet_reader j)) read) known reads.consumed)
   where
@@ -21,7 +21,7 @@ pub pass_none : {R : Type 0} (left : R → Option (List ℕ)) (i : Inlet R) (ahe
 pass_none left i ahead = record { passed = []; read = []; reads = reads_none left i; parts = append-nil ahead; long = refl }
 
 module _ {R : Type 0} (left : R → Option (List ℕ)) (i j : Inlet R) (n : ℕ) (old ahead : List ℕ) (passes : Passes left i j n old ahead) where
-  -- all that is ahead is passed, and more is read
+  -- all that is buffered is passed, and more is read
   pub pass_more : (k : Inlet R) (read : List ℕ) → Reads left j k read → Passes left i k (n + length ahead) old read
   pass_more k read reads = record {
     passed = passes.passed ++ ahead;
@@ -31,7 +31,7 @@ module _ {R : Type 0} (left : R → Option (List ℕ)) (i j : Inlet R) (n : ℕ)
     long = omega (arith, length-append passes.passed ahead, passes.long);
   }
 
-  -- the first bytes ahead are passed
+  -- the first buffered bytes are passed
   pub pass_part : (k : Inlet R) (m : ℕ) (rest : List ℕ) → k ≡ j → m ≤ length ahead → rest ≡ drop m ahead → Passes left i k (n + m) old rest
   pass_part k m rest same within is = record {
     passed = passes.passed ++ take m ahead;
@@ -42,10 +42,15 @@ module _ {R : Type 0} (left : R → Option (List ℕ)) (i j : Inlet R) (n : ℕ)
   }
 
   -- the bytes end before
-  pub pass_short : (k : Inlet R) (read : List ℕ) (wanted : ℕ) → Reads left j k read → length read ≡ 0 → IsAtEnd (left (inlet_reader k)) → n + length ahead < wanted → IfSome (left (inlet_reader i)) (λ xs. length (old ++ xs) < wanted)
-  pass_short k read wanted reads none end less = at_end left i j k passes.read read (λ xs. length (old ++ xs) < wanted) passes.reads reads none end (omega (arith, ap length passes.parts, length-append passes.passed ahead, passes.long, less))
+  pub pass_short : (k : Inlet R) (read : List ℕ) (wanted : ℕ) → Reads left j k read → length read ≡ 0 → IsAtEnd (left (inlet_reader k)) → n + length ahead < wanted → FallsShort left i k wanted old
+  pass_short k read wanted reads none end less = record {
+    read = passes.read ++ read;
+    reads = reads_on left i j k passes.read read passes.reads reads;
+    few = omega (arith, less, none, ap length passes.parts, length-append old passes.read, length-append passes.passed ahead, passes.long, length-append old (passes.read ++ read), length-append passes.read read);
+    at_end = end;
+  }
 
--- ---- what stands between a sound and a tag
+-- ---- what is between a sound and a tag
 pub tag_none : {R : Type 0} (left : R → Option (List ℕ)) (i j : Inlet R) (place stop gap : ℕ) (back none : List ℕ) → place ≡ 0 → (all : ReadsToEnd left i j) → none ≡ [] → gap ≡ length back + length all.bytes → ReadsTag left i j place stop back none gap
 tag_none left i j place stop gap back none zero all is size = record {
   passed = back ++ all.bytes;

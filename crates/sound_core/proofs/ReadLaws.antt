@@ -18,11 +18,11 @@ reads_on left a b c xs ys p q = record {
   given = omega (arith, p.given, q.given, length-append xs ys);
 }
 
--- the bytes ahead after one read and another
+-- the buffered bytes after one read and another
 pub ahead_on : (a b c xs ys : List ℕ) → b ≡ a ++ xs → c ≡ b ++ ys → c ≡ a ++ (xs ++ ys)
 ahead_on a b c xs ys p q = q ∙ ap (λ zs. zs ++ ys) p ∙ append_assoc a xs ys
 
--- what holds of what was read and anything behind it holds of what there is
+-- what holds of what was read and anything after it holds of what there is
 pub after : (Q : List ℕ → Type 0) (a b : Option (List ℕ)) (bs : List ℕ) → Consumes a b bs → ((rest : List ℕ) → Q (bs ++ rest)) → IfSome a Q
 after Q None b bs c f = tt
 after Q (Some xs) None bs c f = absurd c
@@ -43,8 +43,8 @@ gives_read left i j n xs reads same = record { begins = by (left (inlet_reader i
     by (Some ys) None h = absurd h
     by (Some ys) (Some zs) h = (zs, h)
 
--- ---- bytes that were read before, and those behind them
--- of both, so many are those before and the rest of the others
+-- ---- bytes that were read before, and those after them
+-- the first n of both are those before, and the rest are the others'
 pub whole_is : {X : Type 0} (size : ℕ) (xs ys : List X) → take size (xs ++ ys) ≡ take size xs ++ take (size - length (take size xs)) ys
 whole_is {X} size xs ys = elim (cases_lt size (length xs)) [
   | inl less ↦ (let none : size - length (take size xs) ≡ 0 = omega (arith, length-take size xs) in
@@ -57,9 +57,9 @@ whole_is {X} size xs ys = elim (cases_lt size (length xs)) [
     all_taken : (xs : List X) → take (length xs) xs ++ [] ≡ xs
     all_taken xs = ap (λ zs. take (length xs) xs ++ zs) (sym (nil_from_length (drop (length xs) xs) (omega (arith, length-drop (length xs) xs)))) ∙ take-append-drop (length xs) xs
 
--- what is read behind them is that of all behind the first of them, where it fills them up
-pub joined_behind : {X : Type 0} (size : ℕ) (xs part : List X) → length part ≡ size - length (take size xs) → xs ++ part ≡ (take size xs ++ part) ++ drop size xs
-joined_behind {X} size xs part long =
+-- what is read after them is that of all after the first of them, if it fills them up
+pub joined_after : {X : Type 0} (size : ℕ) (xs part : List X) → length part ≡ size - length (take size xs) → xs ++ part ≡ (take size xs ++ part) ++ drop size xs
+joined_after {X} size xs part long =
     let first = take size xs in
     let rest = drop size xs in
     ap (λ zs. zs ++ part) (sym (take-append-drop size xs)) ∙ append_assoc first rest part ∙ ap (λ zs. first ++ zs) (elim (cases_lt size (length xs)) [
@@ -67,14 +67,14 @@ joined_behind {X} size xs part long =
       | inr more ↦ (let none : rest ≡ [] = nil_from_length rest (omega (arith, length-drop size xs)) in rw none (sym (append-nil part)))
     ]) ∙ sym (append_assoc first part rest)
 
--- ---- the front of a block
--- what is put into the front of a block leaves it as long as it was
+-- ---- the prefix of a block
+-- what is put at the start of a block leaves its length unchanged
 pub same_long : (len : ℕ) (xs block : List ℕ) → len ≡ length block → length (take len (xs ++ drop (length xs) block)) ≡ length block
 same_long len xs block e = omega (arith, length-take len (xs ++ drop (length xs) block), length-append xs (drop (length xs) block), length-drop (length xs) block)
 
--- and there it stands
-pub front_part : (len n : ℕ) (front back rest : List ℕ) → n ≤ length front → n ≤ len → take n (take len ((front ++ back) ++ rest)) ≡ take n front
-front_part len n front back rest few within = take-take n len ((front ++ back) ++ rest) within ∙ ap (take n) (append_assoc front back rest) ∙ take-append-le n front (back ++ rest) few
+-- and there it is
+pub prefix_part : (len n : ℕ) (prefix back rest : List ℕ) → n ≤ length prefix → n ≤ len → take n (take len ((prefix ++ back) ++ rest)) ≡ take n prefix
+prefix_part len n prefix back rest few within = take-take n len ((prefix ++ back) ++ rest) within ∙ ap (take n) (append_assoc prefix back rest) ∙ take-append-le n prefix (back ++ rest) few
 
-pub front_put : (len n : ℕ) (front back rest : List ℕ) → length front ≡ n → n ≤ len → take n (take len ((front ++ back) ++ rest)) ≡ front
-front_put len n front back rest long within = front_part len n front back rest (omega (arith, long)) within ∙ take_all n front (omega (arith, long))
+pub prefix_put : (len n : ℕ) (prefix back rest : List ℕ) → length prefix ≡ n → n ≤ len → take n (take len ((prefix ++ back) ++ rest)) ≡ prefix
+prefix_put len n prefix back rest long within = prefix_part len n prefix back rest (omega (arith, long)) within ∙ take_all n prefix (omega (arith, long))

@@ -14,7 +14,7 @@ same_self a = record { reference = refl; given = refl; limit = refl }
 pub same_on : {R : Type 0} (a b c : SoundReader R) → IsSame a b → IsSame b c → IsSame a c
 same_on a b c p q = record { reference = q.reference ∙ p.reference; given = q.given ∙ p.given; limit = q.limit ∙ p.limit }
 
--- a fault counts the same, whatever else could have been answered
+-- a fault counts the same, whatever else could have been returned
 same_reads : (X Y : Type 0) (f : StreamFault) → failed_reads {X = X} (Err f) ≡ failed_reads {X = Y} (Err f)
 same_reads X Y FileRefused = refl
 same_reads X Y RateNotDivided = refl

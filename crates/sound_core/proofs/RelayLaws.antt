@@ -14,7 +14,7 @@ use Rattle.dsd_bits.specs.Sounds.{sound_size}
 use Rattle.interleave_core.proofs.GroupLaws.{size_on}
 use Rattle.interleave_core.proofs.JoinLaws.{groups_join}
 use Rattle.interleave_core.specs.Reinterleaving.{reinterleaved}
-use Rattle.sound_core.specs.Faults.{IsSinkFault, IsWritingFault, failed_writes}
+use Rattle.sound_core.specs.Faults.{IsWritingFault, failed_writes}
 use Rattle.sound_core.specs.Outlines.{AreStated, IsOutlineFault, IsPlacedIn, Surroundings}
 use Rattle.sound_core.specs.Sinks.{BeginsSound, IsFed, StopsTaking, TakesFile, TakesGiven}
 use Rattle.sound_core.specs.declared.fault.StreamFault.{StreamFault}
@@ -22,7 +22,7 @@ use Rattle.sound_core.specs.declared.fault.StreamFault.TheVariants.{FileRefused,
 use Rattle.sound_core.specs.declared.part.SoundPart.{SoundPart}
 use Rattle.sound_core.proofs.FaultLaws.{by_writing}
 use Rattle.sound_core.proofs.KeeperLaws.{no_size}
-use Rattle.sound_core.proofs.SameLaws.{not_refused, same_around, same_front, same_rest, same_stands, told_same}
+use Rattle.sound_core.proofs.SameLaws.{not_refused, same_around, same_holds, same_prefix, same_rest, stated_same}
 use Rattle.sound_core.proofs.TakingLaws.{fed_on}
 use Rattle.sound_core.specs.Relays.{AppendsUntil, IsOwnFault, IsRelayFault, IsRelaying, IsSameAround, RefusesRelaying, RelayFails, Relays, RelaysPrefix, RelaysGiven, reinterleaved_sound, relayed}
 use Rattle.sound_core.specs.declared.relaying.NewFile.{NewFile}
@@ -50,7 +50,7 @@ until_more a b xs ys f out = (
 until_on : (a b c : Option (List ℕ)) (xs ys : List ℕ) (f : StreamFault) → Appends a b xs → AppendsUntil b c ys f → AppendsUntil a c (xs ++ ys) f
 until_on a b c xs ys f p q = (xs ++ q.0, q.1, ap (λ zs. xs ++ zs) q.2 ∙ sym (append_assoc xs q.0 q.1), q.3, Appends-trans a b c xs q.0 p q.4)
 
--- ---- a sound interleaved otherwise, part by part
+-- ---- a sound that is interleaved again, part by part
 -- nothing of a sound is nothing of another
 pub relaced_none : (s : Sound) (to : Interleaving) → reinterleaved s.interleaving to s.channels 0 [] ≡ []
 relaced_none s to =
@@ -59,7 +59,7 @@ relaced_none s to =
     let twice : made ≡ made ++ made = groups_join s.interleaving to s.channels 0 0 [] [] refl none none in
     nil_from_length made (omega (arith, ap length twice, length-append made made))
 
--- what came and a part behind it
+-- what came and a part after it
 pub relaced_on : (part : SoundPart) (before bytes : List ℕ) (to : Interleaving) → IsFed part.sound part.done before → length bytes ≡ sound_size part.sound.interleaving part.sound.channels part.bits
     → reinterleaved part.sound.interleaving to part.sound.channels (part.done + part.bits) (before ++ bytes) ≡ reinterleaved part.sound.interleaving to part.sound.channels part.done before ++ reinterleaved part.sound.interleaving to part.sound.channels part.bits bytes
 relaced_on part before bytes to fed long = groups_join part.sound.interleaving to part.sound.channels part.done part.bits before bytes (fed.groups (omega (arith, part.some, part.within))) fed.size long
@@ -84,20 +84,20 @@ relaced_begins s to done came rest fed long = elim (cases_lt done s.count) [
 ]
 
 -- ---- faults
--- one of reading around the sound
-module _ (o : Surroundings) (told : AreStated o) (left : Option (List ℕ)) where
-  pub outline_stands : (f : StreamFault) → IsOutlineFault left f → IsRelayFault left o f
-  outline_stands FileRefused h = by left h
+-- a fault of reading around the sound
+module _ (o : Surroundings) (stated : AreStated o) (left : Option (List ℕ)) where
+  pub outline_holds : (f : StreamFault) → IsOutlineFault left f → IsRelayFault left o f
+  outline_holds FileRefused h = by left h
     where
       by : (l : Option (List ℕ)) → IsOutlineFault l FileRefused → IsRelayFault l o FileRefused
       by None refused = tt
-      by (Some file) refused = λ around. not_refused o told file around refused
-  outline_stands RateNotDivided h = absurd h
-  outline_stands TooLarge h = absurd h
-  outline_stands ReadFailed h = tt
-  outline_stands WriteFailed h = absurd h
-  outline_stands TurnLimit h = tt
-  outline_stands Memory h = tt
+      by (Some file) refused = λ around. not_refused o stated file around refused
+  outline_holds RateNotDivided h = absurd h
+  outline_holds TooLarge h = absurd h
+  outline_holds ReadFailed h = tt
+  outline_holds WriteFailed h = absurd h
+  outline_holds TurnLimit h = tt
+  outline_holds Memory h = tt
 
 outline_calm : (left : Option (List ℕ)) (f : StreamFault) → IsOutlineFault left f → f ≢ WriteFailed
 outline_calm left f h same = subst (IsOutlineFault left) same h
@@ -114,11 +114,8 @@ outline_uncounted left Memory h = refl
 pub writing_is_own : (own s : Sound) (f : StreamFault) → IsWritingFault f → IsOwnFault own s f
 writing_is_own own s f h = by_writing (IsOwnFault own s) tt tt f h
 
-pub writing_stands : (left : Option (List ℕ)) (o : Surroundings) (f : StreamFault) → IsWritingFault f → IsRelayFault left o f
-writing_stands left o f h = by_writing (IsRelayFault left o) tt tt f h
-
-pub writing_of_sink : (f : StreamFault) → IsWritingFault f → IsSinkFault f
-writing_of_sink f h = by_writing IsSinkFault tt tt f h
+pub writing_holds : (left : Option (List ℕ)) (o : Surroundings) (f : StreamFault) → IsWritingFault f → IsRelayFault left o f
+writing_holds left o f h = by_writing (IsRelayFault left o) tt tt f h
 
 -- ---- what relays a sound
 module _ {W : Type 0} (held : W → Option (List ℕ)) (first old new : RelayingSink W) where
@@ -137,7 +134,7 @@ module _ {W : Type 0} (held : W → Option (List ℕ)) (first old new : Relaying
   abbrev head : List ℕ
   head = first.target.head.now
 
-  -- ---- a part behind what came
+  -- ---- a part after what came
   module _ (part : SoundPart) (before bytes : List ℕ) (fed : IsFed part.sound part.done before) (is : IsRelaying held first old part.sound part.done before) (long : length bytes ≡ sound_size part.sound.interleaving part.sound.channels part.bits) (reference : new.outlet.ghost_name ≡ old.outlet.ghost_name) where
     abbrev s : Sound
     s = part.sound
@@ -165,7 +162,7 @@ module _ {W : Type 0} (held : W → Option (List ℕ)) (first old new : Relaying
     relaying_refuses f fault out failures = record {
       same = reference ∙ is.same;
       fault = writing_is_own first.sound s f fault;
-      front = λ own rest whole.
+      prefix = λ own rest whole.
           let more = relaced_begins s to (part.done + part.bits) (before ++ bytes) rest (fed_on part before fed bytes long) whole in
           let tail = first.target.tail.now in
           let now : reinterleaved_sound s to ((before ++ bytes) ++ rest) ≡ so_far ++ (made ++ more.0) =
@@ -177,7 +174,7 @@ module _ {W : Type 0} (held : W → Option (List ℕ)) (first old new : Relaying
     }
 
 -- ---- a file that is not taken to its end
-module _ {W : Type 0} (held : W → Option (List ℕ)) (first new : RelayingSink W) (o : Surroundings) (told : AreStated o) (own : first.sound ≡ o.sound) where
+module _ {W : Type 0} (held : W → Option (List ℕ)) (first new : RelayingSink W) (o : Surroundings) (stated : AreStated o) (own : first.sound ≡ o.sound) where
   abbrev at_first : Option (List ℕ)
   at_first = held (outlet_writer first.outlet.now)
 
@@ -187,26 +184,26 @@ module _ {W : Type 0} (held : W → Option (List ℕ)) (first new : RelayingSink
   abbrev pub Stops : Option (List ℕ) → ℕ → ℕ → StreamFault → Type 0
   Stops left g h f = StopsTaking (λ x y s done bytes. IsRelaying held x y s done bytes) (λ x y s came e. RefusesRelaying held x y s came e) left g h first new f
 
-  -- the sound that the file tells of is that of the outline, and what came begins it
+  -- the sound that the file states is that of the outline, and what came begins it
   began : (file sound : List ℕ) → IsPlacedIn o file sound → (s : Sound) (came : List ℕ) → BeginsSound s came file → s ≡ o.sound
-  began file sound stands s came begins = told_same o.head begins.front (sound ++ (stands.gap ++ (o.back ++ stands.rest))) begins.rest (sym stands.file_is ∙ begins.file_is) o.sound s told.tells begins.tells
+  began file sound stands s came begins = stated_same o.head begins.prefix (sound ++ (stands.gap ++ (o.back ++ stands.rest))) begins.rest (sym stands.file_is ∙ begins.file_is) o.sound s stated.states begins.states
 
   came_is : (file sound : List ℕ) → IsPlacedIn o file sound → (s : Sound) (came : List ℕ) → BeginsSound s came file → length came ≤ s.size → (rest : List ℕ) × (sound ≡ came ++ rest)
   came_is file sound stands s came begins few =
       let is = began file sound stands s came begins in
-      let behind = stands.gap ++ (o.back ++ stands.rest) in
-      let here : drop s.start file ≡ came ++ begins.more = ap (drop s.start) begins.file_is ∙ drop-append-le s.start begins.front begins.rest begins.tells.within ∙ begins.sound_is in
-      let there : drop s.start file ≡ sound ++ behind = ap₂ (λ n xs. drop n xs) (ap (λ (t : Sound). t.start) is ∙ told.start) stands.file_is ∙ drop-append_seam o.head (sound ++ behind) in
+      let after = stands.gap ++ (o.back ++ stands.rest) in
+      let here : drop s.start file ≡ came ++ begins.more = ap (drop s.start) begins.file_is ∙ drop-append-le s.start begins.prefix begins.rest begins.states.within ∙ begins.sound_is in
+      let there : drop s.start file ≡ sound ++ after = ap₂ (λ n xs. drop n xs) (ap (λ (t : Sound). t.start) is ∙ stated.start) stands.file_is ∙ drop-append_seam o.head (sound ++ after) in
       let n = length came in
       let split : sound ≡ take n sound ++ drop n sound = sym (take-append-drop n sound) in
       let long : length (take n sound) ≡ n = omega (arith, length-take n sound, few, stands.sound_long, ap (λ (t : Sound). t.size) is) in
-      let whole : take n sound ++ (drop n sound ++ behind) ≡ came ++ begins.more = sym (append_assoc (take n sound) (drop n sound) behind) ∙ ap (λ xs. xs ++ behind) (sym split) ∙ sym there ∙ here in
-      (drop n sound, split ∙ ap (λ xs. xs ++ drop n sound) (same_front (take n sound) came (drop n sound ++ behind) begins.more whole long))
+      let whole : take n sound ++ (drop n sound ++ after) ≡ came ++ begins.more = sym (append_assoc (take n sound) (drop n sound) after) ∙ ap (λ xs. xs ++ after) (sym split) ∙ sym there ∙ here in
+      (drop n sound, split ∙ ap (λ xs. xs ++ drop n sound) (same_prefix (take n sound) came (drop n sound ++ after) begins.more whole long))
 
   pub stops_fault : (left : Option (List ℕ)) (g h : ℕ) (f : StreamFault) → Stops left g h f → IsRelayFault left o f
-  stops_fault left g h f (inl none) = outline_stands o told left f none.fault
+  stops_fault left g h f (inl none) = outline_holds o stated left f none.fault
   stops_fault left g h f (inr some) = elim some.how [
-    | inl ends ↦ outline_stands o told left f ends.fault
+    | inl ends ↦ outline_holds o stated left f ends.fault
     | inr refuses ↦ by f refuses.refuses.fault
   ]
     where
@@ -223,11 +220,11 @@ module _ {W : Type 0} (held : W → Option (List ℕ)) (first new : RelayingSink
       by TurnLimit h = absurd h
       by Memory h = tt
 
-  pub stops_front : (left : Option (List ℕ)) (g h : ℕ) (f : StreamFault) → Stops left g h f → RelaysPrefix left first.target o at_first at_last f
-  stops_front None g h f stops = tt
-  stops_front (Some file) g h f (inl none) = λ sound stands.
+  pub stops_prefix : (left : Option (List ℕ)) (g h : ℕ) (f : StreamFault) → Stops left g h f → RelaysPrefix left first.target o at_first at_last f
+  stops_prefix None g h f stops = tt
+  stops_prefix (Some file) g h f (inl none) = λ sound stands.
       subst (λ (k : RelayingSink W). AppendsUntil at_first (held (outlet_writer k.outlet.now)) (relayed first.target o.sound sound) f) (sym none.same) (until_nil at_first (relayed first.target o.sound sound) f (outline_calm (Some file) f none.fault))
-  stops_front (Some file) g h f (inr some) = λ sound stands.
+  stops_prefix (Some file) g h f (inr some) = λ sound stands.
       let s = some.sound in
       let is = began file sound stands s some.came some.begins in
       let rest = came_is file sound stands s some.came some.begins some.few in
@@ -243,7 +240,7 @@ module _ {W : Type 0} (held : W → Option (List ℕ)) (first new : RelayingSink
             let parts : relayed first.target s (some.came ++ rest.0) ≡ (head ++ made) ++ (more.0 ++ tail) =
             ap (λ xs. head ++ (xs ++ tail)) more.1 ∙ ap (λ xs. head ++ xs) (append_assoc made more.0 tail) ∙ sym (append_assoc head made (more.0 ++ tail)) in
             subst (λ xs. AppendsUntil at_first at_last xs f) (sym parts) (until_more at_first at_last (head ++ made) (more.0 ++ tail) f (until_whole at_first at_last (head ++ made) f (outline_calm (Some file) f ends.fault) ends.taken.written)))
-        | inr refuses ↦ refuses.refuses.front (is ∙ sym own) rest.0 long
+        | inr refuses ↦ refuses.refuses.prefix (is ∙ sym own) rest.0 long
       ])
 
   pub stops_counted : (left : Option (List ℕ)) (g h : ℕ) (f : StreamFault) → Stops left g h f → outlet_failures new.outlet.now ≡ outlet_failures first.outlet.now + failed_writes {X = Unit {0}} (Err f)
@@ -261,20 +258,20 @@ module _ {W : Type 0} (held : W → Option (List ℕ)) (first new : RelayingSink
   ]
 
   pub stops_relaying : (left : Option (List ℕ)) (g h : ℕ) (f : StreamFault) → Stops left g h f → RelayFails held left first.target o first.outlet.now new.outlet.now f
-  stops_relaying left g h f stops = record { fault = stops_fault left g h f stops; front = stops_front left g h f stops; failures = stops_counted left g h f stops }
+  stops_relaying left g h f stops = record { fault = stops_fault left g h f stops; prefix = stops_prefix left g h f stops; failures = stops_counted left g h f stops }
 
 -- ---- a file that was taken, and whose outline is p
-module _ {W : Type 0} (held : W → Option (List ℕ)) (first mid : RelayingSink W) (o p : Surroundings) (told : AreStated o) (own : first.sound ≡ o.sound) (also : AreStated p) where
+module _ {W : Type 0} (held : W → Option (List ℕ)) (first mid : RelayingSink W) (o p : Surroundings) (stated : AreStated o) (own : first.sound ≡ o.sound) (also : AreStated p) where
   abbrev begun : Option (List ℕ)
   begun = held (outlet_writer first.outlet.now)
 
-  abbrev behind_sound : Option (List ℕ)
-  behind_sound = held (outlet_writer mid.outlet.now)
+  abbrev after_sound : Option (List ℕ)
+  after_sound = held (outlet_writer mid.outlet.now)
 
   abbrev has : Sound → ℕ → List ℕ → Type 0
   has s done bytes = IsRelaying held first mid s done bytes
 
-  -- what is so of the sink, whatever was read
+  -- what holds of the sink, whatever was read
   pub record IsRelayed : Type 0 where
     pub same : mid.outlet.ghost_name ≡ first.outlet.ghost_name
     pub target_is : mid.target ≡ first.target
@@ -285,24 +282,24 @@ module _ {W : Type 0} (held : W → Option (List ℕ)) (first mid : RelayingSink
   pub is_relayed : {R : Type 0} (left : R → Option (List ℕ)) (i j : Inlet R) → TakesGiven has left i j p → IsRelayed
   is_relayed left i j (read, reads, taken) = record { same = taken.2.same; target_is = taken.2.target; own_is = taken.2.own ∙ own; ready = taken.2.ready.outlet; failures = taken.2.failures }
 
-  -- another outline is one of another file
+  -- a different outline is of a different file
   module _ (left : Option (List ℕ)) (taken : TakesFile has left p) (differs : IsSameAround p o → ⊥) where
-    pub other_stands : IsRelayFault left o FileRefused
-    other_stands = by left taken.1
+    pub other_holds : IsRelayFault left o FileRefused
+    other_holds = by left taken.1
       where
         by : (l : Option (List ℕ)) → IfSome l (λ file. (sound : List ℕ) × IsPlacedIn p file sound × has p.sound p.sound.count sound) → IsRelayFault l o FileRefused
         by None h = tt
-        by (Some file) h = λ around. differs (same_around p o also told file h.0 around.0 h.1 around.1)
+        by (Some file) h = λ around. differs (same_around p o also stated file h.0 around.0 h.1 around.1)
 
-    other_front : RelaysPrefix left first.target o begun behind_sound FileRefused
-    other_front = by left other_stands
+    other_prefix : RelaysPrefix left first.target o begun after_sound FileRefused
+    other_prefix = by left other_holds
       where
-        by : (l : Option (List ℕ)) → IsRelayFault l o FileRefused → RelaysPrefix l first.target o begun behind_sound FileRefused
+        by : (l : Option (List ℕ)) → IsRelayFault l o FileRefused → RelaysPrefix l first.target o begun after_sound FileRefused
         by None h = tt
         by (Some file) h = λ sound stands. absurd (h (sound, stands))
 
     pub other_fails : outlet_failures mid.outlet.now ≡ outlet_failures first.outlet.now → RelayFails held left first.target o first.outlet.now mid.outlet.now FileRefused
-    other_fails failures = record { fault = other_stands; front = other_front; failures = omega (arith, failures) }
+    other_fails failures = record { fault = other_holds; prefix = other_prefix; failures = omega (arith, failures) }
 
   -- the same outline: the tail is written
   module _ (new : Outlet W) (own_is : p.sound ≡ o.sound) (same : IsSameAround p o) where
@@ -316,22 +313,22 @@ module _ {W : Type 0} (held : W → Option (List ℕ)) (first mid : RelayingSink
     whole : (sound : List ℕ) → body sound ++ first.target.tail.now ≡ relayed first.target o.sound sound
     whole sound = append_assoc first.target.head.now (reinterleaved_sound p.sound first.target.interleaving sound) first.target.tail.now ∙ ap (λ (t : Sound). relayed first.target t sound) own_is
 
-    written : (sound : List ℕ) → has p.sound p.sound.count sound → Appends behind_sound ended mid.target.tail.now → Appends begun ended (relayed first.target o.sound sound)
-    written sound is out = subst (Appends begun ended) (ap (λ (t : NewFile). body sound ++ t.tail.now) is.target ∙ whole sound) (Appends-trans begun behind_sound ended (body sound) mid.target.tail.now is.written out)
+    written : (sound : List ℕ) → has p.sound p.sound.count sound → Appends after_sound ended mid.target.tail.now → Appends begun ended (relayed first.target o.sound sound)
+    written sound is out = subst (Appends begun ended) (ap (λ (t : NewFile). body sound ++ t.tail.now) is.target ∙ whole sound) (Appends-trans begun after_sound ended (body sound) mid.target.tail.now is.written out)
 
-    pub file_relayed : (left : Option (List ℕ)) → TakesFile has left p → Appends behind_sound ended mid.target.tail.now → Relays left first.target o begun ended
+    pub file_relayed : (left : Option (List ℕ)) → TakesFile has left p → Appends after_sound ended mid.target.tail.now → Relays left first.target o begun ended
     file_relayed None (taken, h) out = tt
-    file_relayed (Some file) (taken, h) out = (h.0, same_stands o p own_is same file h.0 h.1, written h.0 h.2 out)
+    file_relayed (Some file) (taken, h) out = (h.0, same_holds o p own_is same file h.0 h.1, written h.0 h.2 out)
 
-    pub given_relayed : {R : Type 0} (left : R → Option (List ℕ)) (i j : Inlet R) → TakesGiven has left i j p → Appends behind_sound ended mid.target.tail.now → RelaysGiven left i j first.target o begun ended
-    given_relayed left i j (read, reads, h) out = (read, h.0, reads, same_stands o p own_is same read h.0 h.1, written h.0 h.2 out)
+    pub given_relayed : {R : Type 0} (left : R → Option (List ℕ)) (i j : Inlet R) → TakesGiven has left i j p → Appends after_sound ended mid.target.tail.now → RelaysGiven left i j first.target o begun ended
+    given_relayed left i j (read, reads, h) out = (read, h.0, reads, same_holds o p own_is same read h.0 h.1, written h.0 h.2 out)
 
     -- or a prefix of it
-    pub tail_fails : (left : Option (List ℕ)) → TakesFile has left p → (f : StreamFault) → IsWritingFault f → AppendsPart behind_sound ended mid.target.tail.now → outlet_failures new ≡ outlet_failures first.outlet.now + failed_writes {X = Unit {0}} (Err f)
+    pub tail_fails : (left : Option (List ℕ)) → TakesFile has left p → (f : StreamFault) → IsWritingFault f → AppendsPart after_sound ended mid.target.tail.now → outlet_failures new ≡ outlet_failures first.outlet.now + failed_writes {X = Unit {0}} (Err f)
         → RelayFails held left first.target o first.outlet.now new f
     tail_fails left taken f fault out failures = record {
-      fault = writing_stands left o f fault;
-      front = by left taken.1;
+      fault = writing_holds left o f fault;
+      prefix = by left taken.1;
       failures = failures;
     }
       where
@@ -339,20 +336,20 @@ module _ {W : Type 0} (held : W → Option (List ℕ)) (first mid : RelayingSink
         by None h = tt
         by (Some file) h = λ sound stands.
             let is = h.2 in
-            let here = same_stands o p own_is same file h.0 h.1 in
-            let behind = λ (xs : List ℕ) (t : IsPlacedIn o file xs). t.gap ++ (o.back ++ t.rest) in
+            let here = same_holds o p own_is same file h.0 h.1 in
+            let after = λ (xs : List ℕ) (t : IsPlacedIn o file xs). t.gap ++ (o.back ++ t.rest) in
             let one : h.0 ≡ sound =
-            same_front h.0 sound (behind h.0 here) (behind sound stands)
-            (same_rest o.head o.head (h.0 ++ behind h.0 here) (sound ++ behind sound stands) (sym here.file_is ∙ stands.file_is) refl) (here.sound_long ∙ sym stands.sound_long) in
+            same_prefix h.0 sound (after h.0 here) (after sound stands)
+            (same_rest o.head o.head (h.0 ++ after h.0 here) (sound ++ after sound stands) (sym here.file_is ∙ stands.file_is) refl) (here.sound_long ∙ sym stands.sound_long) in
             let tail : mid.target.tail.now ≡ first.target.tail.now = ap (λ (t : NewFile). t.tail.now) is.target in
-            subst (λ xs. AppendsUntil begun ended (relayed first.target o.sound xs) f) one (subst (λ xs. AppendsUntil begun ended xs f) (whole h.0) (until_on begun behind_sound ended (body h.0) first.target.tail.now f is.written (until_part behind_sound ended first.target.tail.now f (subst (AppendsPart behind_sound ended) tail out))))
+            subst (λ xs. AppendsUntil begun ended (relayed first.target o.sound xs) f) one (subst (λ xs. AppendsUntil begun ended xs f) (whole h.0) (until_on begun after_sound ended (body h.0) first.target.tail.now f is.written (until_part after_sound ended first.target.tail.now f (subst (AppendsPart after_sound ended) tail out))))
 
 -- ---- nothing was read
 pub nothing_relayed : (left : Option (List ℕ)) (target : NewFile) (o : Surroundings) (a : Option (List ℕ)) (f : StreamFault) → f ≢ WriteFailed → RelaysPrefix left target o a a f
 nothing_relayed None target o a f calm = tt
 nothing_relayed (Some file) target o a f calm = λ sound stands. until_nil a (relayed target o.sound sound) f calm
 
--- ---- of an answer all is so
+-- ---- what holds of an answer
 pub each_ok : {P F : Type 0} (n m : ℕ) (r : Result (Unit {0}) StreamFault) → OnOk r P → n ≡ m + failed_writes r → (P → n ≡ m → F) → OnOk r F
 each_ok n m (Ok x) p failures on = on p (omega (arith, failures))
 each_ok n m (Err f) p failures on = tt

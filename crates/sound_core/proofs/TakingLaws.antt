@@ -10,7 +10,7 @@ use Rattle.dsd_bits.specs.Sounds.{IsSound, sound_size}
 use Rattle.interleave_core.proofs.GroupLaws.{size_on}
 use Rattle.sound_core.specs.Outlines.{AreStated, IsOutlineFault, IsPlacedIn, Surroundings, SurroundsFile, SurroundsGiven}
 use Rattle.sound_core.specs.Readers.{IsPassFault, Passes}
-use Rattle.sound_core.specs.Sinks.{EndsInPart, EndsShort, IsFed, IsTakenOf, StopsPart, StopsSound, StopsTaking, TakesFile, TakesGiven, TakesPart, TakesSome}
+use Rattle.sound_core.specs.Sinks.{EndsInPart, EndsShort, IsFed, IsTakenOf, NoneCame, StopsPart, StopsSound, StopsTaking, TakesFile, TakesGiven, TakesPart, TakesSome}
 use Rattle.sound_core.specs.declared.fault.StreamFault.{StreamFault}
 use Rattle.sound_core.specs.declared.fault.StreamFault.TheVariants.{FileRefused, RateNotDivided, TooLarge, ReadFailed, WriteFailed, TurnLimit, Memory}
 use Rattle.sound_core.specs.declared.part.SoundPart.{SoundPart}
@@ -18,6 +18,11 @@ use Rattle.sound_core.proofs.ClosingLaws.{nothing_left}
 use Rattle.sound_core.proofs.KeeperLaws.{no_size}
 use Rattle.sound_core.proofs.OutlineLaws.{left_is, pass_none}
 use Rattle.sound_core.proofs.ReadLaws.{reads_on}
+use Rattle.sound_core.proofs.StatedLaws.{unread_none}
+
+-- a file that is not read at all: its sink is as it was
+pub not_begun : {S : Type 0} (left : Option (List ℕ)) (given : ℕ) (sink : S) → NoneCame left given given sink sink TurnLimit
+not_begun left given sink = record { same = refl; fault = tt; none = λ stops. unread_none left given }
 
 -- ---- what came
 pub fed_none : (s : Sound) → IsSound s → (s.interleaving ≡ Bytes → s.count % 8 ≡ 0) → IsFed s 0 []
@@ -33,7 +38,7 @@ begins_passed left i j n a b passes = by (left (inlet_reader i)) refl
         let ys = left_is left i j passes.read passes.reads xs known in
         (b ++ ys.0, ap (λ zs. a ++ zs) ys.2 ∙ sym (append_assoc a passes.read ys.0) ∙ ap (λ zs. zs ++ ys.0) passes.parts ∙ append_assoc passes.passed b ys.0)
 
--- ---- a part behind what came
+-- ---- a part after what came
 module _ (part : SoundPart) (before : List ℕ) (fed : IsFed part.sound part.done before) where
   abbrev s : Sound
   s = part.sound
@@ -162,7 +167,7 @@ module _ {R S : Type 0} (left : R → Option (List ℕ)) (has : S → S → Soun
 
 -- ---- the whole file
 pub file_taken : (has : Sound → ℕ → List ℕ → Type 0) (left : Option (List ℕ)) (o : Surroundings) (bytes : List ℕ) → AreStated o → ((xs : List ℕ) → left ≡ Some xs → IsPlacedIn o xs bytes) → has o.sound o.sound.count bytes → TakesFile has left o
-file_taken has left o bytes told stands held = (told, by left refl)
+file_taken has left o bytes stated stands held = (stated, by left refl)
   where
     by : (l : Option (List ℕ)) → left ≡ l → IfSome l (IsTakenOf has o)
     by None known = tt
@@ -170,8 +175,8 @@ file_taken has left o bytes told stands held = (told, by left refl)
 
 -- it is some sound in the surroundings, whatever the sink has of that
 pub file_around : (has : Sound → ℕ → List ℕ → Type 0) (left : Option (List ℕ)) (o : Surroundings) → TakesFile has left o → SurroundsFile left o
-file_around has None o (told, h) = (told, tt)
-file_around has (Some xs) o (told, h) = (told, (h.0, h.1))
+file_around has None o (stated, h) = (stated, tt)
+file_around has (Some xs) o (stated, h) = (stated, (h.0, h.1))
 
 pub given_around : {R : Type 0} (has : Sound → ℕ → List ℕ → Type 0) (left : R → Option (List ℕ)) (i j : Inlet R) (o : Surroundings) → TakesGiven has left i j o → SurroundsGiven left i j o
 given_around has left i j o (read, reads, h) = (read, reads, (h.0, h.1))

@@ -1,4 +1,4 @@
--- The files that are read: what they hold, and what their first bytes say. The front is these first bytes.
+-- The files that are read: what they hold, and what their first bytes say. The prefix is these first bytes.
 use Rattle.std.specs.Prelude.{◌≡◌, ℕ, ◌+◌, ◌%◌, ◌≤◌, ◌⊎◌, List, ◌++◌, length, Option, IfSome, ⊤}
 use Rattle.dsd_bits.specs.declared.blocks.BitOrder.{BitOrder}
 use Rattle.dsd_bits.specs.declared.interleaving.Interleaving.{Interleaving}
@@ -7,9 +7,9 @@ use Rattle.dsd_bits.specs.declared.sound.Sound.{Sound}
 use Rattle.dsd_bits.specs.Contents.{Content}
 use Rattle.dsd_bits.specs.Sounds.{HasSound, IsSound}
 use Rattle.dsdiff_core.specs.Files.{IsDsdiff}
-use Rattle.dsdiff_core.specs.Fronts as dsdiff
+use Rattle.dsdiff_core.specs.Headers as dsdiff
 use Rattle.dsf_core.specs.Files.{IsDsf}
-use Rattle.dsf_core.specs.Fronts as dsf
+use Rattle.dsf_core.specs.Headers as dsf
 use Rattle.sound_core.specs.declared.fault.StreamFault.{StreamFault}
 use Rattle.sound_core.specs.declared.fault.StreamFault.TheVariants.{FileRefused, ReadFailed, TurnLimit, Memory}
 
@@ -18,41 +18,41 @@ abbrev pub HoldsRecording : List ℕ → Content → Type 0
 HoldsRecording file r = IsDsdiff file r ⊎ ((order : BitOrder) × IsDsf file r order)
 
 -- the file holds a recording
-abbrev pub IsAccepted : List ℕ → Type 0
-IsAccepted file = (r : Content) × HoldsRecording file r
+abbrev pub HoldsSomeRecording : List ℕ → Type 0
+HoldsSomeRecording file = (r : Content) × HoldsRecording file r
 
 -- the file holds no recording
 abbrev pub IsRefused : List ℕ → Type 0
 IsRefused file = (r : Content) → HoldsRecording file r → ⊥
 
--- the front of a DSDIFF file, or of a DSF file if the sound is in blocks, describes this sound in its format's words
+-- the prefix of a DSDIFF file, or of a DSF file if the sound is in blocks, describes this sound in its format's words
 abbrev pub StatesSoundAs : Interleaving → List ℕ → Sound → Type 0
-StatesSoundAs Bytes front s = dsdiff.StatesSound front s
-StatesSoundAs (Blocks order) front s = dsf.StatesSound front s
+StatesSoundAs Bytes prefix s = dsdiff.StatesSound prefix s
+StatesSoundAs (Blocks order) prefix s = dsf.StatesSound prefix s
 
 -- the head of a file leads to this sound, and ends where that starts
-pub record EndsAt (head : List ℕ) (s : Sound) : Type 0 where
+pub record IsHeaderOf (head : List ℕ) (s : Sound) : Type 0 where
   pub leads : StatesSoundAs s.interleaving head s
   pub start : s.start ≡ length head
 
--- the front of a file describes this sound, which starts in it or at its end, and every recording of a file that begins
--- like this has it
-pub record StatesSound (front : List ℕ) (s : Sound) : Type 0 where
-  pub leads : StatesSoundAs s.interleaving front s
+-- the prefix of a file describes this sound, which starts in it or at its end, and every recording of a file that
+-- begins like this has it
+pub record LeadsToSound (prefix : List ℕ) (s : Sound) : Type 0 where
+  pub leads : StatesSoundAs s.interleaving prefix s
   pub is_sound : IsSound s
   pub whole : s.interleaving ≡ Bytes → s.count % 8 ≡ 0
-  pub within : s.start ≤ length front
-  pub has : (rest : List ℕ) (r : Content) → HoldsRecording (front ++ rest) r → HasSound (front ++ rest) r s
+  pub within : s.start ≤ length prefix
+  pub has : (rest : List ℕ) (r : Content) → HoldsRecording (prefix ++ rest) r → HasSound (prefix ++ rest) r s
 
 -- bytes that come before the sound of every accepted file that begins with them
 abbrev pub IsBeforeSound : List ℕ → Type 0
-IsBeforeSound front = (rest : List ℕ) (s : Sound) → IsAccepted (front ++ rest) → StatesSound (front ++ rest) s → length front ≤ s.start
+IsBeforeSound prefix = (rest : List ℕ) (s : Sound) → HoldsSomeRecording (prefix ++ rest) → LeadsToSound (prefix ++ rest) s → length prefix ≤ s.start
 
 -- no byte of the sound was read
 abbrev pub GivesNone : Option (List ℕ) → ℕ → ℕ → Type 0
-GivesNone left_old given_old given_new = IfSome left_old (λ file. (s : Sound) → IsAccepted file → StatesSound file s → given_new ≤ given_old + s.start)
+GivesNone left_old given_old given_new = IfSome left_old (λ file. (s : Sound) → HoldsSomeRecording file → LeadsToSound file s → given_new ≤ given_old + s.start)
 
--- a fault of reading the front of a file: the reader's file holds no recording, or a fault of reading
+-- a fault of reading the prefix of a file: the reader's file holds no recording, or a fault of reading
 abbrev pub IsHeaderFault : Option (List ℕ) → StreamFault → Type 0
 IsHeaderFault left_old FileRefused = IfSome left_old IsRefused
 IsHeaderFault left_old ReadFailed = ⊤

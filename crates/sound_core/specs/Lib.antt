@@ -2,9 +2,10 @@ pub mod Faults
 pub mod Files
 pub mod Reads
 pub mod Readers
-pub mod Fronts
+pub mod Headers
 pub mod Outlines
 pub mod Naming
+pub mod Causes
 pub mod Sinks
 pub mod Stretches
 pub mod Keepers

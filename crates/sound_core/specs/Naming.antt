@@ -1,5 +1,5 @@
 -- The first fault of a file that was read.
-use Rattle.std.specs.Prelude.{◌≡◌, ℕ, Bool, true, false, List, ◌++◌, length, Option, IfSome, Err, ⊤}
+use Rattle.std.specs.Prelude.{◌≡◌, ◌≢◌, ℕ, Bool, true, false, List, ◌++◌, length, Option, IfSome, Err, ⊤}
 use Rattle.chunk_core.specs.Inlets.{inlet_reader}
 use Rattle.chunk_core.specs.declared.inlet.Inlet.{Inlet}
 use Rattle.dsd_bits.specs.declared.sound.Sound.{Sound}
@@ -8,6 +8,8 @@ use Rattle.dsdiff_core.specs.declared.fault.DsdiffFault.TheVariants as dsdiffs
 use Rattle.form_core.specs.Opening.{opened_of}
 use Rattle.form_core.specs.declared.fault.ReadFault.{ReadFault}
 use Rattle.sound_core.specs.Reads.{Reads}
+use Rattle.sound_core.specs.declared.cause.Cause.{Cause}
+use Rattle.sound_core.specs.declared.cause.Cause.TheVariants as causes
 use Rattle.sound_core.specs.declared.fault.StreamFault.{StreamFault}
 use Rattle.sound_core.specs.declared.fault.StreamFault.TheVariants.{FileRefused}
 use Rattle.sound_core.specs.declared.fault.Unread.{Unread}
@@ -24,13 +26,9 @@ pub record NamesFault {R : Type 0} (left : R → Option (List ℕ)) (old new : I
   pub reads : Reads left old new read
   pub sure : IsSure (left (inlet_reader new)) read fault
 
--- where a file is refused, and its first fault is known, it is this one
-abbrev pub IsNamed : {R : Type 0} → (R → Option (List ℕ)) → Inlet R → Inlet R → Option ReadFault → StreamFault → Type 0
-IsNamed left old new cause f = f ≡ FileRefused → IfSome cause (NamesFault left old new)
-
--- the same of a file that begins with a head and a sound, of which some bytes were read behind it
-abbrev pub IsRestNamed : {R : Type 0} → (R → Option (List ℕ)) → Inlet R → Inlet R → Sound → List ℕ → List ℕ → Option ReadFault → StreamFault → Type 0
-IsRestNamed left old new s head back cause f = f ≡ FileRefused → IfSome cause (λ fault. (read : List ℕ) × Reads left old new read
+-- where a file that begins with a head and a sound is refused, its cause is its first fault, by what was read behind it
+abbrev pub IsRestNamed : {R : Type 0} → (R → Option (List ℕ)) → Inlet R → Inlet R → Sound → List ℕ → List ℕ → Cause → StreamFault → Type 0
+IsRestNamed left old new s head back cause f = f ≡ FileRefused → (fault : ReadFault) × (cause ≡ causes.Fault fault) × ((read : List ℕ) × Reads left old new read
     × ((sound : List ℕ) → length sound ≡ s.size → IsSure (left (inlet_reader new)) (head ++ (sound ++ (back ++ read))) fault))
 
 -- a fault without its cause
@@ -39,9 +37,14 @@ plain (answers.Refused e) = FileRefused
 plain (answers.Stream f) = f
 
 -- the first fault of a file that is refused for it has this property
-abbrev pub IfRefused : Unread → (ReadFault → Type 0) → Type 0
-IfRefused (answers.Refused e) P = P e
-IfRefused (answers.Stream f) P = ⊤
+abbrev pub IfRefusedAs : Unread → (ReadFault → Type 0) → Type 0
+IfRefusedAs (answers.Refused e) P = P e
+IfRefusedAs (answers.Stream f) P = ⊤
+
+-- a refusal comes with the first fault
+abbrev pub IsExact : Unread → Type 0
+IsExact (answers.Refused e) = ⊤
+IsExact (answers.Stream f) = f ≢ FileRefused
 
 -- the fault is want of memory
 abbrev pub is_memory : DsdiffFault → Bool

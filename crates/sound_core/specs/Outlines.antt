@@ -9,14 +9,14 @@ use Rattle.dsd_bits.specs.declared.sound.Sound.{Sound}
 use Rattle.dsd_bits.specs.Contents.{Content}
 use Rattle.dsd_bits.specs.Sounds.{IsSound, sound_channels}
 use Rattle.dsdiff_core.specs.Files.{IsDsdiff}
-use Rattle.dsdiff_core.specs.Fronts.{left_after}
+use Rattle.dsdiff_core.specs.Headers.{left_after}
 use Rattle.dsf_core.specs.Fields.{stated_tag}
 use Rattle.dsf_core.specs.Files.{IsDsf}
-use Rattle.sound_core.specs.Files.{IsRefused, StatesSound}
+use Rattle.sound_core.specs.Files.{IsRefused, LeadsToSound}
 use Rattle.sound_core.specs.Reads.{Reads}
 use Rattle.sound_core.specs.declared.fault.StreamFault.{StreamFault}
 use Rattle.sound_core.specs.declared.fault.StreamFault.TheVariants.{FileRefused, ReadFailed, TurnLimit, Memory}
-use Rattle.sound_core.specs.declared.outline.Behind.{Behind}
+use Rattle.sound_core.specs.declared.outline.AfterSound.{AfterSound}
 use Rattle.sound_core.specs.declared.outline.Outline.{Outline}
 
 -- the bytes around a sound, and what they say
@@ -59,19 +59,21 @@ pub record IsPlacedIn (o : Surroundings) (file sound : List ℕ) : Type 0 where
   pub gap_long : length gap ≡ o.gap
   pub ended : o.ends ≡ true → rest ≡ []
 
--- what is kept of the bytes behind the sound of a file: what a DSDIFF form has left there, or all of them where they are fewer, and then the file ends; the tag of a DSF file, which ends with it
-abbrev pub KeepsBehind : Interleaving → Surroundings → List ℕ → Type 0
-KeepsBehind Bytes o file = (o.gap ≡ 0) × (o.back ≡ take (left_after o.head o.sound.size) (drop (o.sound.start + o.sound.size) file)) × (o.ends ≡ nat_lt (length (drop (o.sound.start + o.sound.size) file)) (left_after o.head o.sound.size))
-KeepsBehind (Blocks order) o file = (o.back ≡ stated_tag file) × (o.ends ≡ true)
+-- what is kept of the bytes behind the sound of a file: what a DSDIFF form has left there, or all of them where they
+-- are fewer, and then the file ends; the tag of a DSF file, which ends with it
+abbrev pub KeepsAfter : Interleaving → Surroundings → List ℕ → Type 0
+KeepsAfter Bytes o file = (o.gap ≡ 0) × (o.back ≡ take (left_after o.head o.sound.size) (drop (o.sound.start + o.sound.size) file)) × (o.ends ≡ nat_lt (length (drop (o.sound.start + o.sound.size) file)) (left_after o.head o.sound.size))
+KeepsAfter (Blocks order) o file = (o.back ≡ stated_tag file) × (o.ends ≡ true)
 
--- what surroundings tell: every file that is some sound in them has that kept behind it, and holds their recording, with the channels of that sound
+-- what surroundings tell: every file that is some sound in them has that kept behind it, and holds their recording,
+-- with the channels of that sound
 pub record AreStated (o : Surroundings) : Type 0 where
-  pub tells : StatesSound o.head o.sound
+  pub states : LeadsToSound o.head o.sound
   pub start : o.sound.start ≡ length o.head
   pub is_sound : IsSound o.sound
   pub whole : o.sound.interleaving ≡ Bytes → o.sound.count % 8 ≡ 0
   pub silent : o.recording.channels ≡ replicate o.sound.channels []
-  pub keeps : (file sound : List ℕ) → IsPlacedIn o file sound → KeepsBehind o.sound.interleaving o file
+  pub keeps : (file sound : List ℕ) → IsPlacedIn o file sound → KeepsAfter o.sound.interleaving o file
   pub holds : (file sound : List ℕ) → IsPlacedIn o file sound → HoldsIn o.sound.interleaving file (with_sound o.recording o.sound sound)
 
 -- the file is some sound in the surroundings
@@ -91,6 +93,13 @@ pub record ReadsTag {R : Type 0} (left : R → Option (List ℕ)) (old new : Inl
   pub none : place ≡ 0 → back_new ≡ []
   pub at_place : place ≢ 0 → stop + gap ≡ place
 
+-- the tag would come before the sound's end, or after that of the file, all of which was read
+pub record StopsAtTag {R : Type 0} (left : R → Option (List ℕ)) (old new : Inlet R) (place stop : ℕ) (back : List ℕ) : Type 0 where
+  pub read : List ℕ
+  pub reads : Reads left old new read
+  pub some : place ≢ 0
+  pub how : (place < stop) ⊎ ((stop + length (back ++ read) < place) × IsAtEnd (left (inlet_reader new)))
+
 -- a fault of this: the tag would come before the sound's end or after the file's, or a fault of reading
 abbrev pub IsTagFault : Option (List ℕ) → ℕ → ℕ → List ℕ → StreamFault → Type 0
 IsTagFault left_old place stop back FileRefused = IfSome left_old (λ left. (place ≢ 0) × ((place < stop) ⊎ (stop + length (back ++ left) < place)))
@@ -100,7 +109,7 @@ IsTagFault left_old place stop back Memory = ⊤
 IsTagFault left_old place stop back _ = ⊥
 
 -- the surroundings of a sound with this head and these bytes after it
-abbrev pub with_ends : Sound → List ℕ → List ℕ → Behind → Surroundings
+abbrev pub with_ends : Sound → List ℕ → List ℕ → AfterSound → Surroundings
 with_ends s head back b = record { sound = s; head = head; gap = b.gap; back = back; ends = b.ends; recording = b.recording }
 
 -- after a head and a sound, and some bytes that were read before, the rest of a file was read as far as it matters: its
@@ -108,7 +117,7 @@ with_ends s head back b = record { sound = s; head = head; gap = b.gap; back = b
 pub record Surrounds {R : Type 0} (left : R → Option (List ℕ)) (old new : Inlet R) (back : List ℕ) (o : Surroundings) : Type 0 where
   pub read : List ℕ
   pub reads : Reads left old new read
-  pub told : AreStated o
+  pub stated : AreStated o
   pub given : (sound : List ℕ) → length sound ≡ o.sound.size → IsPlacedIn o (o.head ++ (sound ++ (back ++ read))) sound
   pub stands : (sound rest : List ℕ) → length sound ≡ o.sound.size → left (inlet_reader new) ≡ Some rest → IsPlacedIn o (o.head ++ (sound ++ (back ++ (read ++ rest)))) sound
 

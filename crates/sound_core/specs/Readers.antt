@@ -1,13 +1,30 @@
 -- A reader of a file: what holds of it, and how far it goes.
-use Rattle.std.specs.Prelude.{◌≡◌, ℕ, ◌+◌, ◌-◌, ◌<◌, ◌≤◌, ◌^◌, List, [], ◌++◌, length, take, Option, IfSome, Result, IsErrOf, ⊤}
+use Rattle.std.specs.Prelude.{◌≡◌, ℕ, ◌+◌, ◌-◌, ◌<◌, ◌≤◌, ◌^◌, ◌⊎◌, List, [], ◌++◌, length, take, Option, IfSome, Result, Err, IsErrOf, ⊤}
 use Rattle.std.specs.Io.KnownBytes.{IsAtEnd}
 use Rattle.chunk_core.specs.Inlets.{inlet_failures, inlet_given, inlet_reader, inlet_reads}
+use Rattle.chunk_core.specs.Outlets.{outlet_failures}
 use Rattle.chunk_core.specs.declared.inlet.Inlet.{Inlet}
+use Rattle.chunk_core.specs.declared.outlet.Outlet.{Outlet}
 use Rattle.sound_core.specs.Faults.{failed_reads}
 use Rattle.sound_core.specs.Reads.{HasBudget, Reads}
 use Rattle.sound_core.specs.declared.fault.StreamFault.{StreamFault}
 use Rattle.sound_core.specs.declared.fault.StreamFault.TheVariants.{FileRefused, ReadFailed, TurnLimit, Memory}
 use Rattle.sound_core.specs.declared.reader.SoundReader.{SoundReader}
+
+-- what is read of a file can be counted: there were fewer than 2^63 reads and bytes before, and fewer failures than can
+-- be counted
+pub record CanCount {R : Type 0} (inlet : Inlet R) : Type 0 where
+  pub reads : inlet_reads inlet < 2 ^ 63
+  pub given : inlet_given inlet < 2 ^ 63
+  pub failures : inlet_failures inlet < 2 ^ 64 - 1
+
+-- one more failure can be counted
+abbrev pub CanFail : {W : Type 0} → Outlet W → Type 0
+CanFail outlet = outlet_failures outlet < 2 ^ 64 - 1
+
+-- why a file is read no further: there were 2^40 reads, or what is read could not be counted
+abbrev pub RunsOut : {R : Type 0} → Inlet R → Inlet R → Type 0
+RunsOut old new = (CanCount old → ⊥) ⊎ (inlet_reads new ≡ inlet_reads old + 2 ^ 40)
 
 -- a reader that may read on: one more failure can be counted, no counter reaches its end, and it has a block to read
 -- into
@@ -34,13 +51,17 @@ pub record Counts {R X : Type 0} (old new : SoundReader R) (r : Result X StreamF
   pub turns : IsErrOf r TurnLimit → inlet_reads new.inlet.now ≡ old.limit
   pub most : inlet_reads new.inlet.now ≤ old.limit
 
+-- the same for a fault, whatever else could have been returned
+abbrev pub CountsFault : {R : Type 0} → SoundReader R → SoundReader R → StreamFault → Type 0
+CountsFault old new f = Counts {X = Unit {0}} old new (Err f)
+
 -- one read to the places from `filled` up to `size` of a block returned n bytes, none only at the end
 pub record PullsTo {R : Type 0} (left : R → Option (List ℕ)) (old new : Inlet R) (filled size : ℕ) (block_old block_new : List ℕ) (n : ℕ) : Type 0 where
   pub read : List ℕ
   pub reads : Reads left old new read
   pub number : n ≡ length read
   pub few : filled + n ≤ size
-  pub front : take (filled + n) block_new ≡ take filled block_old ++ read
+  pub prefix : take (filled + n) block_new ≡ take filled block_old ++ read
   pub end : n ≡ 0 → IsAtEnd (left (inlet_reader new))
 
 -- n bytes were passed: the first of the buffered bytes and those that were read; the others are buffered

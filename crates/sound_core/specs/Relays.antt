@@ -35,9 +35,10 @@ RelaysGiven left old new target o held_old held_new = (read : List ℕ) × (soun
 
 -- bytes, if they are known, grew by a prefix of these, and after a failed write not by all of them
 abbrev pub AppendsUntil : Option (List ℕ) → Option (List ℕ) → List ℕ → StreamFault → Type 0
-AppendsUntil held_old held_new all fault = (front : List ℕ) × (back : List ℕ) × (all ≡ front ++ back) × (fault ≡ WriteFailed → 0 < length back) × Appends held_old held_new front
+AppendsUntil held_old held_new all fault = (prefix : List ℕ) × (back : List ℕ) × (all ≡ prefix ++ back) × (fault ≡ WriteFailed → 0 < length back) × Appends held_old held_new prefix
 
--- whatever sound in the outline the file is, a prefix of what is made of it was written, and after a failed write not all of it
+-- whatever sound in the outline the file is, a prefix of what is made of it was written, and after a failed write not
+-- all of it
 abbrev pub RelaysPrefix : Option (List ℕ) → NewFile → Surroundings → Option (List ℕ) → Option (List ℕ) → StreamFault → Type 0
 RelaysPrefix left target o held_old held_new fault = IfSome left (λ file. (sound : List ℕ) → IsPlacedIn o file sound → AppendsUntil held_old held_new (relayed target o.sound sound) fault)
 
@@ -53,16 +54,17 @@ IsRelayFault left o _ = ⊥
 -- ---- what relays a sound while its file is read
 
 -- it may begin: one more failure can be counted, and the sound ends with whole bytes where it is written in frames
-pub record IsReady {W : Type 0} (k : RelayingSink W) : Type 0 where
+pub record MayBegin {W : Type 0} (k : RelayingSink W) : Type 0 where
   pub outlet : outlet_failures k.outlet.now < 2 ^ 64 - 1
   pub whole : k.target.interleaving ≡ Bytes → k.sound.count % 8 ≡ 0
 
--- after these bytes of its sound, those of so many bits of each channel, the head was written, and they, interleaved otherwise
+-- after these bytes of its sound, those of so many bits of each channel, the head was written, and they, interleaved
+-- otherwise
 pub record IsRelaying {W : Type 0} (held : W → Option (List ℕ)) (first now : RelayingSink W) (s : Sound) (done : ℕ) (bytes : List ℕ) : Type 0 where
   pub same : now.outlet.ghost_name ≡ first.outlet.ghost_name
   pub target : now.target ≡ first.target
   pub own : s ≡ first.sound
-  pub ready : IsReady first
+  pub ready : MayBegin first
   pub written : Appends (held (outlet_writer first.outlet.now)) (held (outlet_writer now.outlet.now)) (first.target.head.now ++ reinterleaved s.interleaving first.target.interleaving s.channels done bytes)
   pub failures : outlet_failures now.outlet.now ≡ outlet_failures first.outlet.now
 
@@ -73,11 +75,12 @@ IsOwnFault own s WriteFailed = ⊤
 IsOwnFault own s Memory = ⊤
 IsOwnFault own s _ = ⊥
 
--- it refused a sound that begins with these bytes, for a fault of its own; of what is made of its sound a prefix was written, and after a failed write not all of it
+-- it refused a sound that begins with these bytes, for a fault of its own; of what is made of its sound a prefix was
+-- written, and after a failed write not all of it
 pub record RefusesRelaying {W : Type 0} (held : W → Option (List ℕ)) (first now : RelayingSink W) (s : Sound) (came : List ℕ) (f : StreamFault) : Type 0 where
   pub same : now.outlet.ghost_name ≡ first.outlet.ghost_name
   pub fault : IsOwnFault first.sound s f
-  pub front : s ≡ first.sound → (rest : List ℕ) → length (came ++ rest) ≡ s.size → AppendsUntil (held (outlet_writer first.outlet.now)) (held (outlet_writer now.outlet.now)) (relayed first.target s (came ++ rest)) f
+  pub prefix : s ≡ first.sound → (rest : List ℕ) → length (came ++ rest) ≡ s.size → AppendsUntil (held (outlet_writer first.outlet.now)) (held (outlet_writer now.outlet.now)) (relayed first.target s (came ++ rest)) f
   pub failures : outlet_failures now.outlet.now ≡ outlet_failures first.outlet.now + failed_writes {X = Unit {0}} (Err f)
 
 -- ---- stages
@@ -92,5 +95,5 @@ pub record IsSameAround (o p : Surroundings) : Type 0 where
 -- why a file is not relayed to its end: a fault stands, and of what is made of the file a prefix was written
 pub record RelayFails {W : Type 0} (held : W → Option (List ℕ)) (left : Option (List ℕ)) (target : NewFile) (o : Surroundings) (old new : Outlet W) (f : StreamFault) : Type 0 where
   pub fault : IsRelayFault left o f
-  pub front : RelaysPrefix left target o (held (outlet_writer old)) (held (outlet_writer new)) f
+  pub prefix : RelaysPrefix left target o (held (outlet_writer old)) (held (outlet_writer new)) f
   pub failures : outlet_failures new ≡ outlet_failures old + failed_writes {X = Unit {0}} (Err f)

@@ -6,7 +6,7 @@ use Rattle.dsd_bits.specs.declared.interleaving.Interleaving.TheVariants.{Bytes}
 use Rattle.dsd_bits.specs.declared.sound.Sound.{Sound}
 use Rattle.dsd_bits.specs.Sounds.{IsSound, sound_size}
 use Rattle.sound_core.specs.Faults.{IsSinkFault, StopsReading}
-use Rattle.sound_core.specs.Files.{GivesNone, StatesSound}
+use Rattle.sound_core.specs.Files.{GivesNone, LeadsToSound}
 use Rattle.sound_core.specs.Outlines.{AreStated, IsOutlineFault, IsPlacedIn, Surroundings}
 use Rattle.sound_core.specs.Readers.{FallsShort, IsPassFault, Passes}
 use Rattle.sound_core.specs.Reads.{Reads}
@@ -44,12 +44,12 @@ TakesGiven has left old new o = (read : List ℕ) × Reads left old new read × 
 -- ---- what is so where it was not
 -- the file describes this sound, whose bytes begin with these
 pub record BeginsSound (s : Sound) (came file : List ℕ) : Type 0 where
-  pub front : List ℕ
+  pub prefix : List ℕ
   pub rest : List ℕ
-  pub file_is : file ≡ front ++ rest
-  pub tells : StatesSound front s
+  pub file_is : file ≡ prefix ++ rest
+  pub states : LeadsToSound prefix s
   pub more : List ℕ
-  pub sound_is : drop s.start front ++ rest ≡ came ++ more
+  pub sound_is : drop s.start prefix ++ rest ≡ came ++ more
 
 -- no byte of the sound came to the sink, which is unchanged
 pub record NoneCame {S : Type 0} (left : Option (List ℕ)) (given_old given_new : ℕ) (old new : S) (f : StreamFault) : Type 0 where
@@ -78,6 +78,10 @@ pub record SomeCame {S : Type 0} (left : Option (List ℕ)) (given_old given_new
   pub few : length came ≤ sound.size
   pub begins : IfSome left (BeginsSound sound came)
   pub how : ReadingEnds left (given_new - given_old) has old new sound came f ⊎ SinkRefuses refused old new sound came f
+
+-- the sink refused the file for a sound that begins with some bytes
+abbrev pub RefusesFile : {S : Type 0} → (S → S → Sound → List ℕ → StreamFault → Type 0) → S → S → Type 0
+RefusesFile refused old new = (s : Sound) × (came : List ℕ) × refused old new s came FileRefused
 
 -- why a file is not taken to its end, and what the sink is then
 abbrev pub StopsTaking : {S : Type 0} → (S → S → Sound → ℕ → List ℕ → Type 0) → (S → S → Sound → List ℕ → StreamFault → Type 0) → Option (List ℕ) → ℕ → ℕ → S → S → StreamFault → Type 0

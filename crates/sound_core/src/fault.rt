@@ -21,7 +21,8 @@ pub enum StreamFault {
     ReadFailed,
     /// A write failed, or accepted nothing.
     WriteFailed,
-    /// There were `2^40` reads, and the file had not ended.
+    /// There were `2^40` reads, and the file had not ended; or there had been so many reads, bytes or failures before that
+    /// more of them could not be counted.
     TurnLimit,
     /// Out of memory.
     Memory,
@@ -46,6 +47,6 @@ impl From<AllocError> for StreamFault {
 pub enum Unread {
     /// It holds no recording, for this fault, the first one.
     Refused(ReadFault),
-    /// It could not be read, or holds no recording for a fault that one reading doesn't tell.
+    /// It could not be read.
     Stream(StreamFault),
 }

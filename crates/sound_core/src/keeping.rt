@@ -1,12 +1,13 @@
 //! Stretches of a file's sound, kept while the file is read once.
 
 ghost use Rattle.std.specs.Prelude.{◌≡◌, ◌+◌, ◌-◌, ◌<◌, ◌≤◌, ◌^◌, IfErr, IfOk};
-ghost use Rattle.chunk_core.specs.Inlets.{inlet_failures, inlet_given, inlet_reader, inlet_reads};
+ghost use Rattle.chunk_core.specs.Inlets.{inlet_failures, inlet_reader, inlet_reads};
 ghost use Rattle.sound_core.specs.Faults.{failed_reads};
 ghost use Rattle.sound_core.specs.Keeping.{KeepsFile, KeepsGiven, stretches_in};
 ghost use Rattle.form_core.specs.Steps.{map_err};
-ghost use Rattle.sound_core.specs.Naming.{IfRefused, NamesFault, plain};
+ghost use Rattle.sound_core.specs.Naming.{IfRefusedAs, IsExact, NamesFault, plain};
 ghost use Rattle.sound_core.specs.Outlines.{IsOutlineFault, around_of};
+ghost use Rattle.sound_core.specs.Readers.{RunsOut};
 
 use crate::fault::{StreamFault, Unread};
 use crate::keeper::Keeper;
@@ -30,17 +31,12 @@ pub struct Kept {
 /// ranges. They may be in any order and overlap. Of a range that extends past the sound's end, what there is of it is
 /// kept. Besides that, at most three blocks of 65,536 bytes of the sound are held at a time, and the channels of one.
 ///
-/// At entry the inlet must have counted fewer than `2^63` reads and bytes.
-///
 /// Refusals: those of [`crate::read_outline`].
 pub fn read_stretches<R: Read>(
     alloc: Global,
     inlet: &mut Inlet<R>,
     ranges: &[BitRange],
 ) -> Result<Kept, Unread>
-    requires inlet_ready { inlet_failures inlet.old < 2 ^ 64 - 1 }
-    requires reads_low { inlet_reads inlet.old < 2 ^ 63 }
-    requires given_low { inlet_given inlet.old < 2 ^ 63 }
     // The reader's file is the outline with some sound, and these are the stretches of its channels.
     ensures ok { IfOk result (λ k. KeepsFile (R.remaining (inlet_reader inlet.old)) (around_of k.outline) ranges.now
         (stretches_in k)) }
@@ -48,13 +44,13 @@ pub fn read_stretches<R: Read>(
     ensures any_reader { IfOk result (λ k. KeepsGiven R.remaining inlet.old inlet.new (around_of k.outline) ranges.now
         (stretches_in k)) }
     // The first fault of what was read, and of the reader's file.
-    ensures named { IfErr result (λ u. IfRefused u (NamesFault R.remaining inlet.old inlet.new)) }
+    ensures named { IfErr result (λ u. IfRefusedAs u (NamesFault R.remaining inlet.old inlet.new)) }
+    ensures exact { IfErr result IsExact }
     ensures fault { IfErr result (λ u. IsOutlineFault (R.remaining (inlet_reader inlet.old)) (plain u)) }
     ensures read_failed { inlet_failures inlet.new ≡ inlet_failures inlet.old + failed_reads (map_err plain result) }
     // Whatever is returned, there were at most 2^40 reads.
     ensures reads { inlet_reads inlet.new ≤ inlet_reads inlet.old + 2 ^ 40 }
-    ensures turn_limit { IfErr result (λ u. plain u ≡ StreamFault.TurnLimit
-        → inlet_reads inlet.new ≡ inlet_reads inlet.old + 2 ^ 40) }
+    ensures turn_limit { IfErr result (λ u. plain u ≡ StreamFault.TurnLimit → RunsOut inlet.old inlet.new) }
 {
     let mut keeper = Keeper::new(alloc, ranges);
     match read_named(alloc, inlet, &mut keeper) {

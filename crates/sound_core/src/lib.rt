@@ -10,29 +10,33 @@
 //! [`read_outline`] keeps nothing (`nothing.rt`).
 //!
 //! [`relay`] reads a file whose outline is known once more, and hands its sound on in another interleaving
-//! (`relaying.rt`): it writes a head, then the sound, by a sink (`relaying_sink.rt`), then a tail. Of the sound it holds
-//! whole groups of the channels' blocks, at most 65,536 bytes, and what is made of them. A file whose outline is another
-//! one now is refused; which bytes its sound has isn't compared with anything.
+//! (`relaying.rt`): it writes a head, then the sound, by a sink (`relaying_sink.rt`), then a tail. Of the sound it
+//! holds whole groups of the channels' blocks, at most 65,536 bytes, and what is made of them. A file whose outline is
+//! another one now is refused; which bytes its sound has isn't compared with anything.
+//!
+//! [`read_prefix`] reads a file only until it describes its sound, and returns these first bytes (`prefix.rt`). What
+//! was read so is put before what is left, to read the file from its start.
 //!
 //! A reader has the inlet, a block to read into, the limit of its reads and the buffered bytes (`reader.rt`). It is
 //! read up to the sound (`header.rt`), and then after it (`outline.rt`). A sink that writes uses [`put`].
 //!
 //! The words of the contracts:
 //!
-//! - `HoldsRecording file r` says that the file is a DSDIFF or a DSF file that holds this recording. `StatesSound front
-//!   s` says that the first bytes of a file describe this sound (`specs/Files.antt`), in the words of its format: the
-//!   chunks that lead up to it, or the fields. A file that holds a recording describes exactly one
+//! - `HoldsRecording file r` says that the file is a DSDIFF or a DSF file that holds this recording. `LeadsToSound
+//!   prefix s` says that the first bytes of a file describe this sound (`specs/Files.antt`), in the words of its
+//!   format: the chunks that lead up to it, or the fields. A file that holds a recording describes exactly one
 //!   ([`accepted_files_state_one_sound`]).
 //! - `Reads left old new bytes` says that an inlet returned these bytes and counted them (`specs/Reads.antt`),
-//!   `IsReading reader` that a reader may read on (`specs/Readers.antt`).
+//!   `IsReading reader` that a reader may read on; `CanCount inlet` that what is read of a file can be counted, and
+//!   `RunsOut old new` why a file is read no further (`specs/Readers.antt`).
 //! - `IsPlacedIn around file sound` says that a file is these sound bytes in their surroundings, `AreStated around`
 //!   that every such file holds what the surroundings describe, with the channels of its sound, and `SurroundsFile left
 //!   around` that both hold for a reader's file (`specs/Outlines.antt`).
 //! - `IsFed s done bytes` says that these bytes of a sound came, which are `done` bits of each channel. `TakesFile has
 //!   left around` says that a reader's file is some sound in these surroundings, and that `has` holds of its bytes.
 //!   `StopsTaking` says why it isn't taken to its end, and what the sink is then (`specs/Sinks.antt`).
-//! - `KeepsFile left around ranges kept` says that a reader's file is some sound in these surroundings, and which stretches
-//!   of its channels were kept (`specs/Keeping.antt`).
+//! - `KeepsFile left around ranges kept` says that a reader's file is some sound in these surroundings, and which
+//!   stretches of its channels were kept (`specs/Keeping.antt`).
 //!
 //! - `relayed target outline sound` are the bytes that are written of a sound: head, sound, tail. `Relays left target
 //!   outline old new` says that the reader's file is some sound in the outline, and that what was written is made of
@@ -51,14 +55,17 @@
 //! ```
 #![tactic(auto)]
 
+mod cause;
 mod fault;
 mod header;
 mod keeper;
 mod keeping;
 mod laws;
+mod naming;
 mod nothing;
 mod outline;
 mod part;
+mod prefix;
 mod reader;
 mod relaying;
 mod relaying_sink;
@@ -72,6 +79,8 @@ pub use keeping::{Kept, read_stretches};
 pub use laws::accepted_files_state_one_sound;
 pub use outline::{Outline, read_outline};
 pub use part::SoundPart;
+pub use prefix::{Front, read_prefix};
+pub use reader::can_fail;
 pub use relaying::{NewFile, relay};
 pub use sink::SoundSink;
 pub use taking::read_into;

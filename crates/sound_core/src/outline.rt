@@ -4,12 +4,13 @@ ghost use Rattle.std.specs.Prelude.{◌≡◌, ◌+◌, ◌-◌, ◌%◌, ◌<�
 ghost use Rattle.chunk_core.specs.Inlets.{inlet_failures, inlet_given, inlet_reader, inlet_reads};
 ghost use Rattle.dsd_bits.specs.Sounds.{IsSound, has_blocks};
 ghost use Rattle.sound_core.specs.Faults.{failed_reads};
-ghost use Rattle.sound_core.specs.Files.{EndsAt};
+ghost use Rattle.sound_core.specs.Files.{IsHeaderOf};
 ghost use Rattle.form_core.specs.Steps.{map_err};
-ghost use Rattle.sound_core.specs.Naming.{IfRefused, IsRestNamed, NamesFault, is_memory, plain};
-ghost use Rattle.sound_core.specs.Outlines.{IsOutlineFault, IsRestFault, IsTagFault, ReadsTag, Surrounds, SurroundsFile, SurroundsGiven, around_of, with_ends};
-ghost use Rattle.sound_core.specs.Readers.{Counts, IsReading, IsSame};
+ghost use Rattle.sound_core.specs.Naming.{IfRefusedAs, IsExact, IsRestNamed, NamesFault, is_memory, plain};
+ghost use Rattle.sound_core.specs.Outlines.{IsOutlineFault, IsRestFault, IsTagFault, ReadsTag, StopsAtTag, Surrounds, SurroundsFile, SurroundsGiven, around_of, with_ends};
+ghost use Rattle.sound_core.specs.Readers.{Counts, IsReading, IsSame, RunsOut};
 
+use crate::cause::Cause;
 use crate::fault::{StreamFault, Unread};
 use crate::nothing::Nothing;
 use crate::reader::SoundReader;
@@ -17,6 +18,7 @@ use crate::taking::read_named;
 use chunk_core::Inlet;
 use dsd_bits::{Interleaving, Recording, Sound};
 use dsdiff_core::DsdiffFault;
+use dsf_core::DsfFault;
 use form_core::ReadFault;
 use std::alloc::Global;
 use std::io::Read;
@@ -45,27 +47,23 @@ pub struct Outline {
 /// before the sound are held, and those that are kept after it. Of the sound one block of 65,536 bytes is held at a
 /// time.
 ///
-/// At entry the inlet must have counted fewer than `2^63` reads and bytes.
-///
-/// Refusals: `Refused` with the fault that [`form_core::read_any`] answers, for bytes that are neither a DSDIFF nor a DSF
-/// file that holds a recording; `Stream` with `FileRefused` for those of them whose first fault one reading doesn't tell,
-/// `ReadFailed`, `TurnLimit` after `2^40` reads (whatever is answered there were no more), or `Memory`.
+/// Refusals: `Refused` with the fault that [`form_core::read_any`] answers, for bytes that are neither a DSDIFF nor a
+/// DSF file that holds a recording; `Stream` with `ReadFailed`, `TurnLimit` after `2^40` reads (whatever is answered
+/// there were no more), or at once if the inlet had counted `2^63` reads or bytes, or as many failures as it can, or
+/// `Memory`.
 pub fn read_outline<R: Read>(alloc: Global, inlet: &mut Inlet<R>) -> Result<Outline, Unread>
-    requires inlet_ready { inlet_failures inlet.old < 2 ^ 64 - 1 }
-    requires reads_low { inlet_reads inlet.old < 2 ^ 63 }
-    requires given_low { inlet_given inlet.old < 2 ^ 63 }
     // The reader's file is the outline with some sound, and every such file holds what the outline describes.
     ensures ok { IfOk result (λ o. SurroundsFile (R.remaining (inlet_reader inlet.old)) (around_of o)) }
     // The same of the bytes that were read, as many as were counted, if the reader's bytes aren't known.
     ensures any_reader { IfOk result (λ o. SurroundsGiven R.remaining inlet.old inlet.new (around_of o)) }
     // The first fault of what was read, and of the reader's file.
-    ensures named { IfErr result (λ u. IfRefused u (NamesFault R.remaining inlet.old inlet.new)) }
+    ensures named { IfErr result (λ u. IfRefusedAs u (NamesFault R.remaining inlet.old inlet.new)) }
+    ensures exact { IfErr result IsExact }
     ensures fault { IfErr result (λ u. IsOutlineFault (R.remaining (inlet_reader inlet.old)) (plain u)) }
     ensures read_failed { inlet_failures inlet.new ≡ inlet_failures inlet.old + failed_reads (map_err plain result) }
     // Whatever is returned, there were at most 2^40 reads.
     ensures reads { inlet_reads inlet.new ≤ inlet_reads inlet.old + 2 ^ 40 }
-    ensures turn_limit { IfErr result (λ u. plain u ≡ StreamFault.TurnLimit
-        → inlet_reads inlet.new ≡ inlet_reads inlet.old + 2 ^ 40) }
+    ensures turn_limit { IfErr result (λ u. plain u ≡ StreamFault.TurnLimit → RunsOut inlet.old inlet.new) }
 {
     read_named(alloc, inlet, &mut Nothing {})
 }
@@ -80,7 +78,7 @@ pub(crate) fn read_rest<R: Read>(
     head: Vec<u8>,
     reader: &mut SoundReader<'_, R>,
 ) -> Result<Outline, StreamFault>
-    requires at_sound { EndsAt head.items sound }
+    requires at_sound { IsHeaderOf head.items sound }
     requires sound { IsSound sound }
     requires whole { sound.interleaving ≡ Interleaving.Bytes → sound.count % 8 ≡ 0 }
     requires reading { IsReading reader.old }
@@ -95,21 +93,21 @@ pub(crate) fn read_rest<R: Read>(
     ensures fault { IfErr result (IsRestFault
         (R.remaining (inlet_reader reader.old.inlet.now)) sound head.items reader.old.ahead.now.items) }
 {
-    let behind = read_behind(alloc, &sound, &head, reader)?;
+    let after = read_after_sound(alloc, &sound, &head, reader)?;
     let back = reader.take_ahead(alloc);
     Ok(Outline {
         sound,
         head,
-        gap: behind.gap,
+        gap: after.gap,
         back,
-        ends: behind.ends,
-        recording: behind.recording,
+        ends: after.ends,
+        recording: after.recording,
     })
 }
 
 // What was found after a sound.
 #[derive(Drop)]
-struct Behind {
+struct AfterSound {
     // How many bytes are between the sound and what was kept.
     gap: u64,
     // Whether the file ends after what was kept.
@@ -119,13 +117,13 @@ struct Behind {
 }
 
 // Reads the rest of a file that begins with this head. Then what is kept after the sound is buffered.
-fn read_behind<R: Read>(
+fn read_after_sound<R: Read>(
     alloc: Global,
     sound: &Sound,
     head: &[u8],
     reader: &mut SoundReader<'_, R>,
-) -> Result<Behind, StreamFault>
-    requires at_sound { EndsAt head.now sound.now }
+) -> Result<AfterSound, StreamFault>
+    requires at_sound { IsHeaderOf head.now sound.now }
     requires sound { IsSound sound.now }
     requires whole { sound.now.interleaving ≡ Interleaving.Bytes → sound.now.count % 8 ≡ 0 }
     requires reading { IsReading reader.old }
@@ -141,20 +139,20 @@ fn read_behind<R: Read>(
         (R.remaining (inlet_reader reader.old.inlet.now)) sound.now head.now reader.old.ahead.now.items) }
 {
     if sound.interleaving.has_blocks() {
-        behind_blocks(alloc, sound, head, reader)
+        after_blocks(alloc, sound, head, reader)
     } else {
-        behind_frames(alloc, sound, head, reader)
+        after_frames(alloc, sound, head, reader)
     }
 }
 
 // The same for a DSF file: its tag is kept.
-fn behind_blocks<R: Read>(
+fn after_blocks<R: Read>(
     alloc: Global,
     sound: &Sound,
     head: &[u8],
     reader: &mut SoundReader<'_, R>,
-) -> Result<Behind, StreamFault>
-    requires at_sound { EndsAt head.now sound.now }
+) -> Result<AfterSound, StreamFault>
+    requires at_sound { IsHeaderOf head.now sound.now }
     requires interleaving { has_blocks sound.now.interleaving ≡ true }
     requires sound { IsSound sound.now }
     requires reading { IsReading reader.old }
@@ -173,17 +171,23 @@ fn behind_blocks<R: Read>(
     let gap = match read_tag(dsf_core::tag_at(head), stop, reader) {
         Ok(gap) => gap,
         Err(fault) => {
-            reader.cause = None;
+            reader.cause = Cause::Fault(ReadFault::Dsf(DsfFault::BadPointer));
             return Err(fault);
         }
     };
     let total = reader.inlet.given() - reader.given;
     let tag = Vec::from_slice(alloc, reader.ahead.as_slice())?;
-    let Some(recording) = dsf_core::outline(alloc, head, total, tag)? else {
-        reader.cause = None;
-        return Err(StreamFault::FileRefused);
+    let recording = match dsf_core::outline(alloc, head, total, tag) {
+        Ok(recording) => recording,
+        Err(fault) => match fault {
+            DsfFault::Memory => return Err(StreamFault::Memory),
+            fault => {
+                reader.cause = Cause::Fault(ReadFault::from(fault));
+                return Err(StreamFault::FileRefused);
+            }
+        },
     };
-    Ok(Behind {
+    Ok(AfterSound {
         gap,
         ends: true,
         recording,
@@ -191,13 +195,13 @@ fn behind_blocks<R: Read>(
 }
 
 // The same for a DSDIFF form: all of it is kept.
-fn behind_frames<R: Read>(
+fn after_frames<R: Read>(
     alloc: Global,
     sound: &Sound,
     head: &[u8],
     reader: &mut SoundReader<'_, R>,
-) -> Result<Behind, StreamFault>
-    requires at_sound { EndsAt head.now sound.now }
+) -> Result<AfterSound, StreamFault>
+    requires at_sound { IsHeaderOf head.now sound.now }
     requires interleaving { sound.now.interleaving ≡ Interleaving.Bytes }
     requires sound { IsSound sound.now }
     requires whole { sound.now.count % 8 ≡ 0 }
@@ -211,7 +215,7 @@ fn behind_frames<R: Read>(
     ensures fault { IfErr result (IsRestFault
         (R.remaining (inlet_reader reader.old.inlet.now)) sound.now head.now reader.old.ahead.now.items) }
 {
-    let wanted = dsdiff_core::bytes_behind(head);
+    let wanted = dsdiff_core::bytes_after_sound(head);
     reader.read_until(wanted)?;
     let ends = (reader.ahead.len() as u64) < wanted;
     let kept = reader.ahead.len().min(wanted as usize);
@@ -220,11 +224,11 @@ fn behind_frames<R: Read>(
         Ok(recording) => recording,
         Err(fault) if is_memory(fault) => return Err(StreamFault::Memory),
         Err(fault) => {
-            reader.cause = Some(ReadFault::from(fault));
+            reader.cause = Cause::Fault(ReadFault::from(fault));
             return Err(StreamFault::FileRefused);
         }
     };
-    Ok(Behind {
+    Ok(AfterSound {
         gap: 0,
         ends,
         recording,
@@ -253,6 +257,8 @@ fn read_tag<R: Read>(
     ensures same { IsSame reader.old reader.new }
     ensures ok { IfOk result (ReadsTag R.remaining reader.old.inlet.now reader.new.inlet.now place stop
         reader.old.ahead.now.items reader.new.ahead.now.items) }
+    ensures off { IfErr result (λ f. f ≡ StreamFault.FileRefused → StopsAtTag R.remaining reader.old.inlet.now
+        reader.new.inlet.now place stop reader.old.ahead.now.items) }
     ensures counts { Counts reader.old reader.new result }
     ensures fault { IfErr result (IsTagFault
         (R.remaining (inlet_reader reader.old.inlet.now)) place stop reader.old.ahead.now.items) }
@@ -266,7 +272,9 @@ fn read_tag<R: Read>(
         return Err(StreamFault::FileRefused);
     }
     let gap = place - stop;
-    reader.pass(gap)?;
+    if !reader.pass(gap)? {
+        return Err(StreamFault::FileRefused);
+    }
     reader.read_all()?;
     Ok(gap)
 }

@@ -1,22 +1,39 @@
 //! A file that is read a block at a time, and in a limited number of reads.
 
-ghost use Rattle.std.specs.Prelude.{◌≡◌, ◌+◌, ◌-◌, ◌<◌, ◌≤◌, ◌^◌, ◌++◌, [], List, ℕ, IfErr, IfOk, MatchResult, OnErr, OnOk, drop, false, length, take, true};
+ghost use Rattle.std.specs.Prelude.{◌≡◌, ◌↔◌, ◌+◌, ◌-◌, ◌<◌, ◌≤◌, ◌^◌, ◌++◌, [], IsTrue, List, ℕ, IfErr, IfOk, MatchResult, OnErr, OnOk, drop, false, length, take, true};
 ghost use Rattle.std.specs.Io.KnownBytes.{IsAtEnd};
 ghost use Rattle.std.specs.Io.Iter.{u64_saturate};
 ghost use Rattle.chunk_core.specs.Inlets.{PullsAfter, inlet_failures, inlet_given, inlet_reader, inlet_reads};
 ghost use Rattle.sound_core.specs.Faults.{IsReadingFault, StopsReading};
-ghost use Rattle.sound_core.specs.Readers.{Counts, FallsShort, Fills, IsAtStart, IsPassFault, IsReading, IsSame, Passes, PullsTo};
+ghost use Rattle.sound_core.specs.Readers.{CanCount, CanFail, Counts, FallsShort, Fills, IsAtStart, IsReading, IsSame, Passes, PullsTo};
 ghost use Rattle.sound_core.specs.Reads.{Reads, ReadsAll, ReadsToEnd, ReadsUntil};
 
+use crate::cause::Cause;
 use crate::fault::StreamFault;
-use chunk_core::{Device, Inlet, MOST_READS};
-use form_core::ReadFault;
+use chunk_core::{Device, Inlet, MOST_READS, Outlet};
 use std::alloc::{AllocError, Global};
-use std::io::Read;
+use std::io::{Read, Write};
 use std::mem;
 
 // How many bytes one read may return.
 const BLOCK: usize = 65_536;
+
+// How many reads and bytes an inlet may have counted.
+const MOST_COUNTED: u64 = 0x8000_0000_0000_0000;
+
+/// Whether what is read of a file can be counted.
+pub(crate) fn can_count<R: Read>(inlet: &Inlet<R>) -> bool
+    ensures { IsTrue result ↔ CanCount inlet.now }
+{
+    inlet.reads() < MOST_COUNTED && inlet.given() < MOST_COUNTED && inlet.failures() < u64::MAX
+}
+
+/// Whether one more failure can be counted.
+pub fn can_fail<W: Write>(outlet: &Outlet<W>) -> bool
+    ensures { IsTrue result ↔ CanFail outlet.now }
+{
+    outlet.failures() < u64::MAX
+}
 
 /// A block of 65,536 zeros, for bytes to be read into.
 ///
@@ -31,10 +48,10 @@ pub(crate) fn new_block(alloc: Global) -> Result<Vec<u8>, AllocError>
 fn put_first(block: &mut Vec<u8>, bytes: &[u8])
     requires { length bytes.now ≤ length block.old.items }
     ensures long { length block.new.items ≡ length block.old.items }
-    ensures front { take (length bytes.now) block.new.items ≡ bytes.now }
+    ensures prefix { take (length bytes.now) block.new.items ≡ bytes.now }
 {
-    let (front, _) = block.as_mut_slice().split_at_mut(bytes.len());
-    front.copy_from_slice(bytes);
+    let (prefix, _) = block.as_mut_slice().split_at_mut(bytes.len());
+    prefix.copy_from_slice(bytes);
 }
 
 // One read to the places from `filled` up to `size` of a block.
@@ -59,8 +76,8 @@ fn pull_part<R: Read>(
         (λ n. inlet_given inlet.new ≡ u64_saturate (inlet_given inlet.old + n))
         (λ _. inlet_given inlet.new ≡ inlet_given inlet.old) }
 {
-    let (front, _) = block.as_mut_slice().split_at_mut(size);
-    inlet.pull_after(front, filled)
+    let (prefix, _) = block.as_mut_slice().split_at_mut(size);
+    inlet.pull_after(prefix, filled)
 }
 
 /// A file that is read from an inlet. The inlet is borrowed, and so is the memory that is read into.
@@ -76,23 +93,20 @@ pub(crate) struct SoundReader<'a, R> {
     pub(crate) block: &'a mut Vec<u8>,
     /// The buffered bytes: those that were read, and not yet taken or passed.
     pub(crate) ahead: &'a mut Vec<u8>,
-    /// The first fault of a file that was refused, where it is known.
-    pub(crate) cause: Option<ReadFault>,
+    /// What is known of the first fault of a file that was refused.
+    pub(crate) cause: Cause,
 }
 
 impl<'a, R: Read> SoundReader<'a, R> {
     /// A reader before the first byte of a file, of at most `2^40` reads.
     ///
-    /// The inlet has counted fewer than `2^63` reads and bytes, `block` is one of [`new_block`], and `bits_preceding`
-    /// is empty.
+    /// What is read can be counted, `block` is one of [`new_block`], and `ahead` is empty.
     pub(crate) fn new(
         inlet: &'a mut Inlet<R>,
         block: &'a mut Vec<u8>,
         ahead: &'a mut Vec<u8>,
     ) -> SoundReader<'a, R>
-        requires ready { inlet_failures inlet.old < 2 ^ 64 - 1 }
-        requires reads_low { inlet_reads inlet.old < 2 ^ 63 }
-        requires given_low { inlet_given inlet.old < 2 ^ 63 }
+        requires counts { CanCount inlet.old }
         requires size { length block.old.items ≡ 65536 }
         requires empty { ahead.old.items ≡ [] }
         ensures reference { result.inlet.ghost_name ≡ inlet.entry.ghost_name }
@@ -108,7 +122,7 @@ impl<'a, R: Read> SoundReader<'a, R> {
             limit,
             block,
             ahead,
-            cause: None,
+            cause: Cause::Unknown,
         }
     }
 
@@ -139,8 +153,8 @@ impl<'a, R: Read> SoundReader<'a, R> {
         }
     }
 
-    /// Makes the next so many bytes the first of the block: those ahead, and then what is read. It answers whether there
-    /// are so many: if not, the file is at its end.
+    /// Makes the next so many bytes the first of the block: those ahead, and then what is read. It answers whether
+    /// there are so many: if not, the file is at its end.
     ///
     /// Refusals: those of [`SoundReader::pull_after`].
     pub(crate) fn fill(&mut self, size: usize) -> Result<bool, StreamFault>
@@ -279,8 +293,8 @@ impl<'a, R: Read> SoundReader<'a, R> {
         ensures rest { OnOk result (self.new.ahead.now.items ≡ drop size self.old.ahead.now.items) }
         ensures fault { IfErr result (λ f. f ≡ StreamFault.Memory) }
     {
-        let (_, behind) = self.ahead.split_at(size);
-        let rest = Vec::from_slice(alloc, behind)?;
+        let (_, after) = self.ahead.split_at(size);
+        let rest = Vec::from_slice(alloc, after)?;
         self.ahead.truncate(size);
         Ok(mem::replace(&mut *self.ahead, rest))
     }
@@ -310,28 +324,30 @@ impl<'a, R: Read> SoundReader<'a, R> {
         self.ahead.truncate(left);
     }
 
-    /// Passes `count` bytes: first those buffered, then what is read. None of them is kept.
+    /// Passes `wanted` bytes: first those buffered, then what is read. None of them is kept. It answers whether there
+    /// are so many: if not, the file is at its end.
     ///
-    /// Refusals: `FileRefused` if the file ends before; those of [`SoundReader::read_more`].
-    pub(crate) fn pass(&mut self, wanted: u64) -> Result<(), StreamFault>
+    /// Refusals: those of [`SoundReader::read_more`].
+    pub(crate) fn pass(&mut self, wanted: u64) -> Result<bool, StreamFault>
         requires reading { IsReading self.old }
         ensures same { IsSame self.old self.new }
         ensures reading { OnOk result (IsReading self.new) }
-        ensures ok { OnOk result (Passes R.remaining self.old.inlet.now self.new.inlet.now wanted
-            self.old.ahead.now.items self.new.ahead.now.items) }
+        ensures ok { IfOk result (λ whole. whole ≡ true → Passes R.remaining self.old.inlet.now self.new.inlet.now
+            wanted self.old.ahead.now.items self.new.ahead.now.items) }
+        ensures short { IfOk result (λ whole. whole ≡ false → FallsShort R.remaining self.old.inlet.now
+            self.new.inlet.now wanted self.old.ahead.now.items) }
         ensures counts { Counts self.old self.new result }
-        ensures fault { IfErr result (IsPassFault
-            (R.remaining (inlet_reader self.old.inlet.now)) wanted self.old.ahead.now.items) }
+        ensures fault { IfErr result IsReadingFault }
     {
         let mut left = wanted;
         while (self.ahead.len() as u64) < left {
             left -= self.ahead.len() as u64;
             self.ahead.clear();
             if self.read_more()? == 0 {
-                return Err(StreamFault::FileRefused);
+                return Ok(false);
             }
         }
         self.drop_ahead(left as usize);
-        Ok(())
+        Ok(true)
     }
 }

@@ -26,9 +26,9 @@ pub(crate) struct RelayingSink<'a, 't, W> {
 }
 
 impl<'a, 't, W: Write> SoundSink for RelayingSink<'a, 't, W> {
-    ghost use Rattle.sound_core.specs.Relays.{IsReady, IsRelaying, RefusesRelaying};
+    ghost use Rattle.sound_core.specs.Relays.{IsRelaying, MayBegin, RefusesRelaying};
 
-    ghost ready = { λ k. IsReady k };
+    ghost ready = { λ k. MayBegin k };
 
     ghost has = { λ first k s done bytes. IsRelaying W.contents first k s done bytes };
 

@@ -1,22 +1,25 @@
 //! A sound taken by a sink while its file is read once.
 
-ghost use Rattle.std.specs.Prelude.{◌≡◌, ◌+◌, ◌-◌, ◌<◌, ◌≤◌, ◌^◌, ◌++◌, [], ℕ, List, Err, IfErr, IfOk, Some, IsErrOf, OnOk, false, length, true};
+ghost use Rattle.std.specs.Prelude.{◌≡◌, ◌+◌, ◌-◌, ◌<◌, ◌≤◌, ◌^◌, ◌++◌, [], ℕ, List, Err, IfErr, IfOk, IsErrOf, OnOk, false, length, true};
 ghost use Rattle.chunk_core.specs.Inlets.{inlet_failures, inlet_given, inlet_reader, inlet_reads};
 ghost use Rattle.form_core.specs.Opening.{opened_of};
 ghost use Rattle.form_core.specs.Steps.{map_err};
 ghost use Rattle.form_core.specs.declared.fault.ReadFault.{ReadFault};
+ghost use Rattle.sound_core.specs.Causes.{HasFront, IsNamed};
 ghost use Rattle.sound_core.specs.Faults.{failed_reads};
-ghost use Rattle.sound_core.specs.Files.{EndsAt};
-ghost use Rattle.sound_core.specs.Naming.{IfRefused, IsNamed, NamesFault, plain};
+ghost use Rattle.sound_core.specs.Files.{IsHeaderOf};
+ghost use Rattle.sound_core.specs.Naming.{IfRefusedAs, NamesFault, plain};
 ghost use Rattle.sound_core.specs.Outlines.{around_of};
-ghost use Rattle.sound_core.specs.Readers.{Counts, IsAtStart, IsReading, IsSame};
-ghost use Rattle.sound_core.specs.Sinks.{EndsInPart, EndsShort, IsFed, StopsPart, StopsSound, StopsTaking, TakesFile, TakesGiven, TakesPart, TakesSome};
+ghost use Rattle.sound_core.specs.Readers.{Counts, IsAtStart, IsReading, IsSame, RunsOut};
+ghost use Rattle.sound_core.specs.Sinks.{EndsInPart, EndsShort, IsFed, RefusesFile, RefusesPart, StopsPart, StopsSound, StopsTaking, TakesFile, TakesGiven, TakesPart, TakesSome};
 
+use crate::cause::Cause;
 use crate::fault::{StreamFault, Unread};
 use crate::header::read_header;
+use crate::naming::unread;
 use crate::outline::{Outline, read_rest};
 use crate::part::SoundPart;
-use crate::reader::{SoundReader, new_block};
+use crate::reader::{SoundReader, can_count, new_block};
 use crate::sink::SoundSink;
 use chunk_core::Inlet;
 use dsd_bits::Sound;
@@ -30,18 +33,16 @@ use std::io::Read;
 /// are held, and those that are kept after it. Of the sound one block of 65,536 bytes is held at a time, and what the
 /// sink holds.
 ///
-/// At entry the inlet must have counted fewer than `2^63` reads and bytes, and the sink must be able to begin.
+/// At entry the sink must be able to begin.
 ///
 /// Refusals: `FileRefused` if the bytes are neither a DSDIFF nor a DSF file that holds a recording; `ReadFailed`;
-/// `TurnLimit` after `2^40` reads (there are never more, whatever is returned); `Memory`; those of the sink.
+/// `TurnLimit` after `2^40` reads (there are never more, whatever is returned), or at once if the inlet had counted
+/// `2^63` reads or bytes, or as many failures as it can; `Memory`; those of the sink.
 pub fn read_into<R: Read, S: SoundSink>(
     alloc: Global,
     inlet: &mut Inlet<R>,
     sink: &mut S,
 ) -> Result<Outline, StreamFault>
-    requires inlet_ready { inlet_failures inlet.old < 2 ^ 64 - 1 }
-    requires reads_low { inlet_reads inlet.old < 2 ^ 63 }
-    requires given_low { inlet_given inlet.old < 2 ^ 63 }
     requires sink_ready { S.ready sink.old }
     // The reader's file is the outline with some sound, and the sink has its bytes.
     ensures ok { IfOk result (λ o. TakesFile
@@ -55,37 +56,41 @@ pub fn read_into<R: Read, S: SoundSink>(
     ensures read_failed { inlet_failures inlet.new ≡ inlet_failures inlet.old + failed_reads result }
     // Whatever is returned, there were at most 2^40 reads.
     ensures reads { inlet_reads inlet.new ≤ inlet_reads inlet.old + 2 ^ 40 }
-    ensures turn_limit { IsErrOf result StreamFault.TurnLimit → inlet_reads inlet.new ≡ inlet_reads inlet.old + 2 ^ 40 }
+    ensures turn_limit { IsErrOf result StreamFault.TurnLimit → RunsOut inlet.old inlet.new }
 {
-    match read_named(alloc, inlet, sink) {
-        Ok(outline) => Ok(outline),
-        Err(Unread::Refused(_)) => Err(StreamFault::FileRefused),
-        Err(Unread::Stream(fault)) => Err(fault),
+    if !can_count(inlet) {
+        return Err(StreamFault::TurnLimit);
     }
+    let mut block = new_block(alloc)?;
+    let mut ahead = Vec::new(alloc);
+    let mut reader = SoundReader::new(inlet, &mut block, &mut ahead);
+    take_file(alloc, sink, &mut reader)
 }
 
-/// The same, and the first fault of a file that holds no recording, where one reading tells it.
+/// The same, and the first fault of a file that holds no recording. What follows is read as far as that takes.
 pub(crate) fn read_named<R: Read, S: SoundSink>(
     alloc: Global,
     inlet: &mut Inlet<R>,
     sink: &mut S,
 ) -> Result<Outline, Unread>
-    requires inlet_ready { inlet_failures inlet.old < 2 ^ 64 - 1 }
-    requires reads_low { inlet_reads inlet.old < 2 ^ 63 }
-    requires given_low { inlet_given inlet.old < 2 ^ 63 }
     requires sink_ready { S.ready sink.old }
     ensures ok { IfOk result (λ o. TakesFile
         (S.has sink.old sink.new) (R.remaining (inlet_reader inlet.old)) (around_of o)) }
     ensures any_reader { IfOk result (λ o. TakesGiven
         (S.has sink.old sink.new) R.remaining inlet.old inlet.new (around_of o)) }
-    ensures named { IfErr result (λ u. IfRefused u (NamesFault R.remaining inlet.old inlet.new)) }
+    ensures named { IfErr result (λ u. IfRefusedAs u (NamesFault R.remaining inlet.old inlet.new)) }
+    // None is missing, but where the sink refused the file.
+    ensures exact { IfErr result (λ u. u ≡ Unread.Stream StreamFault.FileRefused
+        → RefusesFile S.refused sink.old sink.new) }
     ensures fault { IfErr result (λ u. StopsTaking S.has S.refused (R.remaining (inlet_reader inlet.old))
         (inlet_given inlet.old) (inlet_given inlet.new) sink.old sink.new (plain u)) }
     ensures read_failed { inlet_failures inlet.new ≡ inlet_failures inlet.old + failed_reads (map_err plain result) }
     ensures reads { inlet_reads inlet.new ≤ inlet_reads inlet.old + 2 ^ 40 }
-    ensures turn_limit { IfErr result (λ u. plain u ≡ StreamFault.TurnLimit
-        → inlet_reads inlet.new ≡ inlet_reads inlet.old + 2 ^ 40) }
+    ensures turn_limit { IfErr result (λ u. plain u ≡ StreamFault.TurnLimit → RunsOut inlet.old inlet.new) }
 {
+    if !can_count(inlet) {
+        return Err(Unread::Stream(StreamFault::TurnLimit));
+    }
     let Ok(mut block) = new_block(alloc) else {
         return Err(Unread::Stream(StreamFault::Memory));
     };
@@ -93,18 +98,7 @@ pub(crate) fn read_named<R: Read, S: SoundSink>(
     let mut reader = SoundReader::new(inlet, &mut block, &mut ahead);
     match take_file(alloc, sink, &mut reader) {
         Ok(outline) => Ok(outline),
-        Err(fault) => Err(named(fault, reader.cause)),
-    }
-}
-
-// The fault of a file that isn't taken, by what is known of it.
-fn named(fault: StreamFault, cause: Option<ReadFault>) -> Unread
-    ensures plain { plain result ≡ fault }
-    ensures named { IfRefused result (λ e. (fault ≡ StreamFault.FileRefused) × (cause ≡ Some e)) }
-{
-    match (fault, cause) {
-        (StreamFault::FileRefused, Some(cause)) => Unread::Refused(cause),
-        _ => Unread::Stream(fault),
+        Err(fault) => Err(unread(alloc, fault, &mut reader)),
     }
 }
 
@@ -121,7 +115,9 @@ fn take_file<R: Read, S: SoundSink>(
         (S.has sink.old sink.new) (R.remaining (inlet_reader reader.old.inlet.now)) (around_of o)) }
     ensures any_reader { IfOk result (λ o. TakesGiven
         (S.has sink.old sink.new) R.remaining reader.old.inlet.now reader.new.inlet.now (around_of o)) }
-    ensures named { IfErr result (IsNamed R.remaining reader.old.inlet.now reader.new.inlet.now reader.new.cause) }
+    ensures named { IfErr result (IsNamed (RefusesFile S.refused sink.old sink.new) R.remaining
+        reader.old.inlet.now reader.new) }
+    ensures prefix { IfErr result (λ f. f ≡ StreamFault.FileRefused → HasFront reader.new.cause → sink.new ≡ sink.old) }
     ensures counts { Counts reader.old reader.new result }
     ensures fault { IfErr result (StopsTaking S.has S.refused (R.remaining (inlet_reader reader.old.inlet.now))
         (inlet_given reader.old.inlet.now) (inlet_given reader.new.inlet.now) sink.old sink.new) }
@@ -132,11 +128,11 @@ fn take_file<R: Read, S: SoundSink>(
         Ok(true) => {}
         Ok(false) => {
             let total = reader.inlet.given() - reader.given;
-            reader.cause = Some(cut_in(&sound, &head, total));
+            reader.cause = Cause::Fault(cut_in(&sound, &head, total));
             return Err(StreamFault::FileRefused);
         }
         Err(fault) => {
-            reader.cause = None;
+            reader.cause = Cause::Unknown;
             return Err(fault);
         }
     }
@@ -145,7 +141,7 @@ fn take_file<R: Read, S: SoundSink>(
 
 // The first fault of a file of so many bytes that begins with this head, and ends inside its sound.
 fn cut_in(sound: &Sound, head: &[u8], total: u64) -> ReadFault
-    requires { EndsAt head.now sound.now }
+    requires { IsHeaderOf head.now sound.now }
     ensures { (rest : List ℕ) → length (head.now ++ rest) ≡ total → total < length head.now + sound.now.size
         → opened_of (head.now ++ rest) ≡ Err result }
 {
@@ -155,8 +151,8 @@ fn cut_in(sound: &Sound, head: &[u8], total: u64) -> ReadFault
     ReadFault::from(dsdiff_core::cut_fault(head, total))
 }
 
-// Reads a sound to its end, and has a sink take it, a few groups of blocks at a time. It answers whether the file has all
-// of it.
+// Reads a sound to its end, and has a sink take it, a few groups of blocks at a time. It answers whether the file has
+// all of it.
 fn take_sound<R: Read, S: SoundSink>(
     alloc: Global,
     sound: Sound,
@@ -172,6 +168,7 @@ fn take_sound<R: Read, S: SoundSink>(
         reader.new.inlet.now sink.old sink.new sound.count reader.old.ahead.now.items reader.new.ahead.now.items) }
     ensures short { IfOk result (λ whole. whole ≡ false → EndsShort R.remaining S.has S.refused sound reader.old.inlet.now
         reader.new.inlet.now sink.old sink.new reader.old.ahead.now.items) }
+    ensures own { IfErr result (λ f. f ≡ StreamFault.FileRefused → RefusesFile S.refused sink.old sink.new) }
     ensures counts { Counts reader.old reader.new result }
     ensures fault { IfErr result (StopsSound R.remaining S.has S.refused sound reader.old.inlet.now reader.new.inlet.now
         sink.old sink.new reader.old.ahead.now.items) }
@@ -206,6 +203,9 @@ fn take_part<R: Read, S: SoundSink>(
         reader.new.inlet.now sink.old sink.new part reader.old.ahead.now.items reader.new.ahead.now.items) }
     ensures short { IfOk result (λ full. full ≡ false → EndsInPart R.remaining reader.old.inlet.now
         reader.new.inlet.now sink.old sink.new part reader.old.ahead.now.items) }
+    ensures own { IfErr result (λ f. f ≡ StreamFault.FileRefused → RefusesPart R.remaining S.has S.refused
+        reader.old.inlet.now reader.new.inlet.now sink.old sink.new part reader.old.ahead.now.items
+        reader.new.ahead.now.items f) }
     ensures counts { Counts reader.old reader.new result }
     ensures fault { IfErr result (StopsPart R.remaining S.has S.refused reader.old.inlet.now reader.new.inlet.now
         sink.old sink.new part reader.old.ahead.now.items reader.new.ahead.now.items) }

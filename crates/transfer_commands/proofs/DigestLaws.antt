@@ -21,7 +21,7 @@ use Rattle.sound_core.specs.declared.part.SoundPart.{SoundPart}
 use Rattle.transfer_commands.specs.Digesting.{AreUpdated, HoldEach, HoldNothing}
 use Rattle.transfer_commands.specs.Summing.{digests_of}
 
--- ---- packed bits behind whole bytes
+-- ---- packed bits after whole bytes
 module _ (xs ys : List Bool) where
   worth_left : (i w : ℕ) → i < length xs → bit_worth (xs ++ ys) i w ≡ bit_worth xs i w
   worth_left i w h = ap (λ b. cond b w 0) (get_or_append_left xs ys false i h)
@@ -51,12 +51,12 @@ module _ (xs ys : List Bool) where
     pub packed_append : packed (xs ++ ys) ≡ packed xs ++ packed ys
     packed_append =
         let size : length (packed (xs ++ ys)) ≡ length (packed xs ++ packed ys) = omega (arith, whole, packed_long (xs ++ ys), packed_long xs, packed_long ys, length-append xs ys, length-append (packed xs) (packed ys)) in
-        let front : length (packed xs) ≡ length xs / 8 = omega (arith, whole, packed_long xs) in
+        let prefix : length (packed xs) ≡ length xs / 8 = omega (arith, whole, packed_long xs) in
         same_number_lists (packed (xs ++ ys)) (packed xs ++ packed ys) size (λ j h. packed_at (xs ++ ys) j ∙ elim (cases_lt j (length xs / 8)) [
-          | inl low ↦ byte_left j low ∙ sym (get_or_append_left (packed xs) (packed ys) 0 j (omega (arith, low, front)) ∙ packed_at xs j)
+          | inl low ↦ byte_left j low ∙ sym (get_or_append_left (packed xs) (packed ys) 0 j (omega (arith, low, prefix)) ∙ packed_at xs j)
           | inr high ↦
               let k = j - length xs / 8 in
-              byte_right j k (omega (arith, high)) ∙ sym (get_or-append_right (packed xs) (packed ys) (length xs / 8) j 0 front high ∙ packed_at ys k)
+              byte_right j k (omega (arith, high)) ∙ sym (get_or-append_right (packed xs) (packed ys) (length xs / 8) j 0 prefix high ∙ packed_at ys k)
         ])
 
 -- ---- hashers that go on
@@ -94,7 +94,7 @@ digests_none s hashers none =
     let joined = taken s.interleaving s.channels 0 0 [] [] refl size size in
     hold_none hashers _ s.channels none joined.first_long joined.bits
 
--- behind some bytes
+-- after some bytes
 pub digests_more : (part : SoundPart) (old new : List Sha256) (before bytes : List ℕ) → IsFed part.sound part.done before → length bytes ≡ sound_size part.sound.interleaving part.sound.channels part.bits
     → HoldEach old (sound_channels part.sound.interleaving part.sound.channels part.done before)
     → AreUpdated (sound_channels part.sound.interleaving part.sound.channels part.bits bytes) old new
@@ -111,7 +111,7 @@ from_whole part before fed is = elim (cases_lt (part.done + part.bits) part.soun
 ]
 
 -- ---- one after the other
--- the first hashers hold the bits of their channels behind what they held, and the others are as they were
+-- the first hashers hold the bits of their channels after what they held, and the others are unchanged
 pub record UpdatedUpTo (channels : List (List Bool)) (old now : List Sha256) (c : ℕ) : Type 0 where
   pub number : length now ≡ length old
   pub later : (k : ℕ) (h : Sha256) → c ≤ k → get_or now k h ≡ get_or old k h

@@ -1,9 +1,11 @@
 pub mod ConvertLaws
 pub mod DigestLaws
-pub mod HearLaws
+pub mod ExcerptLaws
 pub mod PlayLaws
+pub mod OpeningLaws
 pub mod ReadLaws
 pub mod StreamLaws
 pub mod SumLaws
-pub mod TellLaws
+pub mod ReportLaws
 pub mod PartLaws
+pub mod GapLaws

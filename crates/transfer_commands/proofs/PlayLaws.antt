@@ -3,7 +3,7 @@ use Rattle.std.proofs.Common.{◌≡◌, ℕ, inl, inr, Bool, List, [], ◌++◌
 use Rattle.transfer_core.specs.Playing.{Plays}
 use Rattle.transfer_core.specs.declared.fault.Fault as calls
 use Rattle.player_core.specs.Playing.{PlaysFile, WritesPrefix}
-use Rattle.transfer_core.specs.Streaming.{IsBeforeWriting, OnlyFromOutside, StreamApplies}
+use Rattle.transfer_core.specs.Streaming.{FailsBeforeWriting, OnlyFromOutside, StreamApplies}
 use Rattle.chunk_core.specs.Outlets.{AppendsPrefix}
 use Rattle.folder_core.specs.Files.{IsGiven, IsGivenUp, IsReadOf, KeepsOthers, View}
 use Rattle.transfer_commands.specs.Playing.{EndsPlaying, HoldsPlayed, LeavesPrefix, PlayComesTo, PlayedComesTo}
@@ -13,40 +13,40 @@ use Rattle.transfer_commands.proofs.ReadLaws.{unknown_view}
 
 -- ---- a file that is played
 -- all of it was written, and handed back
-pub played : (project input output : List ℕ) (old new : View) (remaining held written : Option (List ℕ)) → IsGiven old input remaining → (IsTrue old.is_told → held ≡ Some []) → KeepsOthers output old new → (IsTrue old.is_told → new.file output ≡ written)
+pub played : (project input output : List ℕ) (old new : View) (remaining held written : Option (List ℕ)) → IsGiven old input remaining → (IsTrue old.is_known → held ≡ Some []) → KeepsOthers output old new → (IsTrue old.is_known → new.file output ≡ written)
     → (n : ℕ) → PlaysFile remaining (Plays project) held written n → (read : List ℕ) × (bytes : List ℕ) × Plays project read bytes × (n ≡ length bytes) → PlayedComesTo project input output old new (Ok n)
-played project input output old new remaining held written given empty others stands n plays some = by old.is_told refl
+played project input output old new remaining held written given empty others stands n plays some = by old.is_known refl
   where
     all : (file : List ℕ) (w : Option (List ℕ)) → PlaysFile (Some file) (Plays project) (Some []) w n → new.file output ≡ w → (bytes : List ℕ) × (new.file output ≡ Some bytes) × Plays project file bytes × (n ≡ length bytes)
     all file None h is = absurd h.3
     all file (Some w) h is = (h.0, is ∙ ap (λ xs. Some xs) h.3, h.1, h.2)
 
-    by : (told : Bool) → old.is_told ≡ told → PlayedComesTo project input output old new (Ok n)
+    by : (reported : Bool) → old.is_known ≡ reported → PlayedComesTo project input output old new (Ok n)
     by true is =
         let g = given is in
         let made = all g.0 written (subst (λ o. PlaysFile o (Plays project) (Some []) written n) g.2 (subst (λ o. PlaysFile remaining (Plays project) o written n) (empty is) plays)) (stands is) in
-        (g.0, made.0, (λ told. g.1), (λ told. made.1), made.2, made.3, others)
-    by false is = (some.0, some.1, unknown_view old.is_told is, unknown_view new.is_told (others.same_told ∙ is), some.2, some.3, others)
+        (g.0, made.0, (λ reported. g.1), (λ reported. made.1), made.2, made.3, others)
+    by false is = (some.0, some.1, unknown_view old.is_known is, unknown_view new.is_known (others.same_known ∙ is), some.2, some.3, others)
 
 -- a fault ended it, and what was written is given up
 pub ended : (project output : List ℕ) (old new : View) (remaining held written : Option (List ℕ)) → IsGivenUp output old new written
-    → (fault : calls.Fault) → StreamApplies remaining project fault → OnlyFromOutside remaining project fault → WritesPrefix remaining (Plays project) held written → (IsBeforeWriting fault → written ≡ held)
+    → (fault : calls.Fault) → StreamApplies remaining project fault → OnlyFromOutside remaining project fault → WritesPrefix remaining (Plays project) held written → (FailsBeforeWriting fault → written ≡ held)
     → (file : List ℕ) → remaining ≡ Some file → held ≡ Some [] → EndsPlaying project file output old new fault
-ended project output old new remaining held written stays fault stands outside front unwritten file left empty = record {
+ended project output old new remaining held written stays fault stands outside prefix unwritten file left empty = record {
   stands = subst (λ o. StreamApplies o project fault) left stands;
   outside = subst (λ o. OnlyFromOutside o project fault) left outside;
-  front = by stays;
+  prefix = by stays;
 }
   where
     own : WritesPrefix (Some file) (Plays project) (Some []) written
-    own = subst (λ o. WritesPrefix o (Plays project) (Some []) written) left (subst (λ o. WritesPrefix remaining (Plays project) o written) empty front)
+    own = subst (λ o. WritesPrefix o (Plays project) (Some []) written) left (subst (λ o. WritesPrefix remaining (Plays project) o written) empty prefix)
 
-    front_of : (w : Option (List ℕ)) (bytes : List ℕ) → new.file output ≡ w → AppendsPrefix (Some []) w bytes → (prefix : List ℕ) × (rest : List ℕ) × (new.file output ≡ Some prefix) × (bytes ≡ prefix ++ rest)
-    front_of None bytes is h = absurd h.3
-    front_of (Some w) bytes is h = (h.0, h.1, is ∙ ap (λ xs. Some xs) h.3, h.2)
+    prefix_of : (w : Option (List ℕ)) (bytes : List ℕ) → new.file output ≡ w → AppendsPrefix (Some []) w bytes → (prefix : List ℕ) × (rest : List ℕ) × (new.file output ≡ Some prefix) × (bytes ≡ prefix ++ rest)
+    prefix_of None bytes is h = absurd h.3
+    prefix_of (Some w) bytes is h = (h.0, h.1, is ∙ ap (λ xs. Some xs) h.3, h.2)
 
-    holds : (w : Option (List ℕ)) → WritesPrefix (Some file) (Plays project) (Some []) w → (IsBeforeWriting fault → w ≡ Some []) → new.file output ≡ w → HoldsPlayed project file fault (new.file output)
-    holds w h none is = record { prefix = λ bytes plays. front_of w bytes is (h bytes plays); none = λ before. is ∙ none before }
+    holds : (w : Option (List ℕ)) → WritesPrefix (Some file) (Plays project) (Some []) w → (FailsBeforeWriting fault → w ≡ Some []) → new.file output ≡ w → HoldsPlayed project file fault (new.file output)
+    holds w h none is = record { prefix = λ bytes plays. prefix_of w bytes is (h bytes plays); none = λ before. is ∙ none before }
 
     by : IsGivenUp output old new written → LeavesPrefix project file fault output old new
     by (inl same) = inl same

@@ -1,4 +1,4 @@
--- What is known of bytes that were read of a name, whether a folder tells them or not.
+-- What is known of bytes that were read under a name, whether the folder's bytes are known or not.
 use Rattle.std.proofs.Common.{◌≡◌, ℕ, Bool, List, IsTrue, Option, Some, false, true, refl, subst, sym, ◌∙◌}
 use Rattle.std.specs.Prelude.{IfSome}
 use Rattle.folder_core.specs.Files.{OpensAs, IsGiven, IsReadOf, View}
@@ -6,26 +6,26 @@ use Rattle.folder_core.specs.ShortFiles.{IsShort, IsShortOf}
 use Rattle.std.specs.Prelude.{Vec}
 use Rattle.std.specs.declared.alloc.Global.{Global}
 
--- of a folder that tells nothing nothing is asked
-pub unknown_view : {A : Type 0} (told : Bool) → told ≡ false → IsTrue told → A
-unknown_view told is h = let no : false ≡ true = sym is ∙ h in absurd cc
+-- of a folder whose bytes are unknown nothing is asked
+pub unknown_view : {A : Type 0} (reported : Bool) → reported ≡ false → IsTrue reported → A
+unknown_view reported is h = let no : false ≡ true = sym is ∙ h in absurd cc
 
--- what is so of the bytes that a reader has left, and of some, is so of bytes that were read of its name
+-- what holds of the bytes that a reader has left holds of bytes that were read under its name
 pub known_or_some : (view : View) (name : List ℕ) (left : Option (List ℕ)) (P : List ℕ → Type 0) → IsGiven view name left → IfSome left P → (file : List ℕ) × P file → (file : List ℕ) × IsReadOf view name file × P file
-known_or_some view name left P given known some = by view.is_told refl
+known_or_some view name left P given known some = by view.is_known refl
   where
-    by : (told : Bool) → view.is_told ≡ told → (file : List ℕ) × IsReadOf view name file × P file
-    by true is = let h = given is in (h.0, (λ told. h.1), subst (λ o. IfSome o P) h.2 known)
-    by false is = (some.0, unknown_view view.is_told is, some.1)
+    by : (reported : Bool) → view.is_known ≡ reported → (file : List ℕ) × IsReadOf view name file × P file
+    by true is = let h = given is in (h.0, (λ reported. h.1), subst (λ o. IfSome o P) h.2 known)
+    by false is = (some.0, unknown_view view.is_known is, some.1)
 
--- the bytes of a reader that was opened under a name, and those read before where it doesn't tell them
-pub last_of : (view : View) (name : List ℕ) (left : Option (List ℕ)) → IsGiven view name left → (file : List ℕ) → IsReadOf view name file → (last : List ℕ) × IsReadOf view name last × (IsTrue view.is_told → left ≡ Some last)
-last_of view name left given file read = by view.is_told refl
+-- the bytes of a reader that was opened under a name, and those read before if its bytes are unknown
+pub last_of : (view : View) (name : List ℕ) (left : Option (List ℕ)) → IsGiven view name left → (file : List ℕ) → IsReadOf view name file → (last : List ℕ) × IsReadOf view name last × (IsTrue view.is_known → left ≡ Some last)
+last_of view name left given file read = by view.is_known refl
   where
-    by : (told : Bool) → view.is_told ≡ told → (last : List ℕ) × IsReadOf view name last × (IsTrue view.is_told → left ≡ Some last)
-    by true is = let h = given is in (h.0, (λ told. h.1), (λ told. h.2))
-    by false is = (file, read, unknown_view view.is_told is)
+    by : (reported : Bool) → view.is_known ≡ reported → (last : List ℕ) × IsReadOf view name last × (IsTrue view.is_known → left ≡ Some last)
+    by true is = let h = given is in (h.0, (λ reported. h.1), (λ reported. h.2))
+    by false is = (file, read, unknown_view view.is_known is)
 
 -- the bytes of a short file were read of its name
 pub short_read : (most : ℕ) (view : View) (name : List ℕ) (bytes : Vec ℕ Global) → IsShortOf most view name (Some bytes) → IsReadOf view name bytes.items
-short_read most view name bytes short = λ told. let h = short told in subst (OpensAs view name) h.2.0 h.1
+short_read most view name bytes short = λ reported. let h = short reported in subst (OpensAs view name) h.2.0 h.1

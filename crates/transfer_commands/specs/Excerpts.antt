@@ -1,5 +1,5 @@
 -- What a splice reads of the files of its takes, under their names.
-use Rattle.std.specs.Prelude.{◌≡◌, ℕ, List, IsTrue, Option, Result, Ok, Err, Some, None, Vec, ⊤, length}
+use Rattle.std.specs.Prelude.{◌≡◌, ℕ, List, Result, Ok, Err, Vec, length}
 use Rattle.std.specs.declared.alloc.Global.{Global}
 use Rattle.dsd_bits.specs.Contents.{Content}
 use Rattle.dsd_bits.specs.Shape.{HasShape}
@@ -9,9 +9,8 @@ use Rattle.cut_core.specs.declared.fault.CutFault.{CutFault}
 use Rattle.cut_core.specs.declared.excerpts.Excerpts.{Excerpts}
 use Rattle.cut_core.specs.Excerpts.{excerpts_content, excerpts_of}
 use Rattle.cut_core.specs.Opening.{ReturnsExcerpts, ReturnsAllExcerpts, take_in, takes_before, takes_of}
-use Rattle.sound_core.specs.Files.{IsRefused}
 use Rattle.transfer_core.specs.Projects.{SaysSplice}
-use Rattle.folder_core.specs.Files.{AreReadOf, OpensAs, IsReadOf, View}
+use Rattle.folder_core.specs.Files.{AreReadOf, IsReadOf, View}
 use Rattle.transfer_commands.specs.Sources.{AreSources}
 
 -- the file holds a recording, the take of a number, and this is what a splice reads of it
@@ -21,28 +20,20 @@ pub record HoldsExcerpts (splice : SpliceContent) (number : ℕ) (file : List �
   pub shape : HasShape recording
   pub are_excerpts : excerpts_content excerpts ≡ excerpts_of splice number recording
 
--- this was read of a file in one pass; or it is the file's fault, as that of the take with this number; or nothing, and the
--- file holds no recording
-abbrev pub AreExcerptsIn : SpliceContent → ℕ → List ℕ → Option (Result Excerpts CutFault) → Type 0
-AreExcerptsIn splice number file (Some (Ok excerpts)) = HoldsExcerpts splice number file excerpts
-AreExcerptsIn splice number file (Some (Err fault)) = take_in number file ≡ Err fault
-AreExcerptsIn splice number file None = IsRefused file
+-- this was read of a file in one pass; or it is the file's fault, as that of the take with this number
+abbrev pub AreExcerptsIn : SpliceContent → ℕ → List ℕ → Result Excerpts CutFault → Type 0
+AreExcerptsIn splice number file (Ok excerpts) = HoldsExcerpts splice number file excerpts
+AreExcerptsIn splice number file (Err fault) = take_in number file ≡ Err fault
 
 -- some bytes hold what was read, or have this fault
-abbrev pub AreExcerptsInSome : SpliceContent → ℕ → Option (Result Excerpts CutFault) → Type 0
-AreExcerptsInSome splice number (Some excerpts) = (file : List ℕ) × AreExcerptsIn splice number file (Some excerpts)
-AreExcerptsInSome splice number None = ⊤
+abbrev pub AreExcerptsInSome : SpliceContent → ℕ → Result Excerpts CutFault → Type 0
+AreExcerptsInSome splice number excerpts = (file : List ℕ) × AreExcerptsIn splice number file excerpts
 
 -- this was read, in one pass, of bytes of a name, or is their fault
 pub record StreamsRead (old : View) (splice : SpliceContent) (number : ℕ) (name : List ℕ) (excerpts : Result Excerpts CutFault) : Type 0 where
   pub file : List ℕ
   pub file_read : IsReadOf old name file
-  pub are_excerpts : AreExcerptsIn splice number file (Some excerpts)
-
--- the same, or nothing: then, if the folder's bytes are known, an opening of the name gives no recording
-abbrev pub StreamsFile : View → SpliceContent → ℕ → List ℕ → Option (Result Excerpts CutFault) → Type 0
-StreamsFile old splice number name (Some excerpts) = StreamsRead old splice number name excerpts
-StreamsFile old splice number name None = IsTrue old.is_told → (file : List ℕ) × OpensAs old name file × IsRefused file
+  pub are_excerpts : AreExcerptsIn splice number file excerpts
 
 -- this was read of bytes of a name, the take of a number, or is their fault
 pub record ReadsExcerpts (old : View) (splice : SpliceContent) (number : ℕ) (name : List ℕ) (excerpts : Result Excerpts CutFault) : Type 0 where

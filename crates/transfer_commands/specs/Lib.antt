@@ -3,6 +3,7 @@ pub mod Digesting
 pub mod Excerpts
 pub mod Faults
 pub mod Outlining
+pub mod Opening
 pub mod PartPlaying
 pub mod Playing
 pub mod Reporting

@@ -1,17 +1,16 @@
 -- What is known of a file of a folder without its sound.
-use Rattle.std.specs.Prelude.{◌≡◌, ◌⊎◌, ℕ, List, IsTrue, Option, Some, None, ⊤}
-use Rattle.sound_core.specs.Files.{IsRefused}
+use Rattle.std.specs.Prelude.{◌≡◌, ◌⊎◌, ℕ, List, ⊤}
 use Rattle.sound_core.specs.Outlines.{AreAround, AreStated, around_of}
 use Rattle.sound_core.specs.declared.outline.Outline.{Outline}
 use Rattle.transfer_core.specs.declared.fault.Fault.TheVariants.{Memory}
-use Rattle.folder_core.specs.Files.{OpensAs, IsReadOf, View}
+use Rattle.folder_core.specs.Files.{IsReadOf, View}
 use Rattle.transfer_commands.specs.declared.fault.CommandFault.{CommandFault}
 use Rattle.transfer_commands.specs.declared.fault.CommandFault.TheVariants.{Call, ReadFailed, WriteFailed}
-use Rattle.transfer_commands.specs.Reporting.{IsUntold}
+use Rattle.transfer_commands.specs.Reporting.{IsUnreported}
 
 -- the file is this outline with some sound, and the outline describes what it holds
 pub record IsOutlined (file : List ℕ) (outline : Outline) : Type 0 where
-  pub told : AreStated (around_of outline)
+  pub reported : AreStated (around_of outline)
   pub around : AreAround (around_of outline) file
 
 -- the outline is that of bytes that were read of a name
@@ -19,11 +18,6 @@ pub record OutlinesRead (file_name : List ℕ) (old : View) (outline : Outline) 
   pub file : List ℕ
   pub file_read : IsReadOf old file_name file
   pub is_outline : IsOutlined file outline
-
--- the same, or there is none: then, if the folder's bytes are known, an opening of the name gives no recording
-abbrev pub OutlinesFile : List ℕ → View → Option Outline → Type 0
-OutlinesFile file_name old (Some outline) = OutlinesRead file_name old outline
-OutlinesFile file_name old None = IsTrue old.is_told → (file : List ℕ) × OpensAs old file_name file × IsRefused file
 
 -- a file was not read: it could not be, or memory ran out
 abbrev pub IsUnread : CommandFault → Type 0
@@ -33,6 +27,6 @@ IsUnread _ = ⊥
 
 -- a file was not read, or bytes that were read of it hold no recording for this fault
 abbrev pub IsUnoutlined : List ℕ → View → CommandFault → Type 0
-IsUnoutlined file_name old (Call fault) = (fault ≡ Memory) ⊎ IsUntold file_name old fault
+IsUnoutlined file_name old (Call fault) = (fault ≡ Memory) ⊎ IsUnreported file_name old fault
 IsUnoutlined file_name old ReadFailed = ⊤
 IsUnoutlined file_name old WriteFailed = ⊥

@@ -3,7 +3,7 @@ use Rattle.std.specs.Prelude.{◌≡◌, ℕ, List, [], ◌++◌, length, IsTrue
 use Rattle.transfer_core.specs.declared.fault.Fault as calls
 use Rattle.transfer_core.specs.declared.fault.Fault.TheVariants.{Memory}
 use Rattle.transfer_core.specs.Playing.{Plays}
-use Rattle.transfer_core.specs.Streaming.{IsBeforeWriting, OnlyFromOutside, StreamApplies}
+use Rattle.transfer_core.specs.Streaming.{FailsBeforeWriting, OnlyFromOutside, StreamApplies}
 use Rattle.folder_core.specs.Files.{OpensAs, HadNone, IsPut, IsReadOf, KeepsOthers, View}
 use Rattle.transfer_commands.specs.declared.fault.CommandFault.{CommandFault}
 use Rattle.transfer_commands.specs.declared.fault.CommandFault.TheVariants.{Call, ReadFailed, WriteFailed}
@@ -25,7 +25,7 @@ pub record PlaysFiles (project_name file_name output_name : List ℕ) (old new :
 -- fault comes before the first write
 pub record HoldsPlayed (project file : List ℕ) (fault : calls.Fault) (held : Option (List ℕ)) : Type 0 where
   pub prefix : (bytes : List ℕ) → Plays project file bytes → (prefix : List ℕ) × (rest : List ℕ) × (held ≡ Some prefix) × (bytes ≡ prefix ++ rest)
-  pub none : IsBeforeWriting fault → held ≡ Some []
+  pub none : FailsBeforeWriting fault → held ≡ Some []
 
 -- the output is unchanged, or no old one had to be kept and it holds such a prefix
 abbrev pub LeavesPrefix : List ℕ → List ℕ → calls.Fault → List ℕ → View → View → Type 0
@@ -36,19 +36,19 @@ LeavesPrefix project file fault output old new = (new.file output ≡ old.file o
 pub record EndsPlaying (project file output_name : List ℕ) (old new : View) (fault : calls.Fault) : Type 0 where
   pub stands : StreamApplies (Some file) project fault
   pub outside : OnlyFromOutside (Some file) project fault
-  pub front : LeavesPrefix project file fault output_name old new
+  pub prefix : LeavesPrefix project file fault output_name old new
 
 -- the same for bytes that openings of the project and of a file give, if the folder's bytes are known
 pub record LeavesOutput (project_name file_name output_name : List ℕ) (old new : View) (fault : calls.Fault) : Type 0 where
   pub project : List ℕ
   pub project_read : IsReadOf old project_name project
-  pub ended : IsTrue old.is_told → (file : List ℕ) × OpensAs old file_name file × EndsPlaying project file output_name old new fault
+  pub ended : IsTrue old.is_known → (file : List ℕ) × OpensAs old file_name file × EndsPlaying project file output_name old new fault
   pub others : KeepsOthers output_name old new
 
 -- how playing a file that was opened under a name to an empty one ends: it is handed back, or given up after a fault
 abbrev pub PlayedComesTo : List ℕ → List ℕ → List ℕ → View → View → Result ℕ CommandFault → Type 0
 PlayedComesTo project input output old new (Ok count) = (file : List ℕ) × (bytes : List ℕ) × IsReadOf old input file × IsPut new output bytes × Plays project file bytes × (count ≡ length bytes) × KeepsOthers output old new
-PlayedComesTo project input output old new (Err (Call fault)) = (IsTrue old.is_told → (file : List ℕ) × OpensAs old input file × EndsPlaying project file output old new fault) × KeepsOthers output old new
+PlayedComesTo project input output old new (Err (Call fault)) = (IsTrue old.is_known → (file : List ℕ) × OpensAs old input file × EndsPlaying project file output old new fault) × KeepsOthers output old new
 PlayedComesTo project input output old new (Err WriteFailed) = KeepsOthers output old new × (new.file output ≡ old.file output)
 PlayedComesTo project input output old new (Err ReadFailed) = ⊥
 

@@ -13,16 +13,16 @@ use Rattle.transfer_commands.specs.declared.fault.CommandFault.{CommandFault}
 use Rattle.transfer_commands.specs.declared.fault.CommandFault.TheVariants.{Call, ReadFailed, WriteFailed}
 
 -- the bytes are a file of the reported form, and hold a recording with the reported description
-pub record IsReportOf (file : List ℕ) (told : Reported) : Type 0 where
+pub record IsReportOf (file : List ℕ) (reported : Reported) : Type 0 where
   pub recording : Content
-  pub holds : HoldsAs file told.form recording
-  pub tells : told.description ≡ described recording
+  pub holds : HoldsAs file reported.form recording
+  pub states : reported.description ≡ described recording
 
 -- bytes that were read of the file hold what is reported, and nothing changed
-pub record ReportsFile (file_name : List ℕ) (old new : View) (told : Reported) : Type 0 where
+pub record ReportsFile (file_name : List ℕ) (old new : View) (reported : Reported) : Type 0 where
   pub file : List ℕ
   pub file_read : IsReadOf old file_name file
-  pub is_told : IsReportOf file told
+  pub is_known : IsReportOf file reported
   pub same : new ≡ old
 
 -- bytes are not read as a recording for this fault
@@ -32,19 +32,19 @@ pub record IsUnopened (file : List ℕ) (fault : calls.Fault) : Type 0 where
   pub named : fault ≡ fault_of_file cause
 
 -- the same for a call's refusal
-abbrev pub IsUntoldOf : List ℕ → CommandFault → Type 0
-IsUntoldOf file (Call fault) = IsUnopened file fault
-IsUntoldOf file _ = ⊥
+abbrev pub IsUnreportedOf : List ℕ → CommandFault → Type 0
+IsUnreportedOf file (Call fault) = IsUnopened file fault
+IsUnreportedOf file _ = ⊥
 
 -- bytes that were read of the file can't be read as a recording, for this fault
-pub record IsUntold (file_name : List ℕ) (old : View) (fault : calls.Fault) : Type 0 where
+pub record IsUnreported (file_name : List ℕ) (old : View) (fault : calls.Fault) : Type 0 where
   pub file : List ℕ
   pub file_read : IsReadOf old file_name file
   pub unopened : IsUnopened file fault
 
 -- how reporting a file changes the folder
 abbrev pub ReportComesTo : List ℕ → View → View → Result Reported CommandFault → Type 0
-ReportComesTo file old new (Ok told) = ReportsFile file old new told
-ReportComesTo file old new (Err (Call fault)) = (new ≡ old) × ((fault ≡ Memory) ⊎ IsUntold file old fault)
+ReportComesTo file old new (Ok reported) = ReportsFile file old new reported
+ReportComesTo file old new (Err (Call fault)) = (new ≡ old) × ((fault ≡ Memory) ⊎ IsUnreported file old fault)
 ReportComesTo file old new (Err ReadFailed) = new ≡ old
 ReportComesTo file old new (Err WriteFailed) = ⊥

@@ -3,7 +3,7 @@ use Rattle.std.specs.Prelude.{◌≡◌, ℕ, List, ◌⊎◌}
 use Rattle.transfer_core.specs.declared.fault.Fault as calls
 use Rattle.transfer_core.specs.declared.fault.Fault.TheVariants.{Memory}
 use Rattle.transfer_core.specs.Projects.{SaysTakes, take_names_of}
-use Rattle.form_core.specs.Steps.{Fails}
+use Rattle.form_core.specs.Steps.{FailsUnless}
 use Rattle.folder_core.specs.Files.{AreReadOf, IsReadOf, View}
 use Rattle.transfer_commands.specs.declared.fault.CommandFault.{CommandFault}
 use Rattle.transfer_commands.specs.declared.fault.CommandFault.TheVariants.{Call, ReadFailed, WriteFailed}
@@ -19,7 +19,7 @@ pub record AreSources (project_name : List ℕ) (old : View) (project : List ℕ
 pub record IsUnnamed (project_name : List ℕ) (old : View) (fault : calls.Fault) : Type 0 where
   pub project : List ℕ
   pub project_read : IsReadOf old project_name project
-  pub first : Fails Memory fault (take_names_of project)
+  pub first : FailsUnless Memory fault (take_names_of project)
 
 -- the project or a take that it names was not read for this, and nothing changed
 abbrev pub SourcesUnread : List ℕ → View → View → CommandFault → Type 0

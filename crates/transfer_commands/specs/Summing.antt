@@ -10,13 +10,14 @@ use Rattle.transfer_core.specs.declared.fault.Fault.TheVariants.{Memory}
 use Rattle.folder_core.specs.Files.{OpensAs, IsReadOf, View}
 use Rattle.sound_core.specs.declared.outline.Outline.{Outline}
 use Rattle.transfer_commands.specs.Digesting.{HoldEach}
-use Rattle.transfer_commands.specs.Reporting.{IsUntold}
+use Rattle.transfer_commands.specs.Reporting.{IsUnreported}
 use Rattle.transfer_commands.specs.declared.digesting.Digester.{Digester}
 use Rattle.transfer_commands.specs.declared.summing.Sums.{Sums}
 use Rattle.transfer_commands.specs.declared.fault.CommandFault.{CommandFault}
 use Rattle.transfer_commands.specs.declared.fault.CommandFault.TheVariants.{Call, ReadFailed, WriteFailed}
 
--- the SHA-256 of each channel's bits, packed eight to a byte, the earliest the most significant, with zeros behind the last
+-- the SHA-256 of each channel's bits, packed eight to a byte, the earliest the most significant, with zeros behind the
+-- last
 abbrev pub digests_of : List (List Bool) → List (List ℕ)
 digests_of channels = map (λ (bits : List Bool). sha256 (packed bits)) channels
 
@@ -51,12 +52,12 @@ pub record SumsRead (file_name : List ℕ) (old : View) (sums : Sums) : Type 0 w
 -- the same, or there are none: where the folder has known bytes, an opening of the name gives no recording
 abbrev pub SumsStream : List ℕ → View → Option Sums → Type 0
 SumsStream file_name old (Some sums) = SumsRead file_name old sums
-SumsStream file_name old None = IsTrue old.is_told → (file : List ℕ) × OpensAs old file_name file × IsRefused file
+SumsStream file_name old None = IsTrue old.is_known → (file : List ℕ) × OpensAs old file_name file × IsRefused file
 
 -- the folder before and after a file was summed came to this
 abbrev pub SumComesTo : List ℕ → View → View → Result Sums CommandFault → Type 0
 SumComesTo file old new (Ok sums) = SumsRead file old sums × (new ≡ old)
-SumComesTo file old new (Err (Call fault)) = (new ≡ old) × ((fault ≡ Memory) ⊎ IsUntold file old fault)
+SumComesTo file old new (Err (Call fault)) = (new ≡ old) × ((fault ≡ Memory) ⊎ IsUnreported file old fault)
 SumComesTo file old new (Err ReadFailed) = new ≡ old
 SumComesTo file old new (Err WriteFailed) = ⊥
 

@@ -12,7 +12,7 @@ ghost use Rattle.transfer_commands.specs.Outlining.{OutlinesRead};
 use crate::fault::CommandFault;
 use crate::outlining::outline_file;
 use chunk_core::{Inlet, Outlet};
-use folder_core::{Folder, hand_back, read_file, read_short, write_file};
+use folder_core::{Folder, hand_back, read_short, write_file};
 use form_core::{Form, held_is_opened, written_in_parts};
 use sound_core::{Outline, StreamFault};
 use std::alloc::Global;
@@ -22,10 +22,9 @@ use transfer_core::{Fault, convert, convert_stream};
 /// Converts a file to the other form. Returns how many parts of its recording have no place in it.
 ///
 /// A file of fewer than `most` bytes is read whole and converted in memory, and only then the other file is created.
-/// Any other file is opened again and read in one pass, which doesn't hold its sound. If it holds no recording for a
-/// fault that this pass doesn't tell, it is opened a third time and read whole, so that the fault can be named. Otherwise
-/// it is opened once more, the other file is created, and the one is converted to the other block by block. After a fault of that the other file may hold a
-/// prefix of what was due, but a folder that keeps old files keeps an old one.
+/// Any other file is opened again and read in one pass, which doesn't hold its sound, and tells its fault. Then it is
+/// opened once more, the other file is created, and the one is converted to the other block by block. After a fault of
+/// that the other file may hold a prefix of what was due, but a folder that keeps old files keeps an old one.
 ///
 /// If a file was changed around its sound between its readings, the answer is `ReadFailed`. If its sound was changed,
 /// the last reading counts.
@@ -42,11 +41,8 @@ pub fn convert_file<F: Folder>(
     if let Some(file) = read_short(alloc, folder, input, most)? {
         return convert_whole(alloc, folder, form, &file, output);
     }
-    if let Some(outline) = outline_file(alloc, folder, input)? {
-        return convert_outlined(alloc, folder, form, &outline, input, output);
-    }
-    let file = read_file(alloc, folder, input)?;
-    convert_whole(alloc, folder, form, &file, output)
+    let outline = outline_file(alloc, folder, input)?;
+    convert_outlined(alloc, folder, form, &outline, input, output)
 }
 
 // Converts a file that was read whole, and only then creates the other.
@@ -76,7 +72,7 @@ fn convert_outlined<F: Folder>(
     input: &str,
     output: &str,
 ) -> Result<u64, CommandFault>
-    requires told { AreStated (around_of outline.now) }
+    requires reported { AreStated (around_of outline.now) }
     ensures { OutlinesRead input.now (F.view folder.old) outline.now
         → ConvertComesTo form input.now output.now (F.view folder.old) (F.view folder.new) result }
 {
@@ -112,11 +108,11 @@ fn convert_between<R: Read + Drop, W: Write>(
     file: R,
     made: W,
 ) -> (Result<u64, Fault>, W)
-    requires told { AreStated (around_of outline.now) }
+    requires reported { AreStated (around_of outline.now) }
     ensures ok { IfOk result.0 (ConvertsReader (R.remaining file) form (W.contents made) (W.contents result.1)) }
     // If the reader's bytes aren't known, the same holds of some bytes that were read.
     ensures any_reader { IfOk result.0 (λ dropped. (read : List ℕ) × (bytes : List ℕ) × Converts read form bytes dropped) }
-    ensures front { OnErr result.0 (ConvertsPrefix (R.remaining file) (around_of outline.now) form (W.contents made)
+    ensures prefix { OnErr result.0 (ConvertsPrefix (R.remaining file) (around_of outline.now) form (W.contents made)
         (W.contents result.1)) }
     ensures refused { IfErr result.0 (ConversionApplies (R.remaining file) (around_of outline.now) form) }
 {

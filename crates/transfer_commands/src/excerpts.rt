@@ -6,13 +6,13 @@ ghost use Rattle.cut_core.specs.Excerpts.{ranges_of};
 ghost use Rattle.cut_core.specs.Opening.{IsOfTake, IsOfTakes, fault_of_take};
 ghost use Rattle.sound_core.specs.Keeping.{IsKeptOf, stretches_in};
 ghost use Rattle.sound_core.specs.Outlines.{AreStated, around_of};
-ghost use Rattle.transfer_commands.specs.Excerpts.{ReadsExcerpts, ReadsAllExcerpts, HoldsExcerpts, AreExcerptsIn, AreExcerptsInSome, StreamsFile};
+ghost use Rattle.transfer_commands.specs.Excerpts.{ReadsExcerpts, ReadsAllExcerpts, HoldsExcerpts, AreExcerptsIn, AreExcerptsInSome, StreamsRead};
 ghost use Rattle.transfer_commands.specs.Outlining.{IsUnread};
 
 use crate::fault::CommandFault;
 use chunk_core::Inlet;
-use cut_core::{CutFault, Excerpts, excerpts_of_file, push_excerpts, ranges_of};
-use folder_core::{Folder, read_file};
+use cut_core::{CutFault, Excerpts, push_excerpts, ranges_of};
+use folder_core::Folder;
 use form_core::{ReadFault, has_shape, held_is_opened};
 use sound_core::{Kept, StreamFault, Unread, read_stretches};
 use splice_core::Splice;
@@ -23,8 +23,7 @@ use transfer_core::Fault;
 /// What a splice reads of the files of its takes. Each is read before the next is opened, and only the bits that the
 /// splice reads are kept. The first fault in what they hold is returned only after all of them were read.
 ///
-/// A file is read in one pass, which doesn't hold its sound. If it holds no recording for a fault that this pass doesn't
-/// tell, it is opened again and read whole, so that the fault can be named.
+/// A file is read in one pass, which doesn't hold its sound.
 ///
 /// Refusals: `ReadFailed` for the first file that can't be opened or read; `Memory`.
 pub(crate) fn read_excerpts<F: Folder>(
@@ -62,25 +61,20 @@ fn named_excerpts<F: Folder>(
 {
     held_is_opened();
     let name = &splice.takes[number];
-    if let Some(excerpts) = streamed_excerpts(alloc, folder, splice, number, name)? {
-        return Ok(excerpts);
-    }
-    let file = read_file(alloc, folder, name)?;
-    Ok(excerpts_of_file(alloc, splice, number, &file))
+    streamed_excerpts(alloc, folder, splice, number, name)
 }
 
-// What a splice reads of the file of this name, the take with this number, in one pass, or the file's fault; None for a
-// file that holds no recording, for a fault that this pass doesn't tell.
+// What a splice reads of the file of this name, the take with this number, in one pass, or the file's fault.
 fn streamed_excerpts<F: Folder>(
     alloc: Global,
     folder: &mut F,
     splice: &Splice,
     number: usize,
     name: &str,
-) -> Result<Option<Result<Excerpts, CutFault>>, CommandFault>
+) -> Result<Result<Excerpts, CutFault>, CommandFault>
     ensures same { F.view folder.new ≡ F.view folder.old }
-    ensures excerpts { IfOk result (StreamsFile (F.view folder.old) (splice_content splice.now) number name.now) }
-    ensures of { IfOk result (λ found. IfSome found (IsOfTake (splice_content splice.now) number)) }
+    ensures excerpts { IfOk result (StreamsRead (F.view folder.old) (splice_content splice.now) number name.now) }
+    ensures of { IfOk result (IsOfTake (splice_content splice.now) number) }
     ensures fault { IfErr result IsUnread }
 {
     match folder.open(name) {
@@ -95,12 +89,12 @@ fn reader_excerpts<R: Read + Drop>(
     splice: &Splice,
     number: usize,
     file: R,
-) -> Result<Option<Result<Excerpts, CutFault>>, CommandFault>
+) -> Result<Result<Excerpts, CutFault>, CommandFault>
     ensures excerpts { IfOk result (λ found. IfSome (R.remaining file) (λ left. AreExcerptsIn
         (splice_content splice.now) number left found)) }
     // If the reader's bytes aren't known, some bytes that were read hold what the splice reads.
     ensures any_reader { IfOk result (AreExcerptsInSome (splice_content splice.now) number) }
-    ensures of { IfOk result (λ found. IfSome found (IsOfTake (splice_content splice.now) number)) }
+    ensures of { IfOk result (IsOfTake (splice_content splice.now) number) }
     ensures fault { IfErr result IsUnread }
 {
     let Ok(ranges) = ranges_of(alloc, splice, number) else {
@@ -108,9 +102,8 @@ fn reader_excerpts<R: Read + Drop>(
     };
     let mut inlet = Inlet::new(file);
     match read_stretches(alloc, &mut inlet, &ranges) {
-        Ok(kept) => Ok(Some(Ok(excerpts_by(kept)))),
-        Err(Unread::Refused(fault)) => Ok(Some(Err(take_unread(number, fault)))),
-        Err(Unread::Stream(StreamFault::FileRefused)) => Ok(None),
+        Ok(kept) => Ok(Ok(excerpts_by(kept))),
+        Err(Unread::Refused(fault)) => Ok(Err(take_unread(number, fault))),
         Err(Unread::Stream(StreamFault::Memory)) => Err(CommandFault::Call(Fault::Memory)),
         Err(Unread::Stream(_)) => Err(CommandFault::ReadFailed),
     }

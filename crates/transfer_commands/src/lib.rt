@@ -32,6 +32,8 @@ mod converting;
 mod digesting;
 mod excerpts;
 mod fault;
+mod gaps;
+mod opened;
 mod outlining;
 mod parts;
 mod playing;

@@ -1,18 +1,30 @@
 //! Plays a part of a file of a folder to another.
 
-ghost use Rattle.std.specs.Prelude.{◌≡◌, ℕ, List, [], IfErr, IfOk, IsTrue, Some};
+ghost use Rattle.std.specs.Prelude.{◌≡◌, ℕ, List, [], IfErr, IfOk, IsTrue, OnErr, Some, length};
+ghost use Rattle.dsd_bits.specs.Contents.{MarkContent};
 ghost use Rattle.folder_core.specs.Files.{IsGiven};
+ghost use Rattle.player_core.specs.Playing.{PlaysFile, WritesPrefix};
+ghost use Rattle.sound_core.specs.Files.{LeadsToSound};
+ghost use Rattle.transfer_core.specs.PartStreaming.{PartApplies, PartOnlyFromOutside, PlaysPart};
+ghost use Rattle.transfer_core.specs.Spans.{AreFramesOf, IsSpanOf};
+ghost use Rattle.transfer_core.specs.Streaming.{FailsBeforeWriting};
+ghost use Rattle.transfer_core.specs.declared.frames.PlayedFrames.{PlayedFrames};
 ghost use Rattle.transfer_commands.specs.Faults.{of_file};
-ghost use Rattle.transfer_commands.specs.PartPlaying.{HasSpan, IsPartRefused, PlayPartComesTo, PlayedPartComesTo};
+ghost use Rattle.transfer_commands.specs.Opening.{left_of};
+ghost use Rattle.transfer_commands.specs.PartPlaying.{FindsSpan, HasSpan, IsPartRefused, PlayPartComesTo, PlayedPartComesTo, PlaysSome};
 ghost use Rattle.transfer_commands.specs.declared.fault.CommandFault.TheVariants as commands;
 ghost use Rattle.transfer_commands.specs.declared.parts.PartFault.TheVariants as faults;
 
 use crate::fault::CommandFault;
-use crate::reporting::open_file;
+use crate::gaps::gaps_around;
+use crate::opened::{OpenedFile, open_prefix};
+use crate::reporting::open_past_sound;
 use chunk_core::{Inlet, Outlet};
-use folder_core::{FileFault, Folder, hand_back, read_file};
+use dsd_bits::Sound;
+use folder_core::{FileFault, Folder, GappedFile, hand_back, read_file};
 use std::alloc::Global;
-use transfer_core::{Fault, Span, SpanFault, frames_of, play_part_stream, span_of};
+use std::io::{Cursor, Read, Write};
+use transfer_core::{Fault, Place, Span, SpanFault, frames_of, play_part_stream, span_of};
 
 /// Why a command that plays a part is refused.
 #[derive(Clone, Copy)]
@@ -55,18 +67,29 @@ impl From<SpanFault> for PartFault {
     }
 }
 
-// A part that is played: the project's text, the first frame, and the first behind it.
+// A part that is played: the project's text, how many bits make a frame, the first frame, and the first behind it.
 #[derive(Clone, Copy)]
 struct Part<'a> {
     project: &'a [u8],
+    factor: u32,
     start: usize,
     stop: usize,
 }
 
-/// Reads the project, reads the recording through to find the part, opens it again, creates the WAVE file and plays the
-/// part to it. Returns how many bytes the WAVE file has. A part that isn't there is refused before the WAVE file is
-/// created. After a fault of playing the WAVE file may hold a prefix of what was due, but a folder that keeps old files
-/// keeps an old one.
+// A part that was found, and its file, of which the prefix was read.
+#[derive(Drop)]
+struct FoundPart<'a, R> {
+    part: Part<'a>,
+    opened: OpenedFile<R>,
+}
+
+/// Reads the project, finds the part in the recording, creates the WAVE file and plays the part to it. Returns how many
+/// bytes the WAVE file has. A part that isn't there is refused before the WAVE file is created. After a fault of
+/// playing the WAVE file may hold a prefix of what was due, but a folder that keeps old files keeps an old one.
+///
+/// A recording that can be read again is opened and read through first, and then opened again to be played. Any other
+/// is opened once: its part is found by what its first bytes say, so that a mark is not found in it (`ReadFailed`). The
+/// folder passes over the sound that the part doesn't need if it can.
 pub fn play_part_file<F: Folder>(
     alloc: Global,
     folder: &mut F,
@@ -78,17 +101,41 @@ pub fn play_part_file<F: Folder>(
     ensures { PlayPartComesTo project.now input.now output.now span (F.view folder.old) (F.view folder.new) result }
 {
     let project = read_file(alloc, folder, project)?;
-    let part = part_of(alloc, folder, &project, input, span)?;
-    let Ok(file) = folder.open(input) else {
-        return Err(PartFault::Command(CommandFault::ReadFailed));
-    };
+    let found = find_part(alloc, folder, &project, input, span)?;
     let Ok(wave) = folder.create(output) else {
         return Err(PartFault::Command(CommandFault::WriteFailed));
     };
-    Ok(play_part_to(alloc, folder, part, file, output, wave)?)
+    Ok(play_part_to(alloc, folder, found, output, wave)?)
 }
 
-// The part of a file that a span names, by a project's text.
+// The part of a file that a span names, by a project's text, and the file, opened to be played.
+fn find_part<'a, F: Folder>(
+    alloc: Global,
+    folder: &mut F,
+    project: &'a [u8],
+    input: &str,
+    span: Span,
+) -> Result<FoundPart<'a, F::In>, PartFault>
+    ensures same { F.view folder.new ≡ F.view folder.old }
+    ensures project { IfOk result (λ f. f.part.project.now ≡ project.now) }
+    ensures found { IfOk result (λ f. FindsSpan project.now input.now (F.view folder.old) span f.part.start f.part.stop) }
+    ensures given { IfOk result (λ f. IsGiven (F.view folder.old) input.now (left_of F.In.remaining f.opened)) }
+    ensures refused { IfErr result IsPartRefused }
+{
+    if folder.reopens(input) {
+        let part = part_of(alloc, folder, project, input, span)?;
+        let opened = open_prefix(alloc, folder, input)?;
+        return Ok(FoundPart { part, opened });
+    }
+    if names_mark(span) {
+        return Err(PartFault::Command(CommandFault::ReadFailed));
+    }
+    let opened = open_prefix(alloc, folder, input)?;
+    let part = part_in(alloc, project, &opened.sound, span)?;
+    Ok(FoundPart { part, opened })
+}
+
+// The part of a file that a span names, by a project's text. The file is read through.
 fn part_of<'a, F: Folder>(
     alloc: Global,
     folder: &mut F,
@@ -101,31 +148,124 @@ fn part_of<'a, F: Folder>(
     ensures found { IfOk result (λ part. HasSpan project.now input.now (F.view folder.old) span part.start part.stop) }
     ensures refused { IfErr result IsPartRefused }
 {
-    let told = open_file(alloc, folder, input)?;
-    let rate = told.description.rate();
-    let frames = frames_of(alloc, project, rate, told.description.count())?;
-    let (start, stop) = span_of(span, frames, rate, told.description.marks())?;
+    let reported = open_past_sound(alloc, folder, input)?;
+    let rate = reported.description.rate();
+    let frames = frames_of(alloc, project, rate, reported.description.count())?;
+    let (start, stop) = span_of(span, frames, rate, reported.description.marks())?;
     Ok(Part {
         project,
+        factor: frames.factor,
         start,
         stop,
     })
+}
+
+// The part of a sound that a span names, by a project's text, whichever marks the recording has. A span that names one
+// is refused.
+fn part_in<'a>(
+    alloc: Global,
+    project: &'a [u8],
+    sound: &Sound,
+    span: Span,
+) -> Result<Part<'a>, PartFault>
+    ensures project { IfOk result (λ part. part.project.now ≡ project.now) }
+    ensures found { IfOk result (λ part. (frames : PlayedFrames) × AreFramesOf project.now sound.now.rate sound.now.count frames
+        × ((marks : List MarkContent) → IsSpanOf frames sound.now.rate marks span part.start part.stop)) }
+    ensures refused { IfErr result IsPartRefused }
+{
+    let frames = frames_of(alloc, project, sound.rate, sound.count)?;
+    let (start, stop) = span_of(span, frames, sound.rate, &[])?;
+    Ok(Part {
+        project,
+        factor: frames.factor,
+        start,
+        stop,
+    })
+}
+
+// Whether a span names a mark.
+fn names_mark(span: Span) -> bool {
+    is_mark(span.from) || is_mark(span.to)
+}
+
+fn is_mark(place: Option<Place>) -> bool {
+    match place {
+        Some(Place::Mark(_)) => true,
+        _ => false,
+    }
 }
 
 // Plays a part of a file to one that was created, and keeps this one, or gives it up after a fault.
 fn play_part_to<F: Folder>(
     alloc: Global,
     folder: &mut F,
-    part: Part<'_>,
-    file: F::In,
+    found: FoundPart<'_, F::In>,
     output: &str,
     wave: F::Out,
 ) -> Result<u64, CommandFault>
-    ensures { (input : List ℕ) → IsGiven (F.view folder.old) input (F.In.remaining file)
-        → (IsTrue (F.view folder.old).is_told → F.Out.contents wave ≡ Some [])
-        → PlayedPartComesTo part.entry.project.now part.entry.start part.entry.stop input output.now (F.view folder.old) (F.view folder.new) result }
+    ensures { (input : List ℕ) → IsGiven (F.view folder.old) input (left_of F.In.remaining found.entry.opened)
+        → (IsTrue (F.view folder.old).is_known → F.Out.contents wave ≡ Some [])
+        → PlayedPartComesTo found.entry.part.project.now found.entry.part.start found.entry.part.stop input output.now (F.view folder.old) (F.view folder.new) result }
 {
-    let mut inlet = Inlet::new(file);
+    let FoundPart { part, opened } = found;
+    let (played, wave) = play_opened(alloc, folder, part, opened, wave);
+    let handed = hand_back(folder, output, &played, wave);
+    match played {
+        Ok(count) => match handed {
+            Ok(()) => Ok(count),
+            Err(_) => Err(CommandFault::WriteFailed),
+        },
+        Err(fault) => Err(CommandFault::Call(fault)),
+    }
+}
+
+// Plays a part of a file whose prefix was read to one that was created, and returns that one. The folder passes over
+// the sound that the part doesn't need.
+fn play_opened<F: Folder>(
+    alloc: Global,
+    folder: &F,
+    part: Part<'_>,
+    opened: OpenedFile<F::In>,
+    wave: F::Out,
+) -> (Result<u64, Fault>, F::Out)
+    ensures ok { IfOk result.0 (PlaysFile (left_of F.In.remaining opened) (PlaysPart part.entry.project.now part.entry.start part.entry.stop)
+        (F.Out.contents wave) (F.Out.contents result.1)) }
+    ensures some { IfOk result.0 (PlaysSome part.entry.project.now part.entry.start part.entry.stop) }
+    ensures cause { IfErr result.0 (PartOnlyFromOutside (left_of F.In.remaining opened) part.entry.project.now part.entry.start part.entry.stop) }
+    ensures prefix { OnErr result.0 (WritesPrefix (left_of F.In.remaining opened) (PlaysPart part.entry.project.now part.entry.start part.entry.stop)
+        (F.Out.contents wave) (F.Out.contents result.1)) }
+    ensures refused { IfErr result.0 (PartApplies (left_of F.In.remaining opened) part.entry.project.now part.entry.start part.entry.stop) }
+    ensures unwritten { IfErr result.0 (λ fault. FailsBeforeWriting fault → F.Out.contents result.1 ≡ F.Out.contents wave) }
+{
+    let OpenedFile {
+        sound,
+        prefix,
+        file,
+    } = opened;
+    let place = prefix.len() as u64;
+    let gaps = gaps_around(&sound, part.factor, part.start, part.stop);
+    let rest = GappedFile::new(folder, file, place, gaps);
+    play_reader(alloc, part, Cursor::new(prefix).chain(rest), wave)
+}
+
+// Plays a part of a reader's file to a writer, and returns that.
+fn play_reader<R: Read + Drop, W: Write>(
+    alloc: Global,
+    part: Part<'_>,
+    reader: R,
+    wave: W,
+) -> (Result<u64, Fault>, W)
+    ensures ok { IfOk result.0 (PlaysFile (R.remaining reader) (PlaysPart part.entry.project.now part.entry.start part.entry.stop)
+        (W.contents wave) (W.contents result.1)) }
+    // If the reader's bytes aren't known, the same holds of some bytes that were read.
+    ensures some { IfOk result.0 (PlaysSome part.entry.project.now part.entry.start part.entry.stop) }
+    ensures cause { IfErr result.0 (PartOnlyFromOutside (R.remaining reader) part.entry.project.now part.entry.start part.entry.stop) }
+    ensures prefix { OnErr result.0 (WritesPrefix (R.remaining reader) (PlaysPart part.entry.project.now part.entry.start part.entry.stop)
+        (W.contents wave) (W.contents result.1)) }
+    ensures refused { IfErr result.0 (PartApplies (R.remaining reader) part.entry.project.now part.entry.start part.entry.stop) }
+    ensures unwritten { IfErr result.0 (λ fault. FailsBeforeWriting fault → W.contents result.1 ≡ W.contents wave) }
+{
+    let mut inlet = Inlet::new(reader);
     let mut outlet = Outlet::new(wave);
     let played = play_part_stream(
         alloc,
@@ -135,12 +275,5 @@ fn play_part_to<F: Folder>(
         &mut inlet,
         &mut outlet,
     );
-    let handed = hand_back(folder, output, &played, outlet.into_inner());
-    match played {
-        Ok(count) => match handed {
-            Ok(()) => Ok(count),
-            Err(_) => Err(CommandFault::WriteFailed),
-        },
-        Err(fault) => Err(CommandFault::Call(fault)),
-    }
+    (played, outlet.into_inner())
 }

@@ -42,7 +42,7 @@ fn play_to<F: Folder>(
     wave: F::Out,
 ) -> Result<u64, CommandFault>
     ensures { (input : List ℕ) → IsGiven (F.view folder.old) input (F.In.remaining file)
-        → (IsTrue (F.view folder.old).is_told → F.Out.contents wave ≡ Some [])
+        → (IsTrue (F.view folder.old).is_known → F.Out.contents wave ≡ Some [])
         → PlayedComesTo project.now input output.now (F.view folder.old) (F.view folder.new) result }
 {
     let mut inlet = Inlet::new(file);

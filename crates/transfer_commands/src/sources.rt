@@ -24,8 +24,7 @@ pub struct Sources {
 }
 
 /// Reads the project, then the takes that it names, and keeps of them what the splice reads. A take's file is read in
-/// one pass, which doesn't hold its sound. If it holds no recording for a fault that this pass doesn't tell, it is opened
-/// again and read whole, so that the fault can be named.
+/// one pass, which doesn't hold its sound.
 pub fn source_excerpts<F: Folder>(
     alloc: Global,
     folder: &mut F,

@@ -3,7 +3,7 @@
 ghost use Rattle.std.specs.Prelude.{◌≡◌, ◌⊎◌, IfErr, IfOk, IfSome, Ok, Some};
 ghost use Rattle.transfer_commands.specs.Outlining.{IsUnread};
 ghost use Rattle.transfer_commands.specs.Summing.{IsMadeOf, IsSummedIn, IsSummedInSome, SumComesTo, SumsStream};
-ghost use Rattle.transfer_commands.specs.Reporting.{IsUntoldOf};
+ghost use Rattle.transfer_commands.specs.Reporting.{IsUnreportedOf};
 ghost use Rattle.transfer_commands.specs.declared.fault.CommandFault.TheVariants as faults;
 ghost use Rattle.transfer_commands.specs.declared.summing.Sums.{Sums as Made};
 
@@ -24,8 +24,8 @@ pub struct Sums {
     pub rate: u32,
     /// How many bits each channel has.
     pub count: usize,
-    /// For each channel the SHA-256 of its bits, packed eight to a byte, the earliest the most significant, with zeros in
-    /// the spare bits of the last byte.
+    /// For each channel the SHA-256 of its bits, packed eight to a byte, the earliest the most significant, with zeros
+    /// in the spare bits of the last byte.
     pub digests: Vec<[u8; 32]>,
 }
 
@@ -46,7 +46,7 @@ pub fn sum_file<F: Folder>(alloc: Global, folder: &mut F, file: &str) -> Result<
 
 // Why the bytes of a file hold no recording, or `ReadFailed` if they hold one.
 fn refusal_of(alloc: Global, file: &[u8]) -> CommandFault
-    ensures { (result ≡ faults.ReadFailed) ⊎ IsUntoldOf file.now result }
+    ensures { (result ≡ faults.ReadFailed) ⊎ IsUnreportedOf file.now result }
 {
     match read_any(alloc, file) {
         Ok(_) => CommandFault::ReadFailed,

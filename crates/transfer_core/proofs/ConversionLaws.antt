@@ -19,7 +19,7 @@ use Rattle.interleave_core.proofs.TakenLaws.{unlaced_count}
 use Rattle.sound_core.specs.declared.fault.StreamFault.{StreamFault}
 use Rattle.sound_core.specs.declared.fault.StreamFault.TheVariants as faults
 use Rattle.sound_core.specs.Outlines.{AreStated, HoldsIn, IsPlacedIn, Surroundings, with_sound}
-use Rattle.player_core.proofs.PieceLaws.{front_nil}
+use Rattle.player_core.proofs.PieceLaws.{prefix_nil}
 use Rattle.sound_core.specs.declared.relaying.NewFile.{NewFile}
 use Rattle.sound_core.specs.Relays.{IsRelayFault, Relays, RelaysPrefix, RelaysGiven, relayed}
 use Rattle.form_core.specs.declared.fault.ReadFault.{ReadFault}
@@ -28,7 +28,7 @@ use Rattle.form_core.specs.declared.form.Form.TheVariants as forms
 use Rattle.form_core.specs.declared.opening.Opened.{Opened}
 use Rattle.form_core.specs.Forms.{HoldsAs, dropped_in, form_in, text_in}
 use Rattle.form_core.specs.Opening.{opened_of}
-use Rattle.form_core.specs.Parts.{FitsIn, WrittenInParts, head_in, interleaving_in, tail_in}
+use Rattle.form_core.specs.Parts.{FitsIn, FormsWrittenInParts, head_in, interleaving_in, tail_in}
 use Rattle.form_core.proofs.OpeningLaws.{held_is_opened, holds_dsf}
 use Rattle.transfer_core.specs.Conversions.{ConversionApplies, ConvertsReader, ConvertsPrefix, ConvertsGiven}
 use Rattle.transfer_core.specs.Converting.{Converts}
@@ -50,7 +50,7 @@ held : (interleaving : Interleaving) (file : List ℕ) (r : Content) → HoldsIn
 held Bytes file r is = is
 held (Blocks order) file r is = holds_dsf file r order is
 
--- ---- what is dropped stands beside the channels
+-- ---- what is dropped is not in the channels
 dropped_beside : (form : Form) (o : Surroundings) (sound : List ℕ) → dropped_in form (described o.recording) ≡ dropped_in form (described (with_sound o.recording o.sound sound))
 dropped_beside forms.Dsdiff o sound = refl
 dropped_beside forms.Dsf o sound = refl
@@ -68,15 +68,15 @@ one_text file bytes-1 bytes-2 form dropped-1 dropped-2 a b =
     let same : a.recording ≡ b.recording = same_recording (opened_of file) (record { form = a.source; recording = a.recording }) (record { form = b.source; recording = b.recording }) (held_is_opened file a.source a.recording a.file_holds) (held_is_opened file b.source b.recording b.file_holds) in
     same_bytes (text_in form a.recording) bytes-1 bytes-2 a.text (ap (text_in form) same ∙ b.text)
 
--- ---- a target that stands for the ends of a form
-module _ (laws : WrittenInParts) (o : Surroundings) (told : AreStated o) (form : Form) (fits : FitsIn form o.sound.count) (target : NewFile) (interleaving : target.interleaving ≡ interleaving_in form) (head : target.head.now ≡ head_in form o.recording o.sound.count) (tail : target.tail.now ≡ tail_in form o.recording o.sound.count) where
+-- ---- the target of the ends of a form
+module _ (laws : FormsWrittenInParts) (o : Surroundings) (reported : AreStated o) (form : Form) (fits : FitsIn form o.sound.count) (target : NewFile) (interleaving : target.interleaving ≡ interleaving_in form) (head : target.head.now ≡ head_in form o.recording o.sound.count) (tail : target.tail.now ≡ tail_in form o.recording o.sound.count) where
   -- what is relayed is what is written for the recording
   text : (sound : List ℕ) → length sound ≡ o.sound.size → text_in form (with_sound o.recording o.sound sound) ≡ Some (relayed target o.sound sound)
   text sound long =
       let s = o.sound in
       let channels = sound_channels s.interleaving s.channels s.count sound in
-      let count : count_of channels ≡ s.count = channel_count s.interleaving s.channels s.count sound told.is_sound.some_channel told.whole (long ∙ told.is_sound.size) in
-      let number : length o.recording.channels ≡ length channels = ap length told.silent ∙ length-replicate s.channels [] ∙ sym (channel_number s.interleaving s.channels s.count sound) in
+      let count : count_of channels ≡ s.count = channel_count s.interleaving s.channels s.count sound reported.is_sound.some_channel reported.whole (long ∙ reported.is_sound.size) in
+      let number : length o.recording.channels ≡ length channels = ap length reported.silent ∙ length-replicate s.channels [] ∙ sym (channel_number s.interleaving s.channels s.count sound) in
       let parts = subst (λ n. text_in form (with_sound o.recording s sound) ≡ Some (head_in form o.recording n ++ (laced_in (interleaving_in form) channels ++ tail_in form o.recording n))) count (laws form o.recording channels number (subst (FitsIn form) (sym count) fits)) in
       rw (interleaving, head, tail) parts
 
@@ -84,7 +84,7 @@ module _ (laws : WrittenInParts) (o : Surroundings) (told : AreStated o) (form :
   converts file sound stands = record {
     source = form_in o.sound.interleaving;
     recording = with_sound o.recording o.sound sound;
-    file_holds = held o.sound.interleaving file (with_sound o.recording o.sound sound) (told.holds file sound stands);
+    file_holds = held o.sound.interleaving file (with_sound o.recording o.sound sound) (reported.holds file sound stands);
     text = text sound stands.sound_long;
     dropped_is = dropped_beside form o sound;
   }
@@ -96,24 +96,24 @@ module _ (laws : WrittenInParts) (o : Surroundings) (told : AreStated o) (form :
   pub converts_given : {R : Type 0} (left : R → Option (List ℕ)) (i j : Inlet R) (a b : Option (List ℕ)) → RelaysGiven left i j target o a b → ConvertsGiven left i j form a b (dropped_in form (described o.recording))
   converts_given left i j a b h = (h.0, relayed target o.sound h.1, h.2, converts h.0 h.1 h.3, h.4)
 
-  pub converts_front : (left a b : Option (List ℕ)) (f : StreamFault) → RelaysPrefix left target o a b f → ConvertsPrefix left o form a b
-  converts_front None a b f h = tt
-  converts_front (Some file) a b f h = λ around bytes dropped is.
+  pub converts_prefix : (left a b : Option (List ℕ)) (f : StreamFault) → RelaysPrefix left target o a b f → ConvertsPrefix left o form a b
+  converts_prefix None a b f h = tt
+  converts_prefix (Some file) a b f h = λ around bytes dropped is.
       let out = h around.0 around.1 in
       subst (λ xs. AppendsPrefix a b xs) (one_text file (relayed target o.sound around.0) bytes form (dropped_in form (described o.recording)) dropped (converts file around.0 around.1) is) (out.0, out.1, out.2, out.4)
 
 pub nothing_converted : (left : Option (List ℕ)) (o : Surroundings) (form : Form) (a : Option (List ℕ)) → ConvertsPrefix left o form a a
 nothing_converted None o form a = tt
-nothing_converted (Some file) o form a = λ around bytes dropped is. front_nil a bytes
+nothing_converted (Some file) o form a = λ around bytes dropped is. prefix_nil a bytes
 
--- ---- a fault stands
+-- ---- a fault that applies
 pub ends_stand : (left : Option (List ℕ)) (o : Surroundings) (form : Form) (w : WriteFault) → (w ≡ writes.NotWholeBytes → FitsIn form o.sound.count → ⊥) → ConversionApplies left o form (fault_of_writing w)
 ends_stand left o form writes.NotWholeBytes h = h refl
 ends_stand left o form writes.Memory h = (faults.Memory, refl, tt)
 
-pub relay_stands : (left : Option (List ℕ)) (o : Surroundings) (form : Form) (f : StreamFault) → IsRelayFault left o f → ConversionApplies left o form (fault_of_stream f)
-relay_stands left o form faults.Memory h = (faults.Memory, refl, h)
-relay_stands left o form f h = (f, refl, h)
+pub relay_holds : (left : Option (List ℕ)) (o : Surroundings) (form : Form) (f : StreamFault) → IsRelayFault left o f → ConversionApplies left o form (fault_of_stream f)
+relay_holds left o form faults.Memory h = (faults.Memory, refl, h)
+relay_holds left o form f h = (f, refl, h)
 
 -- ---- a fault under its name here
 pub writing_stream : {X : Type 0} (w : WriteFault) → as_stream {X = X} (Err (fault_of_writing w)) ≡ Err faults.Memory

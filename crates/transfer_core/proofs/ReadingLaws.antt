@@ -1,4 +1,4 @@
--- Whatever the relations of the calls say is what their readings in order come to.
+-- The relations of the calls say what their readings in order come to.
 use Rattle.std.proofs.Common.{◌≡◌, ℕ, ◌%◌, List, None, Option, Some, IsErrOf, Ok, Err, inl, inr, option_map, Vec, Global, refl}
 use Rattle.std.specs.Option.{ok_or}
 use Rattle.std.proofs.lemmas.Bool.{ne_eqb}
@@ -23,7 +23,7 @@ use Rattle.form_core.specs.declared.fault.ReadFault.{ReadFault}
 use Rattle.form_core.specs.declared.fault.ReadFault.TheVariants as reads
 use Rattle.form_core.specs.declared.opening.Opened.{Opened}
 use Rattle.form_core.specs.Opening.{Opens, opened_of}
-use Rattle.form_core.specs.Steps.{Fails, Gives}
+use Rattle.form_core.specs.Steps.{FailsUnless, GivesUnless}
 use Rattle.form_core.proofs.OpeningLaws.{held_is_opened}
 use Rattle.transfer_core.specs.declared.fault.Fault.{Fault}
 use Rattle.transfer_core.specs.declared.fault.Fault.TheVariants.{Memory, NoSplice, Stream}
@@ -31,14 +31,14 @@ use Rattle.transfer_core.specs.Converting.{converted_of}
 use Rattle.transfer_core.specs.Faults.{fault_of_file, fault_of_wave, fault_of_writing}
 use Rattle.transfer_core.specs.Laws.{ConvertsInOrder, PlaysInOrder, SaysTakesInOrder}
 use Rattle.transfer_core.specs.Playing.{played_of}
-use Rattle.transfer_core.specs.Projects.{SaysDecimator, SaysSplice, decimator_of, splice_of, take_names_of}
+use Rattle.transfer_core.specs.Projects.{SaysDecimator, SaysSplice, decimator_of_text, splice_of_text, take_names_of}
 
 pub converts : ConvertsInOrder
 unfolding converted_of
 converts = λ file form bytes dropped is. rw (held_is_opened file is.source is.recording is.file_holds, is.text, is.dropped_is) refl
 
-pub says_decimator : (text : List ℕ) (d : Decimator) → SaysDecimator text d → decimator_of text ≡ Ok d
-unfolding decimator_of
+pub says_decimator : (text : List ℕ) (d : Decimator) → SaysDecimator text d → decimator_of_text text ≡ Ok d
+unfolding decimator_of_text
 says_decimator text d is = rw (project_again text is.project is.says, is.has) refl
 
 pub plays : PlaysInOrder
@@ -46,22 +46,22 @@ unfolding played_of
 plays = λ project file bytes is. rw (says_decimator project is.decimator is.project_says, held_is_opened file is.form is.recording is.file_holds, is.rate_divided, is.text) refl
 
 pub says_takes : SaysTakesInOrder
-unfolding take_names_of splice_of
+unfolding take_names_of splice_of_text
 says_takes = λ text names is. rw (project_again text is.says.project is.says.says, is.says.has, is.names_are) refl
 
-pub says_splice : (text : List ℕ) (s : SpliceContent) → SaysSplice text s → splice_of text ≡ Ok s
-unfolding splice_of
+pub says_splice : (text : List ℕ) (s : SpliceContent) → SaysSplice text s → splice_of_text text ≡ Ok s
+unfolding splice_of_text
 says_splice text s is = rw (project_again text is.project is.says, is.has) refl
 
 -- the splice of a project that was read, or that it has none
-pub splice_given : (text : List ℕ) (p : ProjectContent) → project_at text ≡ Ok p → (s : Option Splice) → p.splice ≡ option_map splice_content s → Gives Memory splice_content (ok_or s NoSplice) (splice_of text)
-unfolding splice_of
+pub splice_given : (text : List ℕ) (p : ProjectContent) → project_at text ≡ Ok p → (s : Option Splice) → p.splice ≡ option_map splice_content s → GivesUnless Memory splice_content (ok_or s NoSplice) (splice_of_text text)
+unfolding splice_of_text
 splice_given text p read None is = inr (rw (read, is) refl)
 splice_given text p read (Some s) is = rw (read, is) refl
 
 -- ---- what is converted, or the first fault
 module _ (file : List ℕ) (form : Form) where
-  pub file_unread : (e : ReadFault) → Opens (Err e) (opened_of file) → Fails Memory (fault_of_file e) (converted_of file form)
+  pub file_unread : (e : ReadFault) → Opens (Err e) (opened_of file) → FailsUnless Memory (fault_of_file e) (converted_of file form)
   unfolding converted_of
   file_unread reads.Memory is = inl refl
   file_unread reads.UnknownForm is = inr (rw is refl)
@@ -69,7 +69,7 @@ module _ (file : List ℕ) (form : Form) where
   file_unread (reads.Dsf e) is = inr (rw is refl)
 
   module _ (o : Opened) (holds : opened_of file ≡ Ok o) where
-    pub file_unwritten : (e : WriteFault) → IsWriteFault form o.recording e → Fails Memory (fault_of_writing e) (converted_of file form)
+    pub file_unwritten : (e : WriteFault) → IsWriteFault form o.recording e → FailsUnless Memory (fault_of_writing e) (converted_of file form)
     unfolding converted_of
     file_unwritten writes.NotWholeBytes is = inr (rw (holds, is) refl)
     file_unwritten writes.Memory is = inl refl
@@ -80,13 +80,13 @@ module _ (file : List ℕ) (form : Form) where
 
 -- ---- what is played, or the first fault
 module _ (project file : List ℕ) where
-  pub project_refused : (e : Fault) → Fails Memory e (decimator_of project) → Fails Memory e (played_of project file)
+  pub project_refused : (e : Fault) → FailsUnless Memory e (decimator_of_text project) → FailsUnless Memory e (played_of project file)
   unfolding played_of
   project_refused e (inl is) = inl is
   project_refused e (inr is) = inr (rw is refl)
 
-  module _ (d : Decimator) (said : decimator_of project ≡ Ok d) where
-    pub file_refused : (e : ReadFault) → Opens (Err e) (opened_of file) → Fails Memory (fault_of_file e) (played_of project file)
+  module _ (d : Decimator) (said : decimator_of_text project ≡ Ok d) where
+    pub file_refused : (e : ReadFault) → Opens (Err e) (opened_of file) → FailsUnless Memory (fault_of_file e) (played_of project file)
     unfolding played_of
     file_refused reads.Memory is = inl refl
     file_refused reads.UnknownForm is = inr (rw (said, is) refl)
@@ -99,7 +99,7 @@ module _ (project file : List ℕ) where
       rate_not_divided h = rw (said, holds, ne_eqb (o.recording.rate % d.factor) 0 h) refl
 
       module _ (divided : o.recording.rate % d.factor ≡ 0) where
-        pub samples_refused : (e : WaveFault) → (IsErrOf {T = Vec ℕ Global} (Err e) waves.TooLarge → wave_text (pcm o.recording d) ≡ None) → Fails Memory (fault_of_wave e) (played_of project file)
+        pub samples_refused : (e : WaveFault) → (IsErrOf {T = Vec ℕ Global} (Err e) waves.TooLarge → wave_text (pcm o.recording d) ≡ None) → FailsUnless Memory (fault_of_wave e) (played_of project file)
         unfolding played_of
         samples_refused waves.TooLarge h = inr (rw (said, holds, divided, h refl) refl)
         samples_refused waves.Memory h = inl refl

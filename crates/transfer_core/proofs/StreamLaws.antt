@@ -22,9 +22,9 @@ use Rattle.transfer_core.specs.declared.fault.Fault.{Fault}
 use Rattle.transfer_core.specs.declared.fault.Fault.TheVariants as fault
 use Rattle.transfer_core.specs.Faults.{OfStream, as_stream, fault_of_stream}
 use Rattle.transfer_core.specs.Playing.{Plays}
-use Rattle.transfer_core.specs.Projects.{IsOfDecimator, SaysDecimator, decimator_of}
+use Rattle.transfer_core.specs.Projects.{IsOfDecimator, SaysDecimator, decimator_of_text}
 use Rattle.transfer_core.proofs.ReadingLaws.{says_decimator}
-use Rattle.transfer_core.specs.Streaming.{IsBeforeWriting, KeepsUp, OnlyFromOutside, StreamApplies}
+use Rattle.transfer_core.specs.Streaming.{FailsBeforeWriting, KeepsUp, OnlyFromOutside, StreamApplies}
 
 -- what is returned for a fault
 pub fault_is : {X E : Type 0} (r : Result X E) (f : E) → IsErrAnd r (λ g. g ≡ f) → r ≡ Err f
@@ -68,7 +68,7 @@ module _ (project : List ℕ) (d : Decimator) (says : SaysDecimator project d) w
   stands (Some file) f h = inr (f, refl, (d, says, h))
 
 -- ---- of the one decimator that a project says
-module _ (project : List ℕ) (d : Decimator) (is_said : decimator_of project ≡ Ok d) where
+module _ (project : List ℕ) (d : Decimator) (is_said : decimator_of_text project ≡ Ok d) where
   played : (file bytes : List ℕ) → Plays project file bytes → PlaysBy d file bytes
   played file bytes is =
       let said = says_decimator project is.decimator is.project_says in
@@ -80,21 +80,21 @@ module _ (project : List ℕ) (d : Decimator) (is_said : decimator_of project �
         text = is.text;
       })
 
-  pub only_outside : (left : Option (List ℕ)) (f : StreamFault) → streams.OnlyFromOutside left d f → OnlyFromOutside left project (fault_of_stream f)
+  pub only_outside : (left : Option (List ℕ)) (f : StreamFault) → streams.OnlyFromOutsideBy left d f → OnlyFromOutside left project (fault_of_stream f)
   only_outside None f h = tt
   only_outside (Some file) f h = λ bytes is. (f, refl, h bytes (played file bytes is))
 
-  pub writes_front : (left a b : Option (List ℕ)) → WritesPrefix left (PlaysBy d) a b → WritesPrefix left (Plays project) a b
-  writes_front None a b h = tt
-  writes_front (Some file) a b h = λ bytes is. h bytes (played file bytes is)
+  pub writes_prefix : (left a b : Option (List ℕ)) → WritesPrefix left (PlaysBy d) a b → WritesPrefix left (Plays project) a b
+  writes_prefix None a b h = tt
+  writes_prefix (Some file) a b h = λ bytes is. h bytes (played file bytes is)
 
   -- the one that the file plays by
   same_decimator : (file bytes : List ℕ) (is : Plays project file bytes) → d ≡ is.decimator
   same_decimator file bytes is = let said = says_decimator project is.decimator is.project_says in cc
 
-  pub keeps_up : (left a b : Option (List ℕ)) (n : ℕ) → pace.KeepsUp left d [] n a b → KeepsUp left project n a b
+  pub keeps_up : (left a b : Option (List ℕ)) (n : ℕ) → pace.KeepsUpBy left d [] n a b → KeepsUp left project n a b
   keeps_up None a b n h = tt
-  keeps_up (Some file) a b n h = λ bytes s is told much. subst (λ e. WritesFrames e s (sound_given s n - 131072) bytes a b) (same_decimator file bytes is) (h bytes s (played file bytes is) told much)
+  keeps_up (Some file) a b n h = λ bytes s is reported much. subst (λ e. WritesFrames e s (sound_given s n - 131072) bytes a b) (same_decimator file bytes is) (h bytes s (played file bytes is) reported much)
 
 -- an answer is no fault
 pub answered : {X : Type 0} (x : X) (f : Fault) → IsErrOf {T = X} (Ok x) f → ⊥
@@ -114,12 +114,12 @@ stream_turns f is = sym (same_stream f) ∙ ap as_stream is
 pub of_stream : (P : StreamFault → Type 0) (f : StreamFault) → OfStream P (fault_of_stream f) → P f
 of_stream P f h = subst P (one_fault f h.0 h.1) h.2
 
-pub before_writing : (f : StreamFault) → IsBeforeWriting (fault_of_stream f) → reading.IsBeforeWriting f
+pub before_writing : (f : StreamFault) → FailsBeforeWriting (fault_of_stream f) → reading.IsBeforeWriting f
 before_writing faults.Memory h = of_stream reading.IsBeforeWriting faults.Memory h
 before_writing f h = of_stream reading.IsBeforeWriting f h
 
 -- ---- a project that is refused
-pub project_outside : (left : Option (List ℕ)) (project : List ℕ) (e : Fault) → (e ≡ fault.Memory) ⊎ (decimator_of project ≡ Err e) → OnlyFromOutside left project e
+pub project_outside : (left : Option (List ℕ)) (project : List ℕ) (e : Fault) → (e ≡ fault.Memory) ⊎ (decimator_of_text project ≡ Err e) → OnlyFromOutside left project e
 project_outside None project e h = tt
 project_outside (Some file) project e (inl is) = λ bytes plays. (faults.Memory, is, tt)
 project_outside (Some file) project e (inr is) = λ bytes plays. let says = says_decimator project plays.decimator plays.project_says in absurd cc
@@ -129,7 +129,7 @@ stops_elsewhere faults.ReadFailed stop is = is
 stops_elsewhere faults.TurnLimit stop is = is
 stops_elsewhere f stop is = stop
 
--- it stops no reading, and counts no device
+-- it stops no reading, and counts no device's failure
 pub project_keeps_up : (left a b : Option (List ℕ)) (project : List ℕ) (n : ℕ) (e : Fault) → IsOfDecimator e → OfStream reading.StopsReading e → KeepsUp left project n a b
 project_keeps_up left a b project n e is stop = absurd (stops_elsewhere stop.0 stop.2 (subst IsOfDecimator stop.1 is))
 

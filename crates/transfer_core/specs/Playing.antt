@@ -13,10 +13,11 @@ use Rattle.sound_core.specs.declared.fault.StreamFault.TheVariants.{RateNotDivid
 use Rattle.transfer_core.specs.declared.fault.Fault.{Fault}
 use Rattle.transfer_core.specs.declared.fault.Fault.TheVariants.{Stream}
 use Rattle.transfer_core.specs.Faults.{fault_of_file}
-use Rattle.transfer_core.specs.Projects.{SaysDecimator, decimator_of}
+use Rattle.transfer_core.specs.Projects.{SaysDecimator, decimator_of_text}
 use Rattle.form_core.specs.Steps.{map_err}
 
--- the project's text says a decimator, the file holds a recording, the factor divides its rate, and these bytes are the WAVE text of its samples
+-- the project's text says a decimator, the file holds a recording, the factor divides its rate, and these bytes are the
+-- WAVE text of its samples
 pub record Plays (project file bytes : List ℕ) : Type 0 where
   pub decimator : Decimator
   pub form : Form
@@ -29,6 +30,6 @@ pub record Plays (project file bytes : List ℕ) : Type 0 where
 -- the bytes that project and file play, or the first fault: project, its decimator, file, rate, size
 unfoldable pub played_of : List ℕ → List ℕ → Result (List ℕ) Fault
 played_of project file = do
-  d ← decimator_of project
+  d ← decimator_of_text project
   opened ← map_err fault_of_file (opened_of file)
   if nat_eq (opened.recording.rate % d.factor) 0 then ok_or (wave_text (pcm opened.recording d)) (Stream TooLarge) else Err (Stream RateNotDivided)

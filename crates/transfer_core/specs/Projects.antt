@@ -33,21 +33,21 @@ pub record SaysTakes (text : List ℕ) (names : List (List ℕ)) : Type 0 where
   pub names_are : names ≡ splice.takes
 
 -- the decimator of a text, or the first fault: project, its decimator
-unfoldable pub decimator_of : List ℕ → Result Decimator Fault
-decimator_of text = do
+unfoldable pub decimator_of_text : List ℕ → Result Decimator Fault
+decimator_of_text text = do
   project ← map_err fault_of_project (project_at text)
   ok_or project.decimate NoDecimation
 
 -- the splice of a text, or the first fault: project, its splice
-unfoldable pub splice_of : List ℕ → Result SpliceContent Fault
-splice_of text = do
+unfoldable pub splice_of_text : List ℕ → Result SpliceContent Fault
+splice_of_text text = do
   project ← map_err fault_of_project (project_at text)
   ok_or project.splice NoSplice
 
 -- the names of the takes of a text, or the first fault: project, its splice
 unfoldable pub take_names_of : List ℕ → Result (List (List ℕ)) Fault
 take_names_of text = do
-  splice ← splice_of text
+  splice ← splice_of_text text
   Ok splice.takes
 
 -- a fault of a project and its decimator

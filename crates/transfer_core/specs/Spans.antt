@@ -4,7 +4,7 @@ use Rattle.std.specs.Int.{div_ceil}
 use Rattle.dsd_bits.specs.Contents.{MarkContent}
 use Rattle.dsdiff_core.specs.MarkPlaces.{place_of}
 use Rattle.fir_core.specs.Decimator.{Decimator}
-use Rattle.form_core.specs.Steps.{Fails}
+use Rattle.form_core.specs.Steps.{FailsUnless}
 use Rattle.sound_core.specs.declared.fault.StreamFault.TheVariants.{RateNotDivided}
 use Rattle.transfer_core.specs.declared.fault.Fault.{Fault}
 use Rattle.transfer_core.specs.declared.fault.Fault.TheVariants.{Memory, Stream}
@@ -14,7 +14,7 @@ use Rattle.transfer_core.specs.declared.frames.PlayedFrames.{PlayedFrames}
 use Rattle.transfer_core.specs.declared.spans.Span.{Span}
 use Rattle.transfer_core.specs.declared.spans.SpanFault.{SpanFault}
 use Rattle.transfer_core.specs.declared.spans.SpanFault.TheVariants.{NoMark, PartOutside, PartReversed}
-use Rattle.transfer_core.specs.Projects.{SaysDecimator, decimator_of}
+use Rattle.transfer_core.specs.Projects.{SaysDecimator, decimator_of_text}
 
 -- the frames that a project plays of so many bits a channel at a rate, which its factor divides
 pub record AreFramesOf (project : List ℕ) (rate count : ℕ) (f : PlayedFrames) : Type 0 where
@@ -27,7 +27,7 @@ pub record AreFramesOf (project : List ℕ) (rate count : ℕ) (f : PlayedFrames
 
 -- none are played: the fault is the first of the project and its decimator, or the factor does not divide the rate
 abbrev pub FramesRefused : List ℕ → ℕ → Fault → Type 0
-FramesRefused project rate fault = Fails Memory fault (decimator_of project) ⊎ ((d : Decimator) × SaysDecimator project d × (rate % d.factor ≢ 0) × (fault ≡ Stream RateNotDivided))
+FramesRefused project rate fault = FailsUnless Memory fault (decimator_of_text project) ⊎ ((d : Decimator) × SaysDecimator project d × (rate % d.factor ≢ 0) × (fault ≡ Stream RateNotDivided))
 
 -- a place before the recording is its beginning
 abbrev pub from_start : ℤ → ℕ
@@ -51,7 +51,8 @@ abbrev pub IsFrameOr : PlayedFrames → ℕ → List MarkContent → ℕ → Opt
 IsFrameOr f rate marks usual (Some place) frame = IsFrameAt f rate marks place frame
 IsFrameOr f rate marks usual None frame = frame ≡ usual
 
--- the frames from one on, up to another that is not among them, are those between the span's places, and lie in the recording
+-- the frames from one on, up to another that is not among them, are those between the span's places, and lie in the
+-- recording
 pub record IsSpanOf (f : PlayedFrames) (rate : ℕ) (marks : List MarkContent) (span : Span) (start stop : ℕ) : Type 0 where
   pub starts : IsFrameOr f rate marks 0 span.from start
   pub stops : IsFrameOr f rate marks f.count span.to stop
@@ -68,7 +69,8 @@ abbrev pub IsNoMarkIn : List MarkContent → Option Place → Type 0
 IsNoMarkIn marks (Some place) = IsNoMark marks place
 IsNoMarkIn marks None = ⊥
 
--- why there is no such part: a mark that isn't there, a place behind the recording's end, or an end before the beginning
+-- why there is no such part: a mark that isn't there, a place behind the recording's end, or an end before the
+-- beginning
 abbrev pub SpanRefused : PlayedFrames → ℕ → List MarkContent → Span → SpanFault → Type 0
 SpanRefused f rate marks span NoMark = IsNoMarkIn marks span.from ⊎ IsNoMarkIn marks span.to
 SpanRefused f rate marks span PartOutside = (start : ℕ) × (stop : ℕ) × HaveFrames f rate marks span start stop × ((f.count < start) ⊎ (f.count < stop))

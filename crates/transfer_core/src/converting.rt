@@ -1,12 +1,13 @@
 //! Converts a recording from one form to another: in memory, or from a reader to a writer.
 
 ghost use Rattle.std.specs.Prelude.{◌≡◌, ◌⊎◌, ◌+◌, ◌-◌, ◌<◌, ◌≤◌, ◌^◌, Err, IfErr, IfOk, IsErrOf, OnErr};
-ghost use Rattle.chunk_core.specs.Inlets.{inlet_failures, inlet_given, inlet_reader, inlet_reads};
+ghost use Rattle.chunk_core.specs.Inlets.{inlet_failures, inlet_reader, inlet_reads};
 ghost use Rattle.chunk_core.specs.Outlets.{outlet_failures, outlet_writer};
 ghost use Rattle.sound_core.specs.Faults.{failed_reads, failed_writes};
 ghost use Rattle.sound_core.specs.Outlines.{AreStated, around_of};
+ghost use Rattle.sound_core.specs.Readers.{CanFail, RunsOut};
 ghost use Rattle.form_core.specs.Parts.{FitsIn};
-ghost use Rattle.form_core.specs.Steps.{Gives};
+ghost use Rattle.form_core.specs.Steps.{GivesUnless};
 ghost use Rattle.transfer_core.specs.Conversions.{ConversionApplies, ConvertsReader, ConvertsPrefix, ConvertsGiven};
 ghost use Rattle.transfer_core.specs.Converting.{IsConverted, IsKept, contents, converted_of};
 ghost use Rattle.transfer_core.specs.Faults.{as_stream};
@@ -40,7 +41,7 @@ pub fn convert(alloc: Global, file: &[u8], form: Form) -> Result<Converted, Faul
     // It holds the same sound again.
     ensures kept { IfOk result (IsKept file.now form) }
     // The answer or the fault is what reading in order ends with, unless memory runs out.
-    ensures exact { Gives Fault.Memory contents result (converted_of file.now form) }
+    ensures exact { GivesUnless Fault.Memory contents result (converted_of file.now form) }
 {
     let opened = read_any(alloc, file)?;
     let bytes = write_in(alloc, &opened.recording, form)?;
@@ -56,8 +57,8 @@ pub fn convert(alloc: Global, file: &[u8], form: Form) -> Result<Converted, Faul
 /// Refusals: `NotWholeBytes` if `form` is DSDIFF and the number of bits of each channel isn't a multiple of 8, before
 /// the first read and the first write; `FileRefused` if the file is no sound in the outline, for example because it was
 /// changed since; `ReadFailed`, `WriteFailed`, `Memory`; `TurnLimit` after `2^40` reads, or at once if the inlet had
-/// counted `2^63` reads or bytes. There are never more reads, whatever is returned. What was written then is a prefix of
-/// what a file of the outline is converted to.
+/// counted `2^63` reads or bytes, or inlet or outlet as many failures as they can. There are never more reads, whatever
+/// is returned. What was written then is a prefix of what a file of the outline is converted to.
 pub fn convert_stream<R: Read, W: Write>(
     alloc: Global,
     outline: &Outline,
@@ -65,9 +66,7 @@ pub fn convert_stream<R: Read, W: Write>(
     inlet: &mut Inlet<R>,
     outlet: &mut Outlet<W>,
 ) -> Result<u64, Fault>
-    requires told { AreStated (around_of outline.now) }
-    requires inlet_ready { inlet_failures inlet.old < 2 ^ 64 - 1 }
-    requires outlet_ready { outlet_failures outlet.old < 2 ^ 64 - 1 }
+    requires reported { AreStated (around_of outline.now) }
     // What the reader's file is converted to was written, however its bytes are split into reads.
     ensures ok { IfOk result (ConvertsReader (R.remaining (inlet_reader inlet.old)) form
         (W.contents (outlet_writer outlet.old)) (W.contents (outlet_writer outlet.new))) }
@@ -75,7 +74,7 @@ pub fn convert_stream<R: Read, W: Write>(
     ensures any_reader { IfOk result (ConvertsGiven R.remaining inlet.old inlet.new form
         (W.contents (outlet_writer outlet.old)) (W.contents (outlet_writer outlet.new))) }
     // If it is refused, a prefix was written.
-    ensures front { OnErr result (ConvertsPrefix (R.remaining (inlet_reader inlet.old)) (around_of outline.now) form
+    ensures prefix { OnErr result (ConvertsPrefix (R.remaining (inlet_reader inlet.old)) (around_of outline.now) form
         (W.contents (outlet_writer outlet.old)) (W.contents (outlet_writer outlet.new))) }
     // A fault that is returned is true.
     ensures refused { IfErr result (ConversionApplies (R.remaining (inlet_reader inlet.old))
@@ -86,8 +85,8 @@ pub fn convert_stream<R: Read, W: Write>(
         ≡ outlet_failures outlet.old + failed_writes (as_stream result) }
     // Whatever is returned, there were at most 2^40 reads.
     ensures reads { inlet_reads inlet.new ≤ inlet_reads inlet.old + 2 ^ 40 }
-    ensures turn_limit { IsErrOf result (Fault.Stream StreamFault.TurnLimit) → (2 ^ 63 ≤ inlet_reads inlet.old)
-        ⊎ ((2 ^ 63 ≤ inlet_given inlet.old) ⊎ (inlet_reads inlet.new ≡ inlet_reads inlet.old + 2 ^ 40)) }
+    ensures turn_limit { IsErrOf result (Fault.Stream StreamFault.TurnLimit)
+        → (CanFail outlet.old → ⊥) ⊎ RunsOut inlet.old inlet.new }
     // What is refused before the first read and the first write.
     ensures unread { IsErrOf result Fault.NotWholeBytes → inlet_reads inlet.new ≡ inlet_reads inlet.old }
     ensures unwritten { IsErrOf result Fault.NotWholeBytes → outlet_writer outlet.new ≡ outlet_writer outlet.old }

@@ -1,13 +1,14 @@
 //! Makes a WAVE file of a project and a file: in memory, or from a reader to a writer.
 
-ghost use Rattle.std.specs.Prelude.{◌≡◌, ℕ, ◌+◌, ◌-◌, ◌<◌, ◌≤◌, ◌^◌, List, IfErr, IfOk, IsErrOf, OnErr};
+ghost use Rattle.std.specs.Prelude.{◌≡◌, ◌⊎◌, ℕ, ◌+◌, ◌-◌, ◌<◌, ◌≤◌, ◌^◌, List, IfErr, IfOk, IsErrOf, OnErr};
 ghost use Rattle.chunk_core.specs.Inlets.{inlet_failures, inlet_given, inlet_reader, inlet_reads};
 ghost use Rattle.chunk_core.specs.Outlets.{outlet_failures, outlet_writer};
 ghost use Rattle.sound_core.specs.Faults.{StopsReading, failed_reads, failed_writes};
+ghost use Rattle.sound_core.specs.Readers.{CanFail, RunsOut};
 ghost use Rattle.transfer_core.specs.Faults.{OfStream, as_stream};
 ghost use Rattle.transfer_core.specs.Playing.{Plays, played_of};
-ghost use Rattle.form_core.specs.Steps.{Gives};
-ghost use Rattle.transfer_core.specs.Streaming.{IsBeforeWriting, KeepsUp, OnlyFromOutside, SaysNone, StreamApplies};
+ghost use Rattle.form_core.specs.Steps.{GivesUnless};
+ghost use Rattle.transfer_core.specs.Streaming.{FailsBeforeWriting, KeepsUp, OnlyFromOutside, SaysNone, StreamApplies};
 ghost use Rattle.player_core.specs.Playing.{PlaysFile, PlaysGiven, WritesPrefix};
 
 use crate::fault::Fault;
@@ -29,7 +30,7 @@ pub fn play(alloc: Global, project: &[u8], file: &[u8]) -> Result<Vec<u8>, Fault
     // What is returned is the WAVE text of the samples of the stored bits.
     ensures found { IfOk result (λ bytes. Plays project.now file.now bytes.items) }
     // The answer or the fault is what reading in order ends with, unless memory runs out.
-    ensures exact { Gives Fault.Memory (λ bytes. bytes.items) result (played_of project.now file.now) }
+    ensures exact { GivesUnless Fault.Memory (λ bytes. bytes.items) result (played_of project.now file.now) }
 {
     let taps = decimator_of(alloc, project)?;
     let Opened { recording, .. } = read_any(alloc, file)?;
@@ -44,15 +45,14 @@ pub fn play(alloc: Global, project: &[u8], file: &[u8]) -> Result<Vec<u8>, Fault
 /// bytes and one group of the channels' blocks. What precedes the sound is held whole, and so is what follows it in a
 /// DSDIFF form, or the tag of a DSF file. The reading may stop at a DSDIFF form's end.
 ///
-/// At entry the inlet must have counted fewer than `2^63` reads and bytes.
-///
 /// Refusals:
 ///
 /// - `Project`, `NoDecimation`, before the first read;
 /// - `FileRefused` if the bytes are neither a DSDIFF nor a DSF file that holds a recording;
 /// - `RateNotDivided`, `TooLarge`, before the first write;
 /// - `ReadFailed`, `WriteFailed`;
-/// - `TurnLimit` after `2^40` reads; there are never more, whatever is returned;
+/// - `TurnLimit` after `2^40` reads (there are never more, whatever is returned), or at once if the inlet had counted
+///   `2^63` reads or bytes, or inlet or outlet as many failures as they can;
 /// - `Memory`.
 ///
 /// If several apply, any of them may be returned. A file that [`play`] plays is never refused because of the file.
@@ -66,10 +66,6 @@ pub fn play_stream<R: Read, W: Write>(
     inlet: &mut Inlet<R>,
     outlet: &mut Outlet<W>,
 ) -> Result<u64, Fault>
-    requires inlet_ready { inlet_failures inlet.old < 2 ^ 64 - 1 }
-    requires outlet_ready { outlet_failures outlet.old < 2 ^ 64 - 1 }
-    requires reads_low { inlet_reads inlet.old < 2 ^ 63 }
-    requires given_low { inlet_given inlet.old < 2 ^ 63 }
     // What project and file play to was written, however its bytes are split into reads.
     ensures ok { IfOk result (PlaysFile (R.remaining (inlet_reader inlet.old)) (Plays project.now)
         (W.contents (outlet_writer outlet.old)) (W.contents (outlet_writer outlet.new))) }
@@ -79,7 +75,7 @@ pub fn play_stream<R: Read, W: Write>(
     // What can be played is refused only because of a device, the limit of reads or memory, and a prefix of it was
     // written.
     ensures cause { IfErr result (OnlyFromOutside (R.remaining (inlet_reader inlet.old)) project.now) }
-    ensures front { OnErr result (WritesPrefix (R.remaining (inlet_reader inlet.old)) (Plays project.now)
+    ensures prefix { OnErr result (WritesPrefix (R.remaining (inlet_reader inlet.old)) (Plays project.now)
         (W.contents (outlet_writer outlet.old)) (W.contents (outlet_writer outlet.new))) }
     // If the reading stops, what was written lags by at most 131,072 bytes of the one sound that the file states.
     ensures keeps_up { IfErr result (λ fault. OfStream StopsReading fault
@@ -92,10 +88,10 @@ pub fn play_stream<R: Read, W: Write>(
     // Whatever is returned, there were at most 2^40 reads.
     ensures reads { inlet_reads inlet.new ≤ inlet_reads inlet.old + 2 ^ 40 }
     ensures turn_limit { IsErrOf result (Fault.Stream StreamFault.TurnLimit)
-        → inlet_reads inlet.new ≡ inlet_reads inlet.old + 2 ^ 40 }
+        → (CanFail outlet.old → ⊥) ⊎ RunsOut inlet.old inlet.new }
     // What is refused before the first read, and before the first write.
     ensures unread { SaysNone project.now → inlet_reads inlet.new ≡ inlet_reads inlet.old }
-    ensures unwritten { IfErr result (λ fault. IsBeforeWriting fault
+    ensures unwritten { IfErr result (λ fault. FailsBeforeWriting fault
         → outlet_writer outlet.new ≡ outlet_writer outlet.old) }
 {
     accepted_files_state_one_sound();

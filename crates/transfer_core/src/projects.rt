@@ -4,7 +4,7 @@ ghost use Rattle.std.specs.Prelude.{IfErr, IfOk};
 ghost use Rattle.splice_core.specs.Splices.{splice_content};
 ghost use Rattle.transfer_core.specs.Projects as specs;
 ghost use Rattle.transfer_core.specs.Projects.{IsOfDecimator, SaysDecimator, SaysSplice, SaysTakes, names_of, take_names_of};
-ghost use Rattle.form_core.specs.Steps.{Gives};
+ghost use Rattle.form_core.specs.Steps.{GivesUnless};
 
 use crate::fault::Fault;
 use fir_core::Taps;
@@ -19,7 +19,7 @@ pub fn take_names(alloc: Global, project: &[u8]) -> Result<Vec<String>, Fault>
     // What is returned is what the text states.
     ensures found { IfOk result (λ names. SaysTakes project.now (names_of names)) }
     // The answer or the fault is what reading in order ends with, unless memory runs out.
-    ensures exact { Gives Fault.Memory names_of result (take_names_of project.now) }
+    ensures exact { GivesUnless Fault.Memory names_of result (take_names_of project.now) }
 {
     let splice = splice_of(alloc, project)?;
     let Splice { takes, .. } = splice;
@@ -29,20 +29,20 @@ pub fn take_names(alloc: Global, project: &[u8]) -> Result<Vec<String>, Fault>
 /// The splice that a project text has.
 ///
 /// Refusals, in this order: `Project`, `NoSplice` if the text has no splice. Out of memory is always `Memory`.
-#[tactic(auto, unfolding(crate::specs::Projects::splice_of))]
+#[tactic(auto, unfolding(crate::specs::Projects::splice_of_text))]
 pub fn splice_of(alloc: Global, project: &[u8]) -> Result<Splice, Fault>
     ensures found { IfOk result (λ s. SaysSplice project.now (splice_content s)) }
-    ensures exact { Gives Fault.Memory splice_content result (specs.splice_of project.now) }
+    ensures exact { GivesUnless Fault.Memory splice_content result (specs.splice_of_text project.now) }
 {
     let Project { splice, .. } = project_core::read(alloc, project)?;
     splice.ok_or(Fault::NoSplice)
 }
 
 // The decimator of a project text.
-#[tactic(auto, unfolding(crate::specs::Projects::decimator_of))]
+#[tactic(auto, unfolding(crate::specs::Projects::decimator_of_text))]
 pub(crate) fn decimator_of(alloc: Global, project: &[u8]) -> Result<Taps, Fault>
     ensures found { IfOk result (SaysDecimator project.now) }
-    ensures exact { Gives Fault.Memory (λ t. t) result (specs.decimator_of project.now) }
+    ensures exact { GivesUnless Fault.Memory (λ t. t) result (specs.decimator_of_text project.now) }
     ensures cause { IfErr result IsOfDecimator }
 {
     let Project { decimate, .. } = project_core::read(alloc, project)?;

@@ -13,7 +13,7 @@ pub cond_digit : (b : Bool) → cond b 1 0 ≡ digit b
 cond_digit true = refl
 cond_digit false = refl
 
--- the byte of a state stands in its level's part
+-- the byte of a state is in its level's part
 pub byte_in : (n q : ℕ) → q < n → q / 8 < decision_bytes n
 byte_in n q h = omega arith
 

@@ -7,10 +7,10 @@ use Rattle.std.proofs.lemmas.Grind.{flat_map-append}
 use Rattle.std.proofs.lemmas.List.{append-nil, ext_get_or, get_or-map, length-map}
 use Rattle.std.proofs.lemmas.List.FromFn.{take-map-range_with_len, map-range_with_len_more}
 use Rattle.cost_core.specs.Trellis.{Trellis, IsBounded}
-use Rattle.cost_core.specs.Sinks.{AppendsPrefix, HandsOver, HandsOverPart}
+use Rattle.cost_core.specs.Sinks.{GrowsByPrefix, HandsOver, HandsOverPart}
 use Rattle.trellis_core.specs.Best.{best_row, best_rows}
 use Rattle.trellis_core.specs.LeastSums.{BestRows}
-use Rattle.trellis_core.specs.Handing.{HandsOverAll, HandsOverSome, HandsOverUpTo, cut_at, cut_spelling}
+use Rattle.trellis_core.specs.Handing.{HandsOverAll, HandsOverSome, HandsOverUpTo, capped_at, capped_spelling}
 use Rattle.trellis_core.proofs.LeastSums.{all_rows}
 
 one_row_more : (t : Trellis) (n : ℕ) → best_rows t (n + 1) ≡ best_rows t n ++ (best_row t n ∷ [])
@@ -26,25 +26,25 @@ module _ (t : Trellis) (spelling : ℕ → List ℕ → List ℕ) (kind now : �
       sym (ap (flat_map (spelling kind)) (one_row_more t n) ∙ flat_map-append (spelling kind) (best_rows t n) (best_row t n ∷ []) ∙ ap (λ l. done ++ l) (append-nil (spelling kind (best_row t n)) ∙ rw (er, ek) refl)) in
       subst (Appends old new) is (Appends-trans old mid new done (spelling now row) before appended)
 
-  -- a front of one row more
-  pub hands_front : AppendsPrefix mid new (spelling now row) → HandsOverPart (spelling kind) old new (best_rows t n) row
+  -- a prefix of one row more
+  pub hands_front : GrowsByPrefix mid new (spelling now row) → HandsOverPart (spelling kind) old new (best_rows t n) row
   hands_front (front, back, is, appended) =
       (front, back, ap (λ k. spelling k row) (sym ek) ∙ is, Appends-trans old mid new (flat_map (spelling kind) (best_rows t n)) front before appended)
 
--- a row of a cut table, value by value
-pub cut_is : (cost : ℕ) (row cut : List ℕ) → length cut ≡ length row → ((k : ℕ) → k < length row → get_or cut k 0 ≡ min (get_or row k 0) cost) → cut ≡ cut_at cost row
-cut_is cost row cut long each =
-    ext_get_or 0 cut (cut_at cost row) (long ∙ sym (length-map row (λ v. min v cost)))
+-- a row of a capped table, value by value
+pub capped_is : (cost : ℕ) (row capped : List ℕ) → length capped ≡ length row → ((k : ℕ) → k < length row → get_or capped k 0 ≡ min (get_or row k 0) cost) → capped ≡ capped_at cost row
+capped_is cost row capped long each =
+    ext_get_or 0 capped (capped_at cost row) (long ∙ sym (length-map row (λ v. min v cost)))
     (λ k h. each k (omega (arith, long)) ∙ sym (get_or-map (λ v. min v cost) row k 0 0 (omega (arith, long))))
 
--- a row that is handed over cut
-module _ (t : Trellis) (cost : ℕ) (spelling : ℕ → List ℕ → List ℕ) (kind now : ℕ) (old mid new : Option (List ℕ)) (n : ℕ) (row cut : List ℕ) (ek : now ≡ kind) (er : row ≡ best_row t n) (ec : cut ≡ cut_at cost row)
-    (before : HandsOver (cut_spelling cost (spelling kind)) old mid (best_rows t n)) where
-  pub cut_more : Appends mid new (spelling now cut) → HandsOver (cut_spelling cost (spelling kind)) old new (best_rows t (n + 1))
-  cut_more appended = hands_more t (λ k. cut_spelling cost (spelling k)) kind now old mid new n row ek er before (subst (λ r. Appends mid new (spelling now r)) ec appended)
+-- a row that is handed over, capped
+module _ (t : Trellis) (cost : ℕ) (spelling : ℕ → List ℕ → List ℕ) (kind now : ℕ) (old mid new : Option (List ℕ)) (n : ℕ) (row capped : List ℕ) (ek : now ≡ kind) (er : row ≡ best_row t n) (ec : capped ≡ capped_at cost row)
+    (before : HandsOver (capped_spelling cost (spelling kind)) old mid (best_rows t n)) where
+  pub capped_more : Appends mid new (spelling now capped) → HandsOver (capped_spelling cost (spelling kind)) old new (best_rows t (n + 1))
+  capped_more appended = hands_more t (λ k. capped_spelling cost (spelling k)) kind now old mid new n row ek er before (subst (λ r. Appends mid new (spelling now r)) ec appended)
 
-  pub cut_front : AppendsPrefix mid new (spelling now cut) → HandsOverPart (cut_spelling cost (spelling kind)) old new (best_rows t n) row
-  cut_front part = hands_front t (λ k. cut_spelling cost (spelling k)) kind now old mid new n row ek er before (subst (λ r. AppendsPrefix mid new (spelling now r)) ec part)
+  pub capped_prefix : GrowsByPrefix mid new (spelling now capped) → HandsOverPart (capped_spelling cost (spelling kind)) old new (best_rows t n) row
+  capped_prefix part = hands_front t (λ k. capped_spelling cost (spelling k)) kind now old mid new n row ek er before (subst (λ r. GrowsByPrefix mid new (spelling now r)) ec part)
 
 module _ (t : Trellis) (fine : IsBounded t) (spelling : List ℕ → List ℕ) (old new : Option (List ℕ)) where
   rest : ℕ → List (List ℕ)

@@ -1,6 +1,6 @@
 pub mod Back
 pub mod Bests
-pub mod CutLaws
+pub mod CapLaws
 pub mod Decisions
 pub mod Few
 pub mod Finals

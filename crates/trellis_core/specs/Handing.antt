@@ -23,19 +23,19 @@ HandsOverUpTo t spelling old new =
     (rows : List (List ℕ)) × (row : List ℕ) × (more : List (List ℕ)) × BestRows t (rows ++ (row ∷ more)) × HandsOverPart spelling old new rows row
 
 -- a row in which each value above a cost is the cost
-abbrev pub cut_at : ℕ → List ℕ → List ℕ
-cut_at cost row = map (λ v. min v cost) row
+abbrev pub capped_at : ℕ → List ℕ → List ℕ
+capped_at cost row = map (λ v. min v cost) row
 
--- the spelling of a row that is cut at a cost
-abbrev pub cut_spelling : ℕ → (List ℕ → List ℕ) → List ℕ → List ℕ
-cut_spelling cost spelling row = spelling (cut_at cost row)
+-- the spelling of a row that is capped at a cost
+abbrev pub capped_spelling : ℕ → (List ℕ → List ℕ) → List ℕ → List ℕ
+capped_spelling cost spelling row = spelling (capped_at cost row)
 
--- the rows of the first levels and a prefix of the next were handed over, cut at the cost of a least bridge
-abbrev pub HandsOverCutUpTo : Bridging → (List ℕ → List ℕ) → Option (List ℕ) → Option (List ℕ) → Type 0
-HandsOverCutUpTo d spelling old new = (x : List Bool) × IsLeastBridge d x × HandsOverUpTo (trellis_of d) (cut_spelling (bridge_cost d x) spelling) old new
+-- the rows of the first levels and a prefix of the next were handed over, capped at the cost of a least bridge
+abbrev pub HandsOverCappedUpTo : Bridging → (List ℕ → List ℕ) → Option (List ℕ) → Option (List ℕ) → Type 0
+HandsOverCappedUpTo d spelling old new = (x : List Bool) × IsLeastBridge d x × HandsOverUpTo (trellis_of d) (capped_spelling (bridge_cost d x) spelling) old new
 
--- law: a table of best sums that is cut at the cost of a least bridge is one of valid bounds
-abbrev pub CutRowsAreValid : Type 0
-CutRowsAreValid =
+-- law: a table of best sums that is capped at the cost of a least bridge is one of valid bounds
+abbrev pub CappedRowsAreValid : Type 0
+CappedRowsAreValid =
     (d : Bridging) (rows : List (List ℕ)) (x : List Bool) → IsBridging d → BestRows (trellis_of d) rows → IsLeastBridge d x
-    → IsTable (trellis_of d) (map (cut_at (bridge_cost d x)) rows) × IsValid (trellis_of d) (value_in (map (cut_at (bridge_cost d x)) rows)) (bridge_cost d x) x
+    → IsTable (trellis_of d) (map (capped_at (bridge_cost d x)) rows) × IsValid (trellis_of d) (value_in (map (capped_at (bridge_cost d x)) rows)) (bridge_cost d x) x

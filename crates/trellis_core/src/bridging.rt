@@ -6,9 +6,9 @@ ghost use Rattle.cost_core.specs.StateCosts.{trellis_of};
 ghost use Rattle.cost_core.specs.Bridges.{bridge_cost, IsFirstLeastBridge};
 ghost use Rattle.trellis_core.specs.Best.{total_row};
 ghost use Rattle.trellis_core.specs.Decisions.{AreAllDecisions};
-ghost use Rattle.trellis_core.specs.Handing.{HandsOverAll, HandsOverCutUpTo, HandsOverSome, HandsOverUpTo, cut_spelling};
+ghost use Rattle.trellis_core.specs.Handing.{HandsOverAll, HandsOverCappedUpTo, HandsOverSome, HandsOverUpTo, capped_spelling};
 
-use crate::cutting::hand_cut;
+use crate::capping::hand_capped;
 use crate::discarding::Discarding;
 use crate::ends::end_state;
 use crate::fault::BridgeFault;
@@ -80,7 +80,7 @@ pub fn bridge_into<S: LevelSink>(
 ///
 /// Refusals: `Memory`, and then the sink got no row; `Sink` if the sink refused a row, and then it got those of the
 /// levels before it.
-pub fn bridge_cut_into<S: LevelSink>(
+pub fn bridge_capped_into<S: LevelSink>(
     alloc: Global,
     window: &Window,
     sink: &mut S,
@@ -93,10 +93,10 @@ pub fn bridge_cut_into<S: LevelSink>(
 
     // The rows that the sink got.
     ensures rows { IfOk result (λ chosen. HandsOverAll (trellis_of window.now)
-        (cut_spelling chosen.cost (S.spelling (S.kind sink.old))) (S.text sink.old) (S.text sink.new)) }
+        (capped_spelling chosen.cost (S.spelling (S.kind sink.old))) (S.text sink.old) (S.text sink.new)) }
     ensures memory { IsErrOf result BridgeFault.Memory → S.text sink.new ≡ S.text sink.old }
     ensures sink { IsErrOf result BridgeFault.Sink
-        → HandsOverCutUpTo window.now (S.spelling (S.kind sink.old)) (S.text sink.old) (S.text sink.new) }
+        → HandsOverCappedUpTo window.now (S.spelling (S.kind sink.old)) (S.text sink.old) (S.text sink.new) }
 
     // The state of the sink afterwards.
     ensures refused { IsErrOf result BridgeFault.Sink ↔ (S.has_refused sink.new ≡ true) }
@@ -109,7 +109,7 @@ pub fn bridge_cut_into<S: LevelSink>(
         return Err(BridgeFault::Memory);
     };
     let chosen = choose(alloc, window, &searched)?;
-    hand_cut(window, &mut searched.room, chosen.cost, sink)?;
+    hand_capped(window, &mut searched.room, chosen.cost, sink)?;
     Ok(chosen)
 }
 

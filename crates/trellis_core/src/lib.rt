@@ -12,10 +12,10 @@
 //! sum of each state, level by level, and then reads off the way back from the best end.
 //!
 //! [`bridge_into`] returns the same bits, and passes these least sums to a sink, a row for each level. The rows show
-//! that the bits are least to anyone who has no search ([`best_rows_are_valid`]). [`bridge_cut_into`] passes each sum
-//! above the cost as the cost, which shows it as well ([`cut_rows_are_valid`]), and goes through the levels twice.
-//! [`hand_cut`] is the second of these passes alone, for bits that were chosen before. It allocates nothing, and one
-//! [`PassRoom`] serves for all windows of as many weights.
+//! that the bits are least to anyone who has no search ([`best_rows_are_valid`]). [`bridge_capped_into`] passes each
+//! sum above the cost as the cost, which shows it as well ([`capped_rows_are_valid`]), and goes through the levels
+//! twice. [`hand_capped`] is the second of these passes alone, for bits that were chosen before. It allocates nothing,
+//! and one [`PassRoom`] serves for all windows of as many weights.
 //!
 //! A search holds two rows at once, and one bit for each state and level, which says where its least sum came from.
 //! These bits take at most 1 MiB. All memory is allocated before the first level. A row is made eight states at a time
@@ -28,11 +28,11 @@
 //!   bits that lead to state `q`. `BestRows t rows` says that there is a row of these for each level. There is one such
 //!   table, `least_rows t` ([`best_rows_are_least`]).
 //! - `HandsOverAll t spelling old new` says that a sink's text grew by the rows of all levels, `HandsOverSome` by those
-//!   of the first levels, `HandsOverUpTo` by those and a prefix of the next. `cut_spelling cost spelling` is the
-//!   spelling of rows that are cut at a cost.
+//!   of the first levels, `HandsOverUpTo` by those and a prefix of the next. `capped_spelling cost spelling` is the
+//!   spelling of rows that are capped at a cost.
 //!
 //! What it promises: the bits are the first of the least, the cost is theirs, and the rows that a sink took are those
-//! of the search, cut at the cost or not. The only refusals are `Memory` and `Sink`.
+//! of the search, capped at the cost or not. The only refusals are `Memory` and `Sink`.
 //!
 //! ```text
 //! // Weights 1, 0; 8 bits of a take of ones, a bridge of 2 bits, then a take of zeros from bit 3 on.
@@ -43,8 +43,8 @@
 #![tactic(auto)]
 
 mod bridging;
+mod capping;
 mod choosing;
-mod cutting;
 mod discarding;
 mod ends;
 mod fault;
@@ -52,8 +52,8 @@ mod laws;
 mod rows;
 mod tracing;
 
-pub use bridging::{Chosen, bridge, bridge_cut_into, bridge_into};
-pub use cutting::hand_cut;
+pub use bridging::{Chosen, bridge, bridge_capped_into, bridge_into};
+pub use capping::hand_capped;
 pub use fault::BridgeFault;
-pub use laws::{best_rows_are_least, best_rows_are_valid, cut_rows_are_valid};
+pub use laws::{best_rows_are_least, best_rows_are_valid, capped_rows_are_valid};
 pub use rows::PassRoom;

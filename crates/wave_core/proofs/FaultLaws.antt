@@ -1,4 +1,4 @@
--- Want of memory is told as that alone.
+-- `Memory` is reported only when memory ran out.
 use Rattle.std.proofs.Common.{◌≡◌, Result, Ok, Err, IsErrAnd, subst, sym}
 use Rattle.wave_core.specs.declared.fault.WaveFault.{WaveFault}
 use Rattle.wave_core.specs.declared.fault.WaveFault.TheVariants.{TooLarge, Memory}
@@ -8,11 +8,11 @@ abbrev IsMemory : WaveFault → Type 0
 IsMemory TooLarge = ⊥
 IsMemory Memory = Unit
 
--- want of memory isn't told as a file too large
-pub memory_told : {T : Type 0} (r : Result T WaveFault) (Large : Type 0) → IsErrAnd r (λ e. e ≡ Memory) → (Large → ⊥) → (r ≡ Err TooLarge → Large) × (Large → r ≡ Err TooLarge)
-memory_told (Ok x) Large h fits = absurd h
-memory_told (Err e) Large h fits = (λ is. absurd (subst (λ r. IsErrAnd r IsMemory) is (subst IsMemory (sym h) tt)), λ large. absurd (fits large))
+-- running out of memory isn't reported as a file too large
+pub memory_stated : {T : Type 0} (r : Result T WaveFault) (Large : Type 0) → IsErrAnd r (λ e. e ≡ Memory) → (Large → ⊥) → (r ≡ Err TooLarge → Large) × (Large → r ≡ Err TooLarge)
+memory_stated (Ok x) Large h fits = absurd h
+memory_stated (Err e) Large h fits = (λ is. absurd (subst (λ r. IsErrAnd r IsMemory) is (subst IsMemory (sym h) tt)), λ large. absurd (fits large))
 
--- nor is a text that stands
-pub made_told : {T : Type 0} (x : T) (Large : Type 0) → (Large → ⊥) → (Ok x ≡ Err TooLarge → Large) × (Large → Ok x ≡ Err TooLarge)
-made_told x Large fits = (λ is. absurd cc, λ large. absurd (fits large))
+-- nor a text that is there
+pub made_stated : {T : Type 0} (x : T) (Large : Type 0) → (Large → ⊥) → (Ok x ≡ Err TooLarge → Large) × (Large → Ok x ≡ Err TooLarge)
+made_stated x Large fits = (λ is. absurd cc, λ large. absurd (fits large))

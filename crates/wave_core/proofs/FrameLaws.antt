@@ -13,7 +13,7 @@ use Rattle.wave_core.specs.Texts.{sample_bytes}
 use Rattle.wave_core.specs.Contents.{IsSample}
 use Rattle.std.proofs.lemmas.List.FromFn.{map-range_with_len_more}
 
--- a sample of a channel stands among the samples
+-- a sample of a channel is among the samples
 pub place_within : (c i frames long : ℕ) → c < long / frames → i < frames → c * frames + i < long
 place_within c i frames long below h =
     let e : (c + 1) * frames ≤ long / frames * frames = mul-le-mul_right frames (omega arith) in
@@ -25,7 +25,7 @@ row_within c frames long below =
     let e : (c + 1) * frames ≤ long / frames * frames = mul-le-mul_right frames (omega arith) in
     omega arith
 
--- the bytes of a sample of a frame stand among those of the frames
+-- the bytes of a sample of a frame are among those of the frames
 pub bytes_within : (i c n samples size long : ℕ) → i < samples → c < n → samples * n * size ≤ long → (i * n + c) * size + size ≤ long
 bytes_within i c n samples size long below in_frame enough =
     let row : (i * n + c + 1) * size ≤ n * samples * size = mul-le-mul_right size (omega (arith, mul-add-lt i n c samples below in_frame)) in
@@ -63,10 +63,10 @@ pub next_sample : (bytes_of : ℤ → List ℕ) (f : ℕ → ℤ) (before out ne
     → out ≡ before ++ flat_map bytes_of (map f (range_with_len 0 c)) → next ≡ out ++ bytes_of (f c)
     → next ≡ before ++ flat_map bytes_of (map f (range_with_len 0 (c + 1)))
 next_sample bytes_of f before out next c so_far one =
-    let front = map f (range_with_len 0 c) in
-    let all : flat_map bytes_of (map f (range_with_len 0 (c + 1))) ≡ flat_map bytes_of front ++ bytes_of (f c) =
-    ap (flat_map bytes_of) (map-range_with_len_more f 0 c c (omega arith)) ∙ flat_map-append bytes_of front (f c ∷ []) ∙ ap (λ bs. flat_map bytes_of front ++ bs) (append-nil (bytes_of (f c))) in
-    one ∙ ap (λ (bs : List ℕ). bs ++ bytes_of (f c)) so_far ∙ append_assoc before (flat_map bytes_of front) (bytes_of (f c)) ∙ ap (λ (bs : List ℕ). before ++ bs) (sym all)
+    let prefix = map f (range_with_len 0 c) in
+    let all : flat_map bytes_of (map f (range_with_len 0 (c + 1))) ≡ flat_map bytes_of prefix ++ bytes_of (f c) =
+    ap (flat_map bytes_of) (map-range_with_len_more f 0 c c (omega arith)) ∙ flat_map-append bytes_of prefix (f c ∷ []) ∙ ap (λ bs. flat_map bytes_of prefix ++ bs) (append-nil (bytes_of (f c))) in
+    one ∙ ap (λ (bs : List ℕ). bs ++ bytes_of (f c)) so_far ∙ append_assoc before (flat_map bytes_of prefix) (bytes_of (f c)) ∙ ap (λ (bs : List ℕ). before ++ bs) (sym all)
 
 -- a sample that was stored is read back
 pub sample_back : (width : ℕ) (z : ℤ) → (width ≡ 16) ⊎ (width ≡ 24) → IsSample width z → to_z w32 (of_z w32 z) ≡ z
@@ -91,7 +91,7 @@ frames_apart a b n c h apart = λ e. apart (sym (div-mul-add a n c h) ∙ ap (λ
 pub channels_apart : (a b n c d : ℕ) → c < n → d < n → d ≢ c → a * n + d ≢ b * n + c
 channels_apart a b n c d hc hd apart = λ e. apart (sym (mod-mul-add a n d hd) ∙ ap (λ m. m % n) e ∙ mod-mul-add b n c hc)
 
--- bytes behind those before
+-- bytes after those before
 more_bytes : (to bytes : List ℕ) (n size : ℕ) → length bytes ≡ size → n + size ≤ length to → ((k : ℕ) → k < size → slice_index to (n + k) ≡ slice_index bytes k) → take (n + size) to ≡ take n to ++ bytes
 more_bytes to bytes n size long within at =
     let cut : length (take size (drop n to)) ≡ size = length-take-le size (drop n to) (omega (arith, length-drop n to)) in
@@ -108,7 +108,7 @@ module _ (width : ℕ) (known : (width ≡ 16) ⊎ (width ≡ 24)) (samples : Li
   abbrev sample : ℕ → ℕ → ℤ
   sample i c = get_or samples (c * frames + i) (pos 0)
 
-  -- the first samples of a frame, behind the frames before
+  -- the first samples of a frame, after the frames before
   frame_joined : (i m : ℕ) → i < frames → m ≤ length samples / frames
       → take ((i * (length samples / frames) + m) * (width / 8)) to ≡ take (i * (length samples / frames) * (width / 8)) to ++ flat_map (sample_bytes width) (map (sample i) (range_with_len 0 m))
   frame_joined i zero below in_frame =

@@ -15,7 +15,7 @@ block_some : (channels width : ℕ) → 1 ≤ channels → IsWidth width → 1 �
 block_some channels width some (inl e) = rw e (omega arith)
 block_some channels width some (inr e) = rw e (omega arith)
 
--- so many frames have no size
+-- n frames have no size
 pub too_many : (channels width frames : ℕ) → 1 ≤ channels → IsWidth width → 2 ^ 32 ≤ frames → 2 ^ 32 ≤ riff_size channels width frames
 too_many channels width frames some known large =
     let held = frames_in_data frames (block_align channels width) (block_some channels width some known) in

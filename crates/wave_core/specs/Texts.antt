@@ -1,4 +1,5 @@
--- The text of a RIFF WAVE file of PCM samples (Microsoft and IBM, Multimedia Programming Interface and Data Specifications 1.0; Microsoft, WAVEFORMATEXTENSIBLE).
+-- The text of a RIFF WAVE file of PCM samples (Microsoft and IBM, Multimedia Programming Interface and Data
+-- Specifications 1.0; Microsoft, WAVEFORMATEXTENSIBLE).
 use Rattle.std.specs.Prelude.{ℕ, suc, ◌-◌, ◌*◌, ◌/◌, ◌^◌, ℤ, pos, negsuc, List, [], ◌∷◌, ◌++◌, length, codes, nat_lt, if◌then◌else◌, Option, Some, None, replicate}
 use Rattle.std.specs.List.{flat_map}
 use Rattle.chunk_core.specs.declared.numbers.Order.TheVariants.{Little}
@@ -67,12 +68,12 @@ abbrev pub pad_bytes : ℕ → ℕ → ℕ → List ℕ
 pad_bytes channels width frames = replicate (pad_size channels width frames) 0
 
 -- the number of frames
-abbrev pub frame_count : Pcm → ℕ
-frame_count p = length p.samples / p.channels
+abbrev pub pcm_frames : Pcm → ℕ
+pcm_frames p = length p.samples / p.channels
 
 -- the file: the header, each sample, the pad; none if the RIFF chunk's size does not fit 32 bits
 abbrev pub wave_text : Pcm → Option (List ℕ)
 wave_text p =
-    if nat_lt (riff_size p.channels p.width (frame_count p)) (2 ^ 32)
-    then Some (header p.channels p.rate p.width (frame_count p) ++ (flat_map (sample_bytes p.width) p.samples ++ pad_bytes p.channels p.width (frame_count p)))
+    if nat_lt (riff_size p.channels p.width (pcm_frames p)) (2 ^ 32)
+    then Some (header p.channels p.rate p.width (pcm_frames p) ++ (flat_map (sample_bytes p.width) p.samples ++ pad_bytes p.channels p.width (pcm_frames p)))
     else None

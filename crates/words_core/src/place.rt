@@ -15,8 +15,8 @@ pub enum Place {
 const SECOND: u64 = 1_000_000_000;
 
 /// The place that a word names: `@FRAME`, `#MARK`, or a time as `SECONDS`, `MINUTES:SECONDS` or
-/// `HOURS:MINUTES:SECONDS`. Seconds may have a decimal point and up to nine digits behind it. Minutes and seconds behind
-/// a colon are below 60.
+/// `HOURS:MINUTES:SECONDS`. Seconds may have a decimal point and up to nine digits behind it. Minutes and seconds
+/// behind a colon are below 60.
 pub fn place_named(word: &str) -> Option<Place> {
     let bytes = word.as_bytes();
     match bytes.first() {
@@ -57,7 +57,7 @@ struct Reading {
     fields: u32,
     worth: u64,
     nanoseconds: u64,
-    is_behind_point: bool,
+    is_after_point: bool,
 }
 
 // The nanoseconds that a word names.
@@ -69,7 +69,7 @@ fn time_named(word: &[u8]) -> Option<u64> {
         fields: 0,
         worth: SECOND,
         nanoseconds: 0,
-        is_behind_point: false,
+        is_after_point: false,
     };
     for byte in word {
         reading = match *byte {
@@ -90,7 +90,7 @@ impl Reading {
     fn digit(self, value: u64) -> Option<Reading> {
         let mut next = self;
         next.digits = self.digits.checked_add(1)?;
-        if self.is_behind_point {
+        if self.is_after_point {
             next.worth = self.worth / 10;
             if next.worth == 0 {
                 return None;
@@ -105,7 +105,7 @@ impl Reading {
     }
 
     fn colon(self) -> Option<Reading> {
-        if self.is_behind_point || self.fields == 2 || !self.is_field() {
+        if self.is_after_point || self.fields == 2 || !self.is_field() {
             return None;
         }
         let mut next = self;
@@ -117,11 +117,11 @@ impl Reading {
     }
 
     fn point(self) -> Option<Reading> {
-        if self.is_behind_point || !self.is_field() {
+        if self.is_after_point || !self.is_field() {
             return None;
         }
         let mut next = self;
-        next.is_behind_point = true;
+        next.is_after_point = true;
         next.digits = 0;
         Some(next)
     }

@@ -5,7 +5,7 @@ use Rattle.form_core.specs.Parts.{FitsIn}
 use Rattle.cut_core.specs.Cuts.{CutContent, master_length}
 use Rattle.transfer_core.specs.declared.fault.Fault.TheVariants.{Memory}
 use Rattle.master_core.specs.Best.{IsBestMaster, master_of}
-use Rattle.master_core.proofs.ChoiceLaws.{cert_is, cert_stands}
+use Rattle.master_core.proofs.ChoiceLaws.{cert_holds, cert_is}
 use Rattle.judge_core.specs.Cutting.{SaysCut}
 use Rattle.transfer_core.specs.Faults.{fault_of_writing}
 use Rattle.judge_core.proofs.CuttingLaws.{one_cut, says_cut}
@@ -15,7 +15,7 @@ use Rattle.archive_core.proofs.planning.plan_master.Given.{Over}
 use Rattle.archive_core.proofs.planning.plan_master.Goals.{In_err-bridges}
 
 -- ---- refusals
--- a master that is cut into whole bytes is planned, want of memory aside
+-- a master of whole bytes is planned, unless memory runs out
 unplanned : (g : Over) (c : In_err-bridges g) (project : List ℕ) (files : List (List ℕ)) → SaysCut project files (Some c.args.form) c.args.cut → fault_of_writing c.in_err-bridges.field-0.0 ≡ Memory
 unplanned g c project files says =
     let fault = c.in_err-bridges.field-0.0 in
@@ -37,29 +37,29 @@ pub returns-clause-found : goal.returns-clause-found
 returns-clause-found g c = λ project files cut_says.
     let cut = c.args.cut in
     let form = c.args.form in
-    let told = c.in_ok-bridges.ensures.master in
+    let reported = c.in_ok-bridges.ensures.master in
     let total = c.in_ok-bridges.field-0.bridges.total in
     let says = any_form project files form cut cut_says in
-    let recording = master_of cut form told.channels in
-    let best : IsBestMaster cut form recording total = record { channels = told.channels; best = told.best; recording_is = refl; cost_is = told.cost_is } in
+    let recording = master_of cut form reported.channels in
+    let best : IsBestMaster cut form recording total = record { channels = reported.channels; best = reported.best; recording_is = refl; cost_is = reported.cost_is } in
     record {
-      file = told.file;
-      is_file = record { channels = told.channels; best = told.best; text = told.text };
-      only = λ other is. one_file cut form is.channels told.channels other told.file is.best told.best is.text told.text;
-      edits = record { cut = cut; says = cut_says; recording = recording; best = best; text = told.text };
-      is_master = file_is_master project files cut says form recording told.master told.file told.read_again told.whole;
-      certificate = λ cert certifies. file_certificate project files cut says form recording told.master told.file told.read_again cert (cert_is cut c.in_ok-bridges.field-0.bridges told.channels cert told.shows certifies);
+      file = reported.file;
+      is_file = record { channels = reported.channels; best = reported.best; text = reported.text };
+      only = λ other is. one_file cut form is.channels reported.channels other reported.file is.best reported.best is.text reported.text;
+      edits = record { cut = cut; says = cut_says; recording = recording; best = best; text = reported.text };
+      is_master = file_is_master project files cut says form recording reported.master reported.file reported.read_again reported.whole;
+      certificate = λ cert certifies. file_certificate project files cut says form recording reported.master reported.file reported.read_again cert (cert_is cut c.in_ok-bridges.field-0.bridges reported.channels cert reported.shows certifies);
       accepted = λ cert certifies.
-          file_is_accepted project files cut says form recording told.master told.file told.read_again cert total (cert_stands cut c.in_ok-bridges.field-0.bridges told.channels cert told.shows certifies c.in_ok-bridges.ensures.bridges)
-          told.cost_is;
-      joint = file_least project files cut says form recording told.master told.file told.read_again told.whole total told.joint;
-      windows = file_costs project files cut says form recording told.master told.file told.read_again total told.windows;
+          file_is_accepted project files cut says form recording reported.master reported.file reported.read_again cert total (cert_holds cut c.in_ok-bridges.field-0.bridges reported.channels cert reported.shows certifies c.in_ok-bridges.ensures.bridges)
+          reported.cost_is;
+      joint = file_least project files cut says form recording reported.master reported.file reported.read_again reported.whole total reported.joint;
+      windows = file_costs project files cut says form recording reported.master reported.file reported.read_again total reported.windows;
     }
 
 pub returns-clause-file : goal.returns-clause-file
 returns-clause-file g c =
-    let told = c.in_ok-bridges.ensures.master in
-    (told.file, record { channels = told.channels; best = told.best; text = told.text })
+    let reported = c.in_ok-bridges.ensures.master in
+    (reported.file, record { channels = reported.channels; best = reported.best; text = reported.text })
 
 pub returns-clause-planned : goal.returns-clause-planned
 returns-clause-planned g c =
@@ -70,8 +70,8 @@ pub returns-clause-only : goal.returns-clause-only
 returns-clause-only g c = λ project files says master cost edits.
     let cut = c.args.cut in
     let form = c.args.form in
-    let told = c.in_ok-bridges.ensures.master in
+    let reported = c.in_ok-bridges.ensures.master in
     let same : cut ≡ edits.cut = one_cut project files (Some form) edits.cut edits.says cut (says_cut project files (Some form) cut says) in
-    let both = one_answer cut edits.cut form (master_of cut form told.channels) edits.recording told.file master c.in_ok-bridges.field-0.bridges.total cost same
-    (record { channels = told.channels; best = told.best; recording_is = refl; cost_is = told.cost_is }) edits.best told.text edits.text in
-    (record { channels = told.channels; best = told.best; text = told.text ∙ ap Some both.0 }, both.1)
+    let both = one_answer cut edits.cut form (master_of cut form reported.channels) edits.recording reported.file master c.in_ok-bridges.field-0.bridges.total cost same
+    (record { channels = reported.channels; best = reported.best; recording_is = refl; cost_is = reported.cost_is }) edits.best reported.text edits.text in
+    (record { channels = reported.channels; best = reported.best; text = reported.text ∙ ap Some both.0 }, both.1)

@@ -1,4 +1,4 @@
--- The front of the bytes is that of the numbers so far.
+-- The bytes begin with those of the numbers so far.
 use Rattle.std.proofs.Common.{◌≡◌, ◌*◌, take, length}
 use Rattle.cert_core.specs.Spelling.{row_text}
 use Rattle.cert_core.specs.declared.version.Version.TheVariants.{One}

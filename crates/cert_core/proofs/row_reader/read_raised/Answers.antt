@@ -12,7 +12,7 @@ use Rattle.cert_core.specs.Reasons.{SpellingReason}
 use Rattle.cert_core.specs.Spelling.{IsTooWide}
 use Rattle.cert_core.specs.Stops.{CutBelow, InForm, InSpelling}
 use Rattle.cert_core.specs.declared.version.Version.TheVariants.{Two}
-use Rattle.cert_core.proofs.Consuming.{counted_back, if_some, maps, told_back}
+use Rattle.cert_core.proofs.Consuming.{counted_back, if_some, maps, stated_back}
 use Rattle.cert_core.proofs.Reading.{cut_in_excesses, raised_consumed, raised_first}
 use Rattle.cert_core.proofs.row_reader.read_raised.Goals as goal
 
@@ -26,11 +26,11 @@ filled_len width m buffer filled few room e =
 
 -- what is wrong with the number and the width that a row begins with
 form_first : (a : Option (List ℕ)) (m level : ℕ) (reason : CertReason) → InForm level a reason → InSpelling Two m level a reason
-form_first a m level reason = if_some a _ (λ bytes. SpellingReason Two m level bytes reason) told
+form_first a m level reason = if_some a _ (λ bytes. SpellingReason Two m level bytes reason) stated
   where
-    told : (bytes : List ℕ) → ((reason ≡ Cut) × (length bytes < 9)) ⊎ ((reason ≡ Row level) × IsTooWide Two bytes) → SpellingReason Two m level bytes reason
-    told bytes (inl (is, short)) = subst (SpellingReason Two m level bytes) (sym is) (inl short)
-    told bytes (inr (is, wide)) = subst (SpellingReason Two m level bytes) (sym is) (refl, inl wide)
+    stated : (bytes : List ℕ) → ((reason ≡ Cut) × (length bytes < 9)) ⊎ ((reason ≡ Row level) × IsTooWide Two bytes) → SpellingReason Two m level bytes reason
+    stated bytes (inl (is, short)) = subst (SpellingReason Two m level bytes) (sym is) (inl short)
+    stated bytes (inr (is, wide)) = subst (SpellingReason Two m level bytes) (sym is) (refl, inl wide)
 
 pub returns-in_err-least : goal.returns-in_err-least
 returns-in_err-least g c =
@@ -64,7 +64,7 @@ returns-in_err-fill g c =
       buffer = same_len_mid 0 _ c.args.buffer.now c.fill.new.buffer c.fill.auto.buffer;
       bounded = no_ok _ _ r c.from_residual-in_err-fill.ensures.1;
       ok = no_ok _ _ r c.from_residual-in_err-fill.ensures.1;
-      reason = told_back r stop _ is (maps {A = Unit {0}} (Err stop) _ _ (λ reason w. cut_in_excesses _ mid m c.args.level c.in_ok-least.least c.in_ok-least.width reason c.in_ok-least.ensures.ok c.in_ok-least.ensures.few (subst (λ n. CutBelow mid n reason) size w)) c.in_err-fill.ensures.cut);
+      reason = stated_back r stop _ is (maps {A = Unit {0}} (Err stop) _ _ (λ reason w. cut_in_excesses _ mid m c.args.level c.in_ok-least.least c.in_ok-least.width reason c.in_ok-least.ensures.ok c.in_ok-least.ensures.few (subst (λ n. CutBelow mid n reason) size w)) c.in_err-fill.ensures.cut);
       failures = counted_back r stop _ _ is (omega (arith, c.in_err-fill.ensures.failures, c.in_ok-least.ensures.failures));
     }
 

@@ -11,7 +11,7 @@ use Rattle.cert_core.specs.declared.version.Version.TheVariants.{One}
 use Rattle.cert_core.specs.Reasons.{SpellingReason}
 use Rattle.cert_core.specs.Spelling.{row_text}
 use Rattle.cert_core.specs.Stops.{CutBelow, InSpelling}
-use Rattle.cert_core.proofs.Consuming.{after, counted_back, maps, told_back}
+use Rattle.cert_core.proofs.Consuming.{after, counted_back, maps, stated_back}
 use Rattle.cert_core.proofs.row_reader.read_values.Goals as goal
 
 filled_len : (m : ℕ) (buffer filled : List ℕ) → 8 * m ≤ length buffer → length filled ≡ length (take (8 * m - 0) buffer) → length filled ≡ 8 * m
@@ -44,7 +44,7 @@ returns-in_err-fill g c =
       buffer = same_len_mid 0 _ c.args.buffer.now c.fill.new.buffer c.fill.auto.buffer;
       bounded = no_ok _ _ r c.from_residual.ensures.1;
       ok = no_ok _ _ r c.from_residual.ensures.1;
-      reason = told_back r stop _ is (maps {A = Unit {0}} (Err stop) _ _ (cut_in_values _ m c.args.level (length c.fill.new.buffer) (filled_len m c.args.buffer.now c.fill.new.buffer c.requires.room c.fill.auto.buffer)) c.in_err-fill.ensures.cut);
+      reason = stated_back r stop _ is (maps {A = Unit {0}} (Err stop) _ _ (cut_in_values _ m c.args.level (length c.fill.new.buffer) (filled_len m c.args.buffer.now c.fill.new.buffer c.requires.room c.fill.auto.buffer)) c.in_err-fill.ensures.cut);
       failures = counted_back r stop _ _ is c.in_err-fill.ensures.failures;
     }
 

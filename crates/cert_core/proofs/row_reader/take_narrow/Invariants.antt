@@ -1,4 +1,4 @@
--- The front of the bytes is that of the numbers so far, and none of them needs more bytes.
+-- The bytes begin with those of the numbers so far, and none of these needs more bytes.
 use Rattle.std.proofs.Common.{◌≡◌, ℕ, ◌*◌, ◌^◌, ◌<◌, take, length, get_or}
 use Rattle.std.specs.List.{flat_map}
 use Rattle.std.specs.Int.{bytes_high_first}

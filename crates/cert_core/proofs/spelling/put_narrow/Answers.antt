@@ -18,11 +18,11 @@ put_excesses-requires-clause-fits c = λ q h.
 pub returns-clause-text : goal.returns-clause-text
 returns-clause-text c =
     let count = c.width_of-width.result * length c.args.row.now in
-    let front = c.copy_from_slice.new.self in
+    let prefix = c.copy_from_slice.new.self in
     let ys = take count c.put_excesses.new.buffer in
-    let eight : length front ≡ 8 = search (arith, rules) in
-    narrow_is front _ c.put_excesses.new.buffer c.width_of-width.result _ count eight (search (arith, rules)) (search (arith, rules))
-    ∙ narrow_text c.args.row.now front ys c.bounds_of-least.result.0 c.bounds_of-least.result.1 c.width_of-width.result c.bounds_of-least.ensures.least c.bounds_of-least.ensures.greatest (c.copy_from_slice.ensures.after ∙ c.to_be_bytes.ensures) c.width_of-width.ensures.width c.put_excesses.ensures.text
+    let eight : length prefix ≡ 8 = search (arith, rules) in
+    narrow_is prefix _ c.put_excesses.new.buffer c.width_of-width.result _ count eight (search (arith, rules)) (search (arith, rules))
+    ∙ narrow_text c.args.row.now prefix ys c.bounds_of-least.result.0 c.bounds_of-least.result.1 c.width_of-width.result c.bounds_of-least.ensures.least c.bounds_of-least.ensures.greatest (c.copy_from_slice.ensures.after ∙ c.to_be_bytes.ensures) c.width_of-width.ensures.width c.put_excesses.ensures.text
 
 -- a row has at most eight bytes for each excess
 few_bytes : (c : After-width_of-width) → c.width_of-width.result * length c.args.row.now ≤ 8 * length c.args.row.now
@@ -50,8 +50,8 @@ pub overflow_cast-buffer : goal.overflow_cast-buffer
 overflow_cast-buffer c = omega (arith, c.width_of-width.ensures.few)
 
 -- the buffer stays as long as it is
-as_long : (buffer front : List ℕ) (w : ℕ) → length front ≡ length (take 8 buffer) → length (set (put_mid 0 8 buffer front) 8 w) ≡ length buffer
-as_long buffer front w e = length-set (put_mid 0 8 buffer front) 8 w ∙ same_len_mid 0 8 buffer front e
+as_long : (buffer prefix : List ℕ) (w : ℕ) → length prefix ≡ length (take 8 buffer) → length (set (put_mid 0 8 buffer prefix) 8 w) ≡ length buffer
+as_long buffer prefix w e = length-set (put_mid 0 8 buffer prefix) 8 w ∙ same_len_mid 0 8 buffer prefix e
 
 pub slice_bounds-put_excesses-end : goal.slice_bounds-put_excesses-end
 slice_bounds-put_excesses-end c = omega (arith, few_bytes (goal.at.slice_bounds-put_excesses-end c).After-width_of-width, c.requires.room, as_long c.args.buffer.now c.copy_from_slice.new.self c.width_of-width.result c.copy_from_slice.ensures.len)

@@ -1,4 +1,4 @@
--- The front of the buffer holds the bytes of the excesses so far.
+-- The buffer begins with the bytes of the excesses so far.
 use Rattle.std.proofs.Common.{◌≡◌, ◌*◌, ◌-◌, take, map, length}
 use Rattle.std.specs.List.{flat_map}
 use Rattle.std.specs.Int.{bytes_high_first}

@@ -1,4 +1,4 @@
--- The front of the buffer holds the bytes of the numbers so far.
+-- The buffer begins with the bytes of the numbers so far.
 use Rattle.std.proofs.Common.{◌≡◌, ◌*◌, take}
 use Rattle.cert_core.specs.Spelling.{row_text}
 use Rattle.cert_core.specs.declared.version.Version.TheVariants.{One}

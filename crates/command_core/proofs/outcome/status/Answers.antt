@@ -1,5 +1,5 @@
-use Rattle.std.proofs.Common.{refl}
+use Rattle.std.proofs.Common.{arith, refl}
 use Rattle.command_core.proofs.outcome.status.Goals as goal
 
 pub returns-in-Rejected : goal.returns-in-Rejected
-returns-in-Rejected c = rw c.in-Rejected.is refl
+returns-in-Rejected c = rw c.in-Rejected.is (record { value = refl; limit = omega arith })

@@ -21,7 +21,7 @@ returns g c =
     checked c.args.project.now c.args.master.now c.args.cert.now old (view c.open.new.self) h.project h.takes master.file (g.F.In.Read.remaining c.in-Ok-open.file)
     (c.in-Ok-open.ensures.same ∙ held) h.sources master.file_read given c.judge_opened.result
     (c.judge_opened.ensures.least h.project h.takes master.file says master.held)
-    (λ told. c.judge_opened.ensures.judged h.project h.takes master.file says (master.is_found told))
+    (λ reported. c.judge_opened.ensures.judged h.project h.takes master.file says (master.is_found reported))
     c.judge_opened.ensures.fault
 
 pub returns-in_default : goal.returns-in_default
@@ -50,4 +50,4 @@ returns-in-Err g c =
     let view = g.F.Folder.view in
     let h = c.in_ok-sources.ensures.excerpts in
     let first = c.in-Err.ensures.refused h.project h.takes (record { project_says = h.project_says; reads_excerpts = h.reads_excerpts }) in
-    uncut c.args.project.now c.args.master.now c.args.cert.now (view c.args.folder.now) (view c.fault_behind.new.folder) c.fault_behind.result c.in-Err.fault (c.fault_behind.ensures.same ∙ c.source_excerpts.ensures.same, inr (inr (record { project = h.project; takes = h.takes; sources = h.sources; first = first }))) c.fault_behind.ensures.fault
+    uncut c.args.project.now c.args.master.now c.args.cert.now (view c.args.folder.now) (view c.fault_after.new.folder) c.fault_after.result c.in-Err.fault (c.fault_after.ensures.same ∙ c.source_excerpts.ensures.same, inr (inr (record { project = h.project; takes = h.takes; sources = h.sources; first = first }))) c.fault_after.ensures.fault

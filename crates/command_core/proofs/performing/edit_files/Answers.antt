@@ -1,7 +1,7 @@
 use Rattle.std.proofs.Common.{◌∙◌, Err, Ok, ap, inr, subst, sym}
 use Rattle.std.proofs.lemmas.Result.{err_from_is_err_and}
 use Rattle.archive_core.specs.Planning.{planned_total}
-use Rattle.folder_core.specs.Files.{IsFront, KeepsOthers, View}
+use Rattle.folder_core.specs.Files.{IsPutInPart, KeepsOthers, View}
 use Rattle.command_core.specs.Commands.{Cut, EditComesTo}
 use Rattle.command_core.proofs.CommandLaws.{both_written, cert_unwritten, cut_unwritten, edit_unread}
 use Rattle.command_core.proofs.WritingLaws.{still_certifies}
@@ -12,7 +12,7 @@ returns-in_err-planned g c =
     let h = c.in_ok-sources.ensures.excerpts in
     let p = err_from_is_err_and c.from_residual-in_err-planned.result c.from_residual-in_err-planned.ensures.1 in
     let view = g.F.Folder.view in
-    subst (EditComesTo (record { form = c.args.form; project_name = c.args.project.now; master_name = c.args.master.now; cert_name = c.args.cert.now }) (view c.args.folder.now) (view c.source_excerpts.new.folder)) (sym (p.1 ∙ ap Err p.2)) (c.source_excerpts.ensures.same, inr (inr (record { project = h.project; takes = h.takes; sources = h.sources; first = c.in_err-planned.ensures.refused h.project h.takes (record { project_says = h.project_says; reads_excerpts = h.reads_excerpts }) })))
+    subst (EditComesTo (record { form = c.args.form; project_name = c.args.project.now; master_name = c.args.master.now; cert_name = c.args.cert.now }) (view c.args.folder.now) (view c.cut_sources.new.folder)) (sym (p.1 ∙ ap Err p.2)) (c.cut_sources.ensures.same ∙ c.source_excerpts.ensures.same, inr (inr (record { project = h.project; takes = h.takes; sources = h.sources; first = c.in_err-planned.ensures.refused h.project h.takes (record { project_says = h.project_says; reads_excerpts = h.reads_excerpts }) })))
 
 pub returns-in_err-write_master : goal.returns-in_err-write_master
 returns-in_err-write_master g c =
@@ -22,12 +22,12 @@ returns-in_err-write_master g c =
     let new = view c.write_master.new.folder in
     let h = c.in_ok-sources.ensures.excerpts in
     let plans = c.in_ok-planned.ensures.found h.project h.takes (record { project_says = h.project_says; reads_excerpts = h.reads_excerpts }) in
-    let same = c.source_excerpts.ensures.same in
+    let same = c.cut_sources.ensures.same ∙ c.source_excerpts.ensures.same in
     let p = err_from_is_err_and c.from_residual-in_err-write_master.result c.from_residual-in_err-write_master.ensures.1 in
     subst (EditComesTo cut old new) (sym (p.1 ∙ ap Err p.2)) (cut_unwritten cut old new h.project plans.file h.takes (planned_total c.in_ok-planned.planned) c.in_err-write_master.field-0.0
     h.sources plans.edits
     (subst (λ (v : View). KeepsOthers c.args.master.now v new) same c.in_err-write_master.ensures.others)
-    (subst (λ (v : View). IsFront c.args.master.now v new plans.file) same (c.in_err-write_master.ensures.refused plans.file plans.is_file))
+    (subst (λ (v : View). IsPutInPart c.args.master.now v new plans.file) same (c.in_err-write_master.ensures.refused plans.file plans.is_file))
     c.in_err-write_master.ensures.fault)
 
 pub returns-in_err-write_certificate : goal.returns-in_err-write_certificate
@@ -39,7 +39,7 @@ returns-in_err-write_certificate g c =
     let new = view c.write_certificate.new.folder in
     let h = c.in_ok-sources.ensures.excerpts in
     let plans = c.in_ok-planned.ensures.found h.project h.takes (record { project_says = h.project_says; reads_excerpts = h.reads_excerpts }) in
-    let same = c.source_excerpts.ensures.same in
+    let same = c.cut_sources.ensures.same ∙ c.source_excerpts.ensures.same in
     let left = c.in_err-write_certificate.ensures.refused in
     let certifies = still_certifies c.in_ok-planned.planned c.write_master.new.planned left.0 c.write_master.ensures.same left.1 in
     let p = err_from_is_err_and c.from_residual-in_err-write_certificate.result c.from_residual-in_err-write_certificate.ensures.1 in
@@ -61,7 +61,7 @@ returns g c =
     let new = view c.write_certificate.new.folder in
     let h = c.in_ok-sources.ensures.excerpts in
     let plans = c.in_ok-planned.ensures.found h.project h.takes (record { project_says = h.project_says; reads_excerpts = h.reads_excerpts }) in
-    let same = c.source_excerpts.ensures.same in
+    let same = c.cut_sources.ensures.same ∙ c.source_excerpts.ensures.same in
     let whole = c.in_ok-write_certificate.ensures.bytes in
     let certifies = still_certifies c.in_ok-planned.planned c.write_master.new.planned whole.0 c.write_master.ensures.same whole.1 in
     subst (λ n. EditComesTo cut old new (Ok n)) (sym c.total-total.ensures) (both_written cut old written new h.project plans.file h.takes (planned_total c.in_ok-planned.planned)

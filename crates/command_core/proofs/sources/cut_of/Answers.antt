@@ -1,12 +1,12 @@
 use Rattle.std.proofs.lemmas.Result.{err_from_is_err_and}
 use Rattle.judge_core.specs.Cutting.{said_cut}
-use Rattle.command_core.proofs.SourceLaws.{are_takes, gives_refused, not_heard, of_takes}
+use Rattle.command_core.proofs.SourceLaws.{are_takes, gives_refused, not_excerpted, of_takes}
 use Rattle.command_core.proofs.sources.cut_of.Goals as goal
 
 pub returns-in_err-takes-clause-refused : goal.returns-in_err-takes-clause-refused
 returns-in_err-takes-clause-refused c = λ project files are.
     let p = err_from_is_err_and c.from_residual.result c.from_residual.ensures.1 in
-    rw (p.1, p.2) (not_heard c.args.sources project files are c.args.form c.in_err-takes.field-0.0 c.in_err-takes.was)
+    rw (p.1, p.2) (not_excerpted c.args.sources project files are c.args.form c.in_err-takes.field-0.0 c.in_err-takes.was)
 
 pub cut_excerpts-requires : goal.cut_excerpts-requires
 cut_excerpts-requires c = of_takes c.args.sources c.in_ok-takes.field-0 c.in_ok-takes.was c.requires

@@ -10,10 +10,10 @@ pub loop-cue-preserved : goal.loop-cue-preserved
 loop-cue-preserved c =
     let i = c.loop-cue.cue in
     let none : 0 + i ≡ i = omega arith in
-    let behind = places_after c.args.cut.now in
+    let after = places_after c.args.cut.now in
     let pushed = c.in_ok-push_places.ensures in
     record {
-      places = pushed.appended ∙ ap (λ (l : _). l ++ behind i) c.loop-cue.invariant.places ∙ sym (rw (range_more 0 i, none) (flat_map-append behind (range_with_len 0 i) (i ∷ []) ∙ ap (λ (l : _). flat_map behind (range_with_len 0 i) ++ l) (append-nil (behind i))));
+      places = pushed.appended ∙ ap (λ (l : _). l ++ after i) c.loop-cue.invariant.places ∙ sym (rw (range_more 0 i, none) (flat_map-append after (range_with_len 0 i) (i ∷ []) ∙ ap (λ (l : _). flat_map after (range_with_len 0 i) ++ l) (append-nil (after i))));
       each = pushed.each c.loop-cue.invariant.each;
       few = omega (arith, pushed.few, c.loop-cue.invariant.few);
     }

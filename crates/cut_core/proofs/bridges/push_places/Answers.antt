@@ -4,14 +4,14 @@ use Rattle.std.proofs.lemmas.List.{append-nil, length-append}
 use Rattle.std.proofs.lemmas.List.Elements.{All-append}
 use Rattle.std.proofs.lemmas.List.FromFn.{map-range_with_len_more}
 use Rattle.splice_core.specs.Cues.{CueContent}
-use Rattle.cut_core.specs.Cuts.{channel_number}
+use Rattle.cut_core.specs.Cuts.{take_channels}
 use Rattle.cut_core.specs.Bridges.{IsPlace}
-use Rattle.cut_core.proofs.BridgeLaws.{behind_none, behind_some, each_place, place_of}
+use Rattle.cut_core.proofs.BridgeLaws.{after_none, after_some, each_place, place_of}
 use Rattle.cut_core.proofs.bridges.push_places.Goals as goal
 
 pub returns-then-cue-eq0-clause-appended : goal.returns-then-cue-eq0-clause-appended
 returns-then-cue-eq0-clause-appended c =
-    let none = behind_none c.args.cut.now c.args.cue (sym (ap (λ (q : CueContent). q.bridge) c.cue.ensures.value) ∙ c.if-cue-eq0.true) in
+    let none = after_none c.args.cut.now c.args.cue (sym (ap (λ (q : CueContent). q.bridge) c.cue.ensures.value) ∙ c.if-cue-eq0.true) in
     rw none (sym (append-nil c.args.out.now.items))
 
 pub loop-channel-preserved : goal.loop-channel-preserved
@@ -27,8 +27,8 @@ loop-channel-preserved c =
 
 pub returns-clause-appended : goal.returns-clause-appended
 returns-clause-appended c =
-    let some = behind_some c.args.cut.now c.args.cue (λ e. c.if-cue-eq0.false (ap (λ (q : CueContent). q.bridge) c.cue.ensures.value ∙ e)) in
-    let all : c.loop-channel.channel ≡ channel_number c.args.cut.now = omega (arith, c.channel_number-channel-end.ensures.value) in
+    let some = after_some c.args.cut.now c.args.cue (λ e. c.if-cue-eq0.false (ap (λ (q : CueContent). q.bridge) c.cue.ensures.value ∙ e)) in
+    let all : c.loop-channel.channel ≡ take_channels c.args.cut.now = omega (arith, c.channel_number-channel-end.ensures.value) in
     rw some (c.loop-channel.invariant.items ∙ ap (λ n. c.args.out.now.items ++ map (place_of c.args.cue) (range_with_len 0 n)) all)
 
 pub returns-clause-each : goal.returns-clause-each

@@ -1,7 +1,7 @@
 use Rattle.std.proofs.Common.{inl, length, refl, subst}
 use Rattle.std.proofs.lemmas.Result.{err_from_is_err_and}
 use Rattle.cut_core.specs.Opening.{ReturnsExcerpts, ReturnsAllExcerpts, IsOfTake, IsOfTakes, take_in, takes_before}
-use Rattle.cut_core.proofs.HearingLaws.{none_more, not_more, of_more, one_more}
+use Rattle.cut_core.proofs.ExcerptLaws.{none_more, not_more, of_more, one_more}
 use Rattle.cut_core.proofs.takes.push_excerpts.Goals as goal
 
 pub returns-in_err-takes-clause-excerpts : goal.returns-in_err-takes-clause-excerpts

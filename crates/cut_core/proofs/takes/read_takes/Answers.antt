@@ -2,12 +2,12 @@ use Rattle.std.proofs.Common.{◌≡◌, ℕ, ◌<◌, ◌∷◌, ◌++◌, ◌�
 use Rattle.std.proofs.lemmas.List.{length-append}
 use Rattle.std.proofs.lemmas.Result.{err_from_is_err_and}
 use Rattle.dsd_bits.specs.Contents.{Content}
-use Rattle.form_core.specs.Steps.{Fails}
+use Rattle.form_core.specs.Steps.{FailsUnless}
 use Rattle.splice_core.specs.Splices.{splice_content}
 use Rattle.cut_core.specs.Opening.{ReturnsAllExcerpts, file_bytes, take_from, takes_before}
 use Rattle.cut_core.specs.declared.fault.CutFault.{CutFault}
 use Rattle.cut_core.specs.declared.fault.CutFault.TheVariants.{Memory}
-use Rattle.cut_core.proofs.HearingLaws.{heard_more, heard_none}
+use Rattle.cut_core.proofs.ExcerptLaws.{excerpted_none, known_more}
 use Rattle.cut_core.proofs.Steps.{takes_more, takes_stop}
 use Rattle.cut_core.proofs.takes.read_takes.Goals as goal
 
@@ -16,7 +16,7 @@ loop-number-init c = record {
   whole = [];
   before = refl;
   many = refl;
-  excerpts = rw c.in_ok-takes.ensures.items (heard_none (splice_content c.args.splice.now));
+  excerpts = rw c.in_ok-takes.ensures.items (excerpted_none (splice_content c.args.splice.now));
   len = c.in_ok-takes.ensures.len;
   room = omega (arith, c.in_ok-takes.ensures.capacity);
 }
@@ -30,13 +30,13 @@ loop-number-preserved c =
       whole = so_far.whole ++ r ∷ [];
       before = takes_more (file_bytes c.args.files.now) c.loop-number.number so_far.whole r so_far.before taken.1;
       many = omega (arith, length-append so_far.whole (r ∷ []), so_far.many);
-      excerpts = heard_more (splice_content c.args.splice.now) so_far.whole c.loop-number.takes.items c.push_reserved.new.self.items r c.in_ok-excerpts_of_take.field-0 c.loop-number.number so_far.many so_far.excerpts taken.2 taken.3 c.push_reserved.ensures.items;
+      excerpts = known_more (splice_content c.args.splice.now) so_far.whole c.loop-number.takes.items c.push_reserved.new.self.items r c.in_ok-excerpts_of_take.field-0 c.loop-number.number so_far.many so_far.excerpts taken.2 taken.3 c.push_reserved.ensures.items;
       len = omega (arith, c.push_reserved.ensures.len, so_far.len);
       room = omega (arith, c.push_reserved.ensures.capacity, so_far.room);
     }
 
 -- a take that fails ends them all
-stopped : (files : List (List ℕ)) (n i : ℕ) (takes : List Content) (fault : CutFault) → i < n → takes_before files i ≡ Ok takes → Fails Memory fault (take_from files i) → Fails Memory fault (takes_before files n)
+stopped : (files : List (List ℕ)) (n i : ℕ) (takes : List Content) (fault : CutFault) → i < n → takes_before files i ≡ Ok takes → FailsUnless Memory fault (take_from files i) → FailsUnless Memory fault (takes_before files n)
 stopped files n i takes fault lt before (inl memory) = inl memory
 stopped files n i takes fault lt before (inr refused) = inr (takes_stop files n i takes fault lt before refused)
 

@@ -4,19 +4,19 @@ use Rattle.std.proofs.lemmas.List.Sums.{sum_by_more, sum_by_more_le}
 use Rattle.dsd_bits.specs.Contents.{mark_content}
 use Rattle.splice_core.specs.Cues.{CueContent}
 use Rattle.splice_core.specs.Splices.{splice_content}
-use Rattle.cost_core.specs.Windows.{cue_at}
+use Rattle.cost_core.specs.Windows.{splice_cue}
 use Rattle.cut_core.specs.Cuts.{master_length, span}
 use Rattle.cut_core.specs.Titles.{mark_of_title, titles}
 use Rattle.cut_core.proofs.TitleLaws.{titled_all, titled_more}
 use Rattle.cut_core.proofs.titles.title_marks.Goals as goal
 use Rattle.cut_core.proofs.titles.title_marks.Goals.{In-loop-i}
 
--- the cue and the bridge behind it end within the master
-within : (c : In-loop-i) → c.loop-i.place + span (cue_at (splice_content c.args.splice.now) c.loop-i.i) ≤ master_length (splice_content c.args.splice.now).cues
+-- the cue and the bridge after it end within the master
+within : (c : In-loop-i) → c.loop-i.place + span (splice_cue (splice_content c.args.splice.now) c.loop-i.i) ≤ master_length (splice_content c.args.splice.now).cues
 within c =
     let cues = (splice_content c.args.splice.now).cues in
     let lt : c.loop-i.i < length cues = omega (arith, c.cue_number-i-end.ensures.value) in
-    let most : sum_by span (take c.loop-i.i cues) + span (cue_at (splice_content c.args.splice.now) c.loop-i.i) ≤ master_length cues = sum_by_more_le span cues c.loop-i.i _ lt in
+    let most : sum_by span (take c.loop-i.i cues) + span (splice_cue (splice_content c.args.splice.now) c.loop-i.i) ≤ master_length cues = sum_by_more_le span cues c.loop-i.i _ lt in
     omega (arith, c.loop-i.invariant.place, most)
 
 pub push_title-requires-clause-place : goal.push_title-requires-clause-place

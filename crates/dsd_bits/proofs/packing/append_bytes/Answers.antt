@@ -17,4 +17,4 @@ returns-clause-items c =
     written_back to _ _ (size ∙ sym resized)
     ∙ appended old to c.args.source.now c.args.at c.args.size (omega arith)
     (λ j h. c.shift_into.ensures.before j (omega arith) ∙ ap (λ (xs : List ℕ). slice_index xs j) c.as_mut_slice.ensures.value ∙ c.in_ok-resize.ensures.by_index.0 j 0 (omega arith) (omega (arith, c.args.bytes.now.ok.0)))
-    (λ j h. ap (λ n. slice_index to (n + j)) (sym kept) ∙ c.shift_into.ensures.behind j (omega (arith, c.as_mut_slice.ensures.len)))
+    (λ j h. ap (λ n. slice_index to (n + j)) (sym kept) ∙ c.shift_into.ensures.after j (omega (arith, c.as_mut_slice.ensures.len)))

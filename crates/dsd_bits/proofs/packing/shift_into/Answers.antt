@@ -5,7 +5,7 @@ use Rattle.std.proofs.lemmas.List.{get_or-set_other, length-set}
 use Rattle.dsd_bits.specs.Shifting.{byte_across, byte_from}
 use Rattle.dsd_bits.proofs.packing.shift_into.Goals as goal
 
--- a byte of two that stand side by side
+-- a byte of two channels side by side
 across : (source : List ℕ) (at k j : ℕ) → j ≡ k → byte_across (slice_index source (at / 8 + k)) (slice_index source (at / 8 + k + 1)) (at % 8) ≡ byte_from source (at + 8 * j)
 across source at k j e =
     let whole : at / 8 + k ≡ (at + 8 * j) / 8 = omega (arith, e) in
@@ -22,8 +22,8 @@ loop-k-preserved c =
     record {
       size = length-set to place byte ∙ inv.size;
       before = λ j h. get_or-set_other to place j byte 0 (omega (arith, h)) ∙ inv.before j h;
-      behind = λ j h. elim (cases_lt j k) [
-        | inl low ↦ get_or-set_other to place (c.args.kept + j) byte 0 (omega (arith, low)) ∙ inv.behind j low
+      after = λ j h. elim (cases_lt j k) [
+        | inl low ↦ get_or-set_other to place (c.args.kept + j) byte 0 (omega (arith, low)) ∙ inv.after j low
         | inr high ↦
             let e : j ≡ k = omega (arith, h, high) in
             get_or-set_at to place (c.args.kept + j) byte 0 (ap (λ m. c.args.kept + m) e) (omega (arith, inv.size, c.loop-k-test.true)) ∙ c.byte_across.ensures ∙ across c.args.source.now c.args.at k j e
@@ -40,8 +40,8 @@ returns c =
     let all : c.loop-k.k ≡ last = omega (arith, c.loop-k.auto.k-end, c.loop-k-test.false) in
     record {
       before = λ j h. get_or-set_other to place j byte 0 (omega (arith, h)) ∙ inv.before j h;
-      behind = λ j h. elim (cases_lt j last) [
-        | inl low ↦ get_or-set_other to place (c.args.kept + j) byte 0 (omega (arith, low)) ∙ inv.behind j (omega (arith, low, all))
+      after = λ j h. elim (cases_lt j last) [
+        | inl low ↦ get_or-set_other to place (c.args.kept + j) byte 0 (omega (arith, low)) ∙ inv.after j (omega (arith, low, all))
         | inr high ↦
             let e : j ≡ last = omega (arith, h, high) in
             get_or-set_at to place (c.args.kept + j) byte 0 (ap (λ m. c.args.kept + m) e) (omega (arith, inv.size, c.requires.some)) ∙ c.byte_across-2.ensures ∙ ap (λ b. byte_across (slice_index c.args.source.now (c.args.at / 8 + last)) b (c.args.at % 8)) c.byte_or_zero.ensures ∙ across c.args.source.now c.args.at last j e

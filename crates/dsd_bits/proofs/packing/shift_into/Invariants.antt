@@ -6,5 +6,5 @@ abbrev pub invariant-loop-k : goal.invariant-loop-k
 invariant-loop-k l = record {
   size : length l.to ≡ length l.fn.to;
   before : (j : ℕ) → j < l.kept → slice_index l.to j ≡ slice_index l.fn.to j;
-  behind : (j : ℕ) → j < l.k → slice_index l.to (l.kept + j) ≡ byte_from l.source (l.at + 8 * j);
+  after : (j : ℕ) → j < l.k → slice_index l.to (l.kept + j) ≡ byte_from l.source (l.at + 8 * j);
 }

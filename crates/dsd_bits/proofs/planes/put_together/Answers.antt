@@ -24,7 +24,7 @@ loop-c-preserved over c =
             let e : d ≡ own = omega (arith, below, high) in
             get_or-set_at frames (k * n + own) (k * n + d) byte 0 (ap (λ m. k * n + m) e) inside ∙ ap (λ m. slice_index c.args.planes.now (4096 * m + k)) (sym e)
       ];
-      others = λ place behind. get_or-set_other frames (k * n + own) place byte 0 (omega (arith, behind)) ∙ inv.others place (omega (arith, behind));
+      others = λ place after. get_or-set_other frames (k * n + own) place byte 0 (omega (arith, after)) ∙ inv.others place (omega (arith, after));
     }
 
 pub loop-k-preserved : goal.loop-k-preserved
@@ -40,7 +40,7 @@ loop-k-preserved over c =
             let e : j ≡ k = omega (arith, below, high) in
             ap (λ m. slice_index c.loop-c.frames (m * n + d)) e ∙ inv.frame d (omega (arith, in_frame, c.loop-c-test.false)) ∙ ap (λ m. slice_index c.args.planes.now (4096 * d + m)) (sym e)
       ];
-      others = λ place behind. inv.others place (omega (arith, behind, c.loop-c.auto.c-end));
+      others = λ place after. inv.others place (omega (arith, after, c.loop-c.auto.c-end));
     }
 
 pub bounds-planes-c : goal.bounds-planes-c
@@ -63,11 +63,11 @@ loop-c-init over c = record {
   size = c.loop-k.invariant.size;
   written = c.loop-k.invariant.written;
   frame = λ d h. absurd (omega (arith, h));
-  others = λ place behind. c.loop-k.invariant.others place (omega (arith, behind));
+  others = λ place after. c.loop-k.invariant.others place (omega (arith, after));
 }
 
 pub returns : goal.returns
 returns over c = record {
   written = λ d k in_frame below. c.loop-k.invariant.written d k in_frame (omega (arith, below, c.loop-k-test.false));
-  others = λ place behind. c.loop-k.invariant.others place (let e : c.loop-k.k ≡ c.args.count = omega (arith, c.loop-k.auto.k-end, c.loop-k-test.false) in omega (arith, behind, ap (λ m. m * over.row.N) e));
+  others = λ place after. c.loop-k.invariant.others place (let e : c.loop-k.k ≡ c.args.count = omega (arith, c.loop-k.auto.k-end, c.loop-k-test.false) in omega (arith, after, ap (λ m. m * over.row.N) e));
 }

@@ -12,37 +12,37 @@ own part rest frames count c k is below =
     let long = ap length is ∙ length-map-range_with_len f 0 count in
     get_or_append_left part rest 0 k (omega (arith, long)) ∙ ap (λ xs. slice_index xs k) is ∙ get_or-map-range_with_len f 0 count k k 0 below (omega arith)
 
-both : (left behind_left right behind_right frames : List ℕ) (count c k : ℕ) → left ≡ picked frames 2 0 0 count → right ≡ picked frames 2 1 0 count → length (left ++ behind_left) ≡ 4096 → c < 2 → k < count → count < 4097
-    → slice_index ((left ++ behind_left) ++ (right ++ behind_right)) (4096 * c + k) ≡ slice_index frames (k * 2 + c)
-both left behind_left right behind_right frames count c k left_is right_is long in_list below few = elim (cases_lt c 1) [
+both : (left after_left right after_right frames : List ℕ) (count c k : ℕ) → left ≡ picked frames 2 0 0 count → right ≡ picked frames 2 1 0 count → length (left ++ after_left) ≡ 4096 → c < 2 → k < count → count < 4097
+    → slice_index ((left ++ after_left) ++ (right ++ after_right)) (4096 * c + k) ≡ slice_index frames (k * 2 + c)
+both left after_left right after_right frames count c k left_is right_is long in_list below few = elim (cases_lt c 1) [
   | inl low ↦
       let e : c ≡ 0 = omega arith in
       let place : 4096 * c + k ≡ k = omega (arith, e) in
       let back : k * 2 + 0 ≡ k * 2 + c = omega (arith, e) in
-      ap (slice_index ((left ++ behind_left) ++ (right ++ behind_right))) place ∙ get_or_append_left (left ++ behind_left) (right ++ behind_right) 0 k (omega (arith, long)) ∙ own left behind_left frames count 0 k left_is below ∙ ap (slice_index frames) back
+      ap (slice_index ((left ++ after_left) ++ (right ++ after_right))) place ∙ get_or_append_left (left ++ after_left) (right ++ after_right) 0 k (omega (arith, long)) ∙ own left after_left frames count 0 k left_is below ∙ ap (slice_index frames) back
   | inr high ↦
       let e : c ≡ 1 = omega arith in
-      let behind : 4096 * c + k - 4096 ≡ k = omega (arith, e) in
+      let after : 4096 * c + k - 4096 ≡ k = omega (arith, e) in
       let back : k * 2 + 1 ≡ k * 2 + c = omega (arith, e) in
-      get_or-append_right (left ++ behind_left) (right ++ behind_right) 4096 (4096 * c + k) 0 long (omega (arith, e)) ∙ ap (slice_index (right ++ behind_right)) behind ∙ own right behind_right frames count 1 k right_is below ∙ ap (slice_index frames) back
+      get_or-append_right (left ++ after_left) (right ++ after_right) 4096 (4096 * c + k) 0 long (omega (arith, e)) ∙ ap (slice_index (right ++ after_right)) after ∙ own right after_right frames count 1 k right_is below ∙ ap (slice_index frames) back
 ]
 
--- a byte that stands behind the part of its plane that is written
+-- a byte after the part of its plane that is written
 kept : (new old rest : List ℕ) (count place : ℕ) → length new ≡ count → length old ≡ count → count ≤ place → slice_index (new ++ rest) place ≡ slice_index (old ++ rest) place
-kept new old rest count place new_long old_long behind = get_or-append_right new rest count place 0 new_long behind ∙ sym (get_or-append_right old rest count place 0 old_long behind)
+kept new old rest count place new_long old_long after = get_or-append_right new rest count place 0 new_long after ∙ sym (get_or-append_right old rest count place 0 old_long after)
 
-module _ (planes first second left behind_left right behind_right new_left new_right : List ℕ) (count : ℕ) (few : count ≤ 4096) (both_are : planes ≡ first ++ second) (first_is : first ≡ left ++ behind_left) (second_is : second ≡ right ++ behind_right)
+module _ (planes first second left after_left right after_right new_left new_right : List ℕ) (count : ℕ) (few : count ≤ 4096) (both_are : planes ≡ first ++ second) (first_is : first ≡ left ++ after_left) (second_is : second ≡ right ++ after_right)
     (long : length first ≡ 4096) (left_long : length left ≡ count) (right_long : length right ≡ count) (new_left_long : length new_left ≡ count) (new_right_long : length new_right ≡ count) where
-  new_long : length (new_left ++ behind_left) ≡ 4096
-  new_long = omega (arith, length-append new_left behind_left, length-append left behind_left, ap length first_is, long, left_long, new_left_long)
+  new_long : length (new_left ++ after_left) ≡ 4096
+  new_long = omega (arith, length-append new_left after_left, length-append left after_left, ap length first_is, long, left_long, new_left_long)
 
-  others : (place : ℕ) → (2 ≤ place / 4096) ⊎ (count ≤ place % 4096) → slice_index ((new_left ++ behind_left) ++ (new_right ++ behind_right)) place ≡ slice_index planes place
+  others : (place : ℕ) → (2 ≤ place / 4096) ⊎ (count ≤ place % 4096) → slice_index ((new_left ++ after_left) ++ (new_right ++ after_right)) place ≡ slice_index planes place
   others place away = elim (cases_lt place 4096) [
     | inl low ↦
-        get_or_append_left (new_left ++ behind_left) (new_right ++ behind_right) 0 place (omega (arith, new_long, low)) ∙ kept new_left left behind_left count place new_left_long left_long (omega (arith, away, low)) ∙ ap (λ xs. slice_index xs place) (sym first_is)
+        get_or_append_left (new_left ++ after_left) (new_right ++ after_right) 0 place (omega (arith, new_long, low)) ∙ kept new_left left after_left count place new_left_long left_long (omega (arith, away, low)) ∙ ap (λ xs. slice_index xs place) (sym first_is)
         ∙ sym (get_or_append_left first second 0 place (omega (arith, long, low))) ∙ ap (λ xs. slice_index xs place) (sym both_are)
     | inr high ↦
-        get_or-append_right (new_left ++ behind_left) (new_right ++ behind_right) 4096 place 0 new_long high ∙ kept new_right right behind_right count (place - 4096) new_right_long right_long (omega (arith, away, high, few)) ∙ ap (λ xs. slice_index xs (place - 4096)) (sym second_is)
+        get_or-append_right (new_left ++ after_left) (new_right ++ after_right) 4096 place 0 new_long high ∙ kept new_right right after_right count (place - 4096) new_right_long right_long (omega (arith, away, high, few)) ∙ ap (λ xs. slice_index xs (place - 4096)) (sym second_is)
         ∙ sym (get_or-append_right first second 4096 place 0 long high) ∙ ap (λ xs. slice_index xs place) (sym both_are)
   ]
 

@@ -45,7 +45,7 @@ returns-clause-appended c =
     c.args.start c.args.stop added c.requires.in_order c.requires.in_source size c.fill_byte.new.bytes.items
     (λ i h. c.fill_byte.ensures.before i h ∙ ap (λ (b : List ℕ). packed_bit b i) appended)
     (λ i h below. c.fill_byte.ensures.filled i h below)
-    (λ i h. c.fill_byte.ensures.behind i h ∙ ap (λ (b : List ℕ). packed_bit b i) appended)
+    (λ i h. c.fill_byte.ensures.after i h ∙ ap (λ (b : List ℕ). packed_bit b i) appended)
 
 -- where room for the bits is held, there is room for their bytes
 fits : (c : After-append_bytes) → c.args.before + (c.args.stop - c.args.start) ≤ 8 * vec_capacity c.args.bytes.now → IsOk c.append_bytes.result

@@ -3,7 +3,7 @@ use Rattle.std.proofs.lemmas.Nat.{mul-le}
 use Rattle.dsd_bits.specs.Lacing.{frame_number}
 use Rattle.dsd_bits.specs.Rooms.{rooms_bits}
 use Rattle.dsd_bits.proofs.RoomLemmas.{room_long}
-use Rattle.dsd_bits.proofs.ShiftingLemmas.{written_behind}
+use Rattle.dsd_bits.proofs.ShiftingLemmas.{written_after}
 use Rattle.dsd_bits.proofs.room_lacing.push_laced_rooms.Goals as goal
 use Rattle.dsd_bits.proofs.room_lacing.push_laced_rooms.Goals.{After-len-frames}
 
@@ -30,13 +30,13 @@ lace_rooms-requires c = record {
 pub returns : goal.returns
 returns c =
     let old = c.args.out.now.items in
-    let front = c.split_at_mut-to.result.0.now in
+    let prefix = c.split_at_mut-to.result.0.now in
     let new = c.lace_rooms.new.to in
     record {
       text =
-          written_behind old _ c.resize.new.self.items front new _ c.len-kept.result (c.len-kept.result + c.len-frames.result / 8 * length c.args.rooms.now) c.resize.new.self.len
+          written_after old _ c.resize.new.self.items prefix new _ c.len-kept.result (c.len-kept.result + c.len-frames.result / 8 * length c.args.rooms.now) c.resize.new.self.len
           (omega (arith, c.len-kept.ensures, c.args.out.now.ok.0)) (omega arith) c.in-Ok.ensures.items (c.split_at_mut-to.ensures.front ∙ ap (take c.len-kept.result) c.as_mut_slice.ensures.value)
-          (omega (arith, length-append front new, c.split_at_mut-to.ensures.front_len, c.split_at_mut-to.ensures.back_len, c.lace_rooms.auto.to, c.as_mut_slice.ensures.len, c.resize.new.self.ok.0))
+          (omega (arith, length-append prefix new, c.split_at_mut-to.ensures.front_len, c.split_at_mut-to.ensures.back_len, c.lace_rooms.auto.to, c.as_mut_slice.ensures.len, c.resize.new.self.ok.0))
           ∙ ap (λ xs. old ++ xs) c.lace_rooms.ensures;
       capacity = c.resize.ensures.capacity;
     }

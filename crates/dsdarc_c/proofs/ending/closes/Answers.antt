@@ -4,10 +4,10 @@ use Rattle.dsdarc_c.proofs.ending.closes.Goals as goal
 
 pub closes-requires-clause-at_sound : goal.closes-requires-clause-at_sound
 closes-requires-clause-at_sound c =
-    let told = has_order c.args.sound.now.interleaving (sym c.has_blocks.ensures ∙ c.if-has_blocks.true) in
-    ends c.args.front.now c.args.sound.now c.requires.ends told.0 told.1
+    let stated = has_order c.args.sound.now.interleaving (sym c.has_blocks.ensures ∙ c.if-has_blocks.true) in
+    ends c.args.header.now c.args.sound.now c.requires.ends stated.0 stated.1
 
 pub closes-requires-2 : goal.closes-requires-2
 closes-requires-2 c =
-    let told = no_order c.args.sound.now.interleaving (sym c.has_blocks.ensures ∙ c.if-has_blocks.false) in
-    (c.args.sound.now, form_ends_at c.args.front.now c.args.sound.now c.requires.ends told)
+    let stated = no_order c.args.sound.now.interleaving (sym c.has_blocks.ensures ∙ c.if-has_blocks.false) in
+    (c.args.sound.now, form_ends_at c.args.header.now c.args.sound.now c.requires.ends stated)

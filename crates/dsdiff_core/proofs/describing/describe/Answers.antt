@@ -7,5 +7,5 @@ use Rattle.dsdiff_core.proofs.describing.describe.Goals as goal
 
 pub returns : goal.returns
 returns c = λ sound size.
-    let front = c.args.front.now in
-    subst (Gives (λ d. d) c.describe_around.result) (sym (described_alike front (replicate (stated_size front) 0) c.args.back.now c.requires (length-replicate {A = ℕ} (stated_size front) 0) sound size)) c.describe_around.ensures
+    let prefix = c.args.prefix.now in
+    subst (Gives (λ d. d) c.describe_around.result) (sym (described_alike prefix (replicate (stated_size prefix) 0) c.args.back.now c.requires (length-replicate {A = ℕ} (stated_size prefix) 0) sound size)) c.describe_around.ensures

@@ -6,7 +6,7 @@ use Rattle.chunk_core.specs.Places.{LiesIn}
 use Rattle.chunk_core.specs.Steps.{Gives}
 use Rattle.chunk_core.specs.declared.layout.Span.{Span}
 use Rattle.dsdiff_core.specs.Held.{IsInMemory}
-use Rattle.dsdiff_core.proofs.FrontLaws.{when_ok}
+use Rattle.dsdiff_core.proofs.HeaderLaws.{when_ok}
 use Rattle.dsdiff_core.proofs.HeldLaws.{inside_spans, inside_stand}
 use Rattle.dsdiff_core.proofs.held.walk_inside.Goals as goal
 

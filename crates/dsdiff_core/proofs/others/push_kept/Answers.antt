@@ -6,7 +6,7 @@ use Rattle.dsd_bits.specs.Contents.{other_content}
 use Rattle.dsd_bits.specs.Shape.{has_part}
 use Rattle.dsdiff_core.specs.Others.{kept, other_in}
 use Rattle.dsdiff_core.proofs.KeptLoop.{passed_more, passed_by}
-use Rattle.dsdiff_core.proofs.HeldLaws.{kept_stands}
+use Rattle.dsdiff_core.proofs.HeldLaws.{kept_holds}
 use Rattle.dsdiff_core.proofs.OnceLoop.{no_span}
 use Rattle.dsdiff_core.specs.Held.{held}
 use Rattle.dsdiff_core.proofs.others.push_kept.Goals as goal
@@ -19,7 +19,7 @@ pub is_read-requires : goal.is_read-requires
 is_read-requires c = c.requires c.loop-span.span-index no_span c.loop-span-test.true
 
 pub data_of-requires : goal.data_of-requires
-data_of-requires c = kept_stands c.args.place c.args.file _ (c.requires c.loop-span.span-index no_span c.loop-span-test.true) (sym c.is_read.ensures ∙ c.if-not-is_read.true)
+data_of-requires c = kept_holds c.args.place c.args.file _ (c.requires c.loop-span.span-index no_span c.loop-span-test.true) (sym c.is_read.ensures ∙ c.if-not-is_read.true)
 
 pub loop-span-preserved : goal.loop-span-preserved
 loop-span-preserved c =

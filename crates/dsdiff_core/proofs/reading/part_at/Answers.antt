@@ -1,6 +1,6 @@
 use Rattle.std.proofs.Common.{◌≡◌, ◌≤◌, ◌+◌, ℕ, Option, Result, Ok, Some, sym, subst, arith, length}
 use Rattle.dsdiff_core.specs.declared.fault.DsdiffFault.{DsdiffFault}
-use Rattle.dsdiff_core.specs.Fronts.{size_at}
+use Rattle.dsdiff_core.specs.Headers.{size_at}
 use Rattle.dsdiff_core.proofs.DescribedLaws.{not_located, parted_at, unlocated}
 use Rattle.dsdiff_core.proofs.reading.part_at.Goals as goal
 
@@ -8,7 +8,7 @@ some_place : (x y : ℕ) → (let r : Result (Option ℕ) DsdiffFault = Ok (Some
 some_place x y e = cc
 
 pub returns-then-file-at : goal.returns-then-file-at
-returns-then-file-at c = unlocated c.args.file.now c.whole.result c.whole.ensures.value c.whole.ensures.is_held c.whole.ensures.front (not_located c.args.file.now _ c.requires.located (λ at e inside.
+returns-then-file-at c = unlocated c.args.file.now c.whole.result c.whole.ensures.value c.whole.ensures.is_held c.whole.ensures.prefix (not_located c.args.file.now _ c.requires.located (λ at e inside.
     let same = some_place c.args.at at e in
     omega (arith, subst (λ n. n + 12 + size_at c.args.file.now n ≤ length c.args.file.now) (sym same) inside, c.if-file-at.true, c.u64_at-size.ensures)))
 

@@ -26,7 +26,7 @@ returns-in_err-push_u64-2 c = no_value _ _ c.from_residual-in_err-push_u64-2.res
 
 pub returns : goal.returns
 returns c =
-    head_is c.args.recording.now c.args.size c.args.behind c.size_around.result c.len.result c.in_ok-first.first.items
+    head_is c.args.recording.now c.args.size c.args.after c.size_around.result c.len.result c.in_ok-first.first.items
     c.new-out.result.items c.extend_from_slice.new.self.items c.push_u64.new.out.items c.extend_from_slice-2.new.self.items c.extend_from_slice-3.new.self.items c.extend_from_slice-4.new.self.items c.push_u64-2.new.out.items
     c.requires c.in_ok-first.ensures (omega arith) c.size_around.ensures c.new-out.ensures.items c.in_ok-extend_from_slice.ensures.items c.in_ok-push_u64.ensures.ok c.in_ok-extend_from_slice-2.ensures.items
     (c.in_ok-extend_from_slice-3.ensures.items ∙ ap (λ x. c.extend_from_slice-2.new.self.items ++ x) c.deref.ensures.value) c.in_ok-extend_from_slice-4.ensures.items c.in_ok-push_u64-2.ensures.ok

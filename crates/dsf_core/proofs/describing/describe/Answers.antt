@@ -1,26 +1,26 @@
 use Rattle.std.proofs.Common.{Ok, subst, sym}
 use Rattle.std.proofs.lemmas.Result.{err_from_is_err_and}
 use Rattle.dsd_bits.specs.Contents.{Described}
-use Rattle.dsf_core.specs.Fronts.{Describes, DescribesSound}
+use Rattle.dsf_core.specs.Headers.{Describes, DescribesSound}
 use Rattle.dsf_core.proofs.DescribingLaws.{described, describes_sound, leads, no_fault, refused}
 use Rattle.dsf_core.proofs.FileLaws.{is_sound}
 use Rattle.dsf_core.proofs.describing.describe.Goals as goal
 
-pub returns-in_err-front : goal.returns-in_err-front
-returns-in_err-front c = no_fault c.args.front.now c.in_err-front.field-0.0 _ c.requires.at_sound c.in_err-front.ensures
+pub returns-in_err-prefix : goal.returns-in_err-prefix
+returns-in_err-prefix c = no_fault c.args.prefix.now c.in_err-prefix.field-0.0 _ c.requires.at_sound c.in_err-prefix.ensures
 
 pub returns-in_err-check_ends : goal.returns-in_err-check_ends
 returns-in_err-check_ends c =
     let e = err_from_is_err_and c.from_residual-in_err-check_ends.result c.from_residual-in_err-check_ends.ensures.1 in
-    rw (e.1, e.2) (record { told = refused c.args.front.now c.in_ok-front.front (sym c.in_ok-front.ensures) c.args.tag.items c.args.total c.in_err-check_ends.field-0.0 (sym c.in_err-check_ends.ensures); sound = tt })
+    rw (e.1, e.2) (record { stated = refused c.args.prefix.now c.in_ok-prefix.prefix (sym c.in_ok-prefix.ensures) c.args.tag.items c.args.total c.in_err-check_ends.field-0.0 (sym c.in_err-check_ends.ensures); sound = tt })
 
 pub description_of-requires : goal.description_of-requires
-description_of-requires c = record { in_limits = is_sound c.args.front.now c.in_ok-front.front.sound (leads c.args.front.now c.in_ok-front.front (sym c.in_ok-front.ensures)) }
+description_of-requires c = record { in_limits = is_sound c.args.prefix.now c.in_ok-prefix.prefix.sound (leads c.args.prefix.now c.in_ok-prefix.prefix (sym c.in_ok-prefix.ensures)) }
 
 pub returns : goal.returns
 returns c =
     let made = c.in_ok-description_of.ensures in record {
-      told = subst (λ (d : Described). Describes c.args.front.now c.args.total c.args.tag.items (Ok d)) (sym made)
-          (described c.args.front.now c.in_ok-front.front (sym c.in_ok-front.ensures) c.args.tag.items c.args.total tt (sym c.in_ok-check_ends.ensures));
-      sound = λ s found. subst (DescribesSound s) (sym made) (describes_sound c.args.front.now c.in_ok-front.front (sym c.in_ok-front.ensures) c.args.tag.items s found);
+      stated = subst (λ (d : Described). Describes c.args.prefix.now c.args.total c.args.tag.items (Ok d)) (sym made)
+          (described c.args.prefix.now c.in_ok-prefix.prefix (sym c.in_ok-prefix.ensures) c.args.tag.items c.args.total tt (sym c.in_ok-check_ends.ensures));
+      sound = λ s found. subst (DescribesSound s) (sym made) (describes_sound c.args.prefix.now c.in_ok-prefix.prefix (sym c.in_ok-prefix.ensures) c.args.tag.items s found);
     }

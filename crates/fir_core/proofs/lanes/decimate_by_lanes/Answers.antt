@@ -18,8 +18,8 @@ pub loop-j-preserved : goal.loop-j-preserved
 loop-j-preserved c =
     pushed (sample_at c.args.taps.now c.args.bits.now) _ _ c.loop-j.j c.sample_by_lanes.result (record { sfits = c.sample_by_lanes.type_inv }) c.loop-j.invariant c.sample_by_lanes.ensures c.in_ok-push.ensures.items
 
-pub invariant_of-turned : goal.invariant_of-turned
-invariant_of-turned c =
+pub invariant_of-reversed : goal.invariant_of-reversed
+invariant_of-reversed c =
     let d = c.args.taps.now in
     let are = c.as_slice.ensures.value ∙ c.in_ok-aligned.ensures in
     record { are = are; small = rw are (omega (arith, abs_sum_aligned d.taps d.delay, c.factor.ensures.limits.small_sum)) }

@@ -1,12 +1,12 @@
 use Rattle.std.proofs.Common.{◌≡◌, ℕ, ℤ, ◌+◌, ◌*◌, ◌/◌, ◌≤◌, ◌∙◌, inl, inr, List, arith, length, subst, sym}
 use Rattle.std.proofs.lemmas.Bool.{cases_lt}
-use Rattle.fir_core.specs.Blocks.{AreAdded, AreSummed, IsBehind, IsBlockOf}
-use Rattle.fir_core.specs.declared.rows.Block.{Block}
-use Rattle.fir_core.specs.declared.rows.Spot.{Spot}
+use Rattle.fir_core.specs.Blocks.{AreAdded, AreSummed, IsAfter, IsBlockOf}
+use Rattle.fir_core.specs.declared.lookup.Block.{Block}
+use Rattle.fir_core.specs.declared.lookup.Spot.{Spot}
 use Rattle.fir_core.proofs.RowLaws.{all_before, not_begun}
 use Rattle.fir_core.proofs.row_sums.add_block.Goals as goal
 
--- the windows before a block have all of their bytes, and those behind it none of the block's
+-- the windows before a block have all of their bytes, and those after it none of the block's
 begun : (spot : Spot) (block : Block) (sums : List ℤ) → IsBlockOf spot (length sums) block → AreSummed spot sums → AreAdded block block.start sums
 begun spot block sums of so_far =
     let here : block.p + 0 ≡ spot.p = omega (arith, of.p) in
@@ -14,16 +14,16 @@ begun spot block sums of so_far =
       long = sym of.within;
       done = λ k h.
           let ended = of.done k h in
-          rw (of.rows, of.bytes, of.p) (so_far k (omega (arith, h, block.below, of.within)) ∙ all_before spot.rows.taps.now spot.bytes.now spot.rows.step spot.p (spot.p + 8) k spot.rows.laid.whole ended (omega (arith, ended)));
-      rest = λ k h l. rw (of.rows, of.bytes, here) (so_far k l);
+          rw (of.lookup, of.bytes, of.p) (so_far k (omega (arith, h, block.below, of.within)) ∙ all_before spot.lookup.taps.now spot.bytes.now spot.lookup.step spot.p (spot.p + 8) k spot.lookup.laid.whole ended (omega (arith, ended)));
+      rest = λ k h l. rw (of.lookup, of.bytes, here) (so_far k l);
     }
 
-all_done : (spot behind : Spot) (block : Block) (number : ℕ) (sums : List ℤ) → IsBlockOf spot number block → IsBehind 8 spot behind → AreAdded block (block.start + block.number) sums → AreSummed behind sums
-all_done spot behind block number sums of next added k l =
-    let begins : block.start + block.number ≤ k → block.p + 8 ≤ k * block.rows.step = λ past. rw (of.rows, of.p) (of.rest k past (omega (arith, l, added.long, of.within))) in
-    rw (next.rows, next.bytes, next.p, ← of.rows, ← of.bytes, ← of.p) (elim (cases_lt k (block.start + block.number)) [
+all_done : (spot after : Spot) (block : Block) (number : ℕ) (sums : List ℤ) → IsBlockOf spot number block → IsAfter 8 spot after → AreAdded block (block.start + block.number) sums → AreSummed after sums
+all_done spot after block number sums of next added k l =
+    let begins : block.start + block.number ≤ k → block.p + 8 ≤ k * block.lookup.step = λ past. rw (of.lookup, of.p) (of.rest k past (omega (arith, l, added.long, of.within))) in
+    rw (next.lookup, next.bytes, next.p, ← of.lookup, ← of.bytes, ← of.p) (elim (cases_lt k (block.start + block.number)) [
       | inl before ↦ added.done k before
-      | inr past ↦ added.rest k past l ∙ not_begun block.rows.taps.now block.bytes.now block.rows.step (block.p + 0) (block.p + 8) k (omega (arith, begins past)) (begins past)
+      | inr past ↦ added.rest k past l ∙ not_begun block.lookup.taps.now block.bytes.now block.lookup.step (block.p + 0) (block.p + 8) k (omega (arith, begins past)) (begins past)
     ])
 
 pub returns-else-block-ne0-clause-sums : goal.returns-else-block-ne0-clause-sums

@@ -19,7 +19,7 @@ returns c =
     let lanes = map (to_z w32) c.loop-b.lanes in
     let all : c.loop-b.b ≡ 8 = omega (arith, c.loop-b-test.false, c.loop-b.auto.b-end) in
     let done : AreLanes (sum_within block 8) c.args.j c.loop-b.lanes = subst (λ (m : ℕ). AreLanes (sum_within block m) c.args.j c.loop-b.lanes) all c.loop-b.invariant in
-    let small = λ (k : ℕ). sum_small block.rows.taps.now block.bytes.now block.rows.step (block.p + 8) k block.rows.laid.small in
+    let small = λ (k : ℕ). sum_small block.lookup.taps.now block.bytes.now block.lookup.step (block.p + 8) k block.lookup.laid.small in
     let w = chunk_written (sum_within block 8) (sum_within block 0) block.limit c.args.j 8 c.args.sums.now lanes
     (length-map c.loop-b.lanes (to_z w32) ∙ done.long)
     (omega (arith, c.requires.inside.to, block.below))

@@ -14,17 +14,17 @@ overflow_add-reach c = omega (arith, c.requires.each (length c.fill.new.self - 1
 pub loop-block-init : goal.loop-block-init
 loop-block-init c = record {
   long = refl;
-  spot = record { at = omega arith; inside = omega (arith, c.args.rows.laid.least) };
-  sums = λ k h. c.fill.ensures.clones k (pos 0) (omega (arith, c.fill.ensures.len)) refl ∙ sym (none_before c.args.rows.taps.now c.args.bytes.now c.args.rows.step k);
+  spot = record { at = omega arith; inside = omega (arith, c.args.lookup.laid.least) };
+  sums = λ k h. c.fill.ensures.clones k (pos 0) (omega (arith, c.fill.ensures.len)) refl ∙ sym (none_before c.args.lookup.taps.now c.args.bytes.now c.args.lookup.step k);
 }
 
 pub returns : goal.returns
 returns c =
-    let rows = c.args.rows in
+    let lookup = c.args.lookup in
     let number = length c.args.sums.now in
     let long : length c.loop-p.sums ≡ number = omega (arith, c.loop-p.invariant.long, c.loop-block.invariant.long, c.fill.ensures.len) in
-    fill_by_all (λ i. window_sum rows.taps.now c.args.bytes.now (i * rows.step)) c.loop-p.sums number (pos 0) long
+    fill_by_all (λ i. window_sum lookup.taps.now c.args.bytes.now (i * lookup.step)) c.loop-p.sums number (pos 0) long
     (λ k h.
-    let before : k * rows.step ≤ (length c.fill.new.self - 1) * rows.step = mul-le-mul_right rows.step (omega (arith, c.fill.ensures.len)) in
-    let ended : length rows.taps.now / 8 + k * rows.step ≤ c.loop-p.p = omega (arith, c.loop-p-test.false, before) in
-    c.loop-p.invariant.sums k (omega (arith, long)) ∙ whole_window rows.taps.now c.args.bytes.now rows.step c.loop-p.p k rows.laid.whole ended)
+    let before : k * lookup.step ≤ (length c.fill.new.self - 1) * lookup.step = mul-le-mul_right lookup.step (omega (arith, c.fill.ensures.len)) in
+    let ended : length lookup.taps.now / 8 + k * lookup.step ≤ c.loop-p.p = omega (arith, c.loop-p-test.false, before) in
+    c.loop-p.invariant.sums k (omega (arith, long)) ∙ whole_window lookup.taps.now c.args.bytes.now lookup.step c.loop-p.p k lookup.laid.whole ended)

@@ -1,4 +1,4 @@
-use Rattle.fir_core.proofs.TurnLaws.{added_at}
+use Rattle.fir_core.proofs.StrideLaws.{added_at}
 use Rattle.fir_core.proofs.strides.add_eight.Goals as goal
 
 pub returns : goal.returns

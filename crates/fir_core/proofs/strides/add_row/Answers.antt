@@ -1,5 +1,5 @@
 use Rattle.std.proofs.Common.{arith}
-use Rattle.fir_core.proofs.TurnLaws.{near_added}
+use Rattle.fir_core.proofs.StrideLaws.{near_added}
 use Rattle.fir_core.proofs.strides.add_row.Goals as goal
 
 pub returns-clause-sums : goal.returns-clause-sums

@@ -1,5 +1,5 @@
 use Rattle.std.proofs.Common.{◌-◌, arith}
-use Rattle.fir_core.proofs.TurnLaws.{near_moved}
+use Rattle.fir_core.proofs.StrideLaws.{near_moved}
 use Rattle.fir_core.proofs.strides.moved.Goals as goal
 
 pub returns : goal.returns

@@ -10,7 +10,7 @@ use Rattle.fir_core.proofs.strides.sum_tile.Goals as goal
 pub add_strides-requires : goal.add_strides-requires
 add_strides-requires g c =
     let number = length c.args.sums.now in
-    let step = c.args.of.rows.step in
+    let step = c.args.of.lookup.step in
     let long = c.split_at_mut-used.ensures.front_len in
     let fits : (8 * (((number + 14) / 8 * 8 + 8) / 8 + g.row.N) - 16) * step ≤ (number + 8 * g.row.N + 7) * step = mul-le-mul_right step (omega arith) in (
       omega arith,
@@ -30,7 +30,7 @@ pub returns : goal.returns
 returns g c =
     let number = length c.args.sums.now in
     let used = c.add_strides.new.sums in
-    fill_by_all (λ j. window_sum c.args.of.rows.taps.now c.args.bytes.now (j * c.args.of.rows.step)) c.copy_from_slice.new.self number (pos 0) c.copy_from_slice.ensures.len
+    fill_by_all (λ j. window_sum c.args.of.lookup.taps.now c.args.bytes.now (j * c.args.of.lookup.step)) c.copy_from_slice.new.self number (pos 0) c.copy_from_slice.ensures.len
     (λ j h.
     let inside : j < 7 + number - 7 = omega (arith, h) in
     let place : 7 + j ≡ j + 7 = omega arith in

@@ -14,7 +14,7 @@ pub returns : goal.returns
 returns c =
     let form = name_of c.args.form in
     let d = c.args.description.now in
-    let told : written c.name_of-form.result.now c.rate-rate.result (length c.ids.result.now) c.count-count.result ≡ written form d.rate (length d.ids) d.count =
+    let reported : written c.name_of-form.result.now c.rate-rate.result (length c.ids.result.now) c.count-count.result ≡ written form d.rate (length d.ids) d.count =
     λ i. written (c.name_of-form.ensures i) (c.rate-rate.ensures.value i) (length (c.ids.ensures.value i)) (c.count-count.ensures.value i) in
     let grouped = ap (λ (lines : List ℕ). codes "form " ++ lines) (regrouped form (codes "\nrate ") (decimal d.rate) (codes "\nchannels ") (decimal (length d.ids)) (codes "\nsamples ") (decimal d.count)) in
-    subst (λ (lines : List ℕ). IfOk c.format.result (λ text. string_bytes text ≡ lines)) (told ∙ grouped) c.format.ensures.ok
+    subst (λ (lines : List ℕ). IfOk c.format.result (λ text. string_bytes text ≡ lines)) (reported ∙ grouped) c.format.ensures.ok

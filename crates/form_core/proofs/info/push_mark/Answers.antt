@@ -5,7 +5,7 @@ use Rattle.dsd_bits.specs.Contents.{mark_content, MarkContent}
 use Rattle.dsdiff_core.specs.MarkPlaces.{place_of}
 use Rattle.form_core.proofs.info.push_mark.Goals as goal
 
--- a text and the line of a mark behind it, grouped as they are written
+-- a text and the line of a mark after it, grouped as they are written
 abbrev written : List ℕ → ℤ → MarkContent → List ℕ
 written text place mark = text ++ (codes "\nmark " ++ (signed_decimal place ++ (codes " type " ++ (decimal mark.kind ++ (codes " channel " ++ decimal mark.channel)))))
 

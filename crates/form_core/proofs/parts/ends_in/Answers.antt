@@ -20,23 +20,23 @@ no_memory F f = (λ e. absurd cc, λ none. absurd (none f))
 
 pub returns-in-Dsdiff : goal.returns-in-Dsdiff
 returns-in-Dsdiff c =
-    let told = c.around_frames.ensures in
+    let reported = c.around_frames.ensures in
     rw c.in-Dsdiff.is (record {
-      head = told.head;
-      tail = told.tail;
-      fits = IfOk-weaker c.around_frames.result _ _ (λ ends whole e. whole) told.fits;
-      not_whole_bytes = (λ e whole. told.not_whole_bytes.0 e (whole refl), λ none. told.not_whole_bytes.1 (λ whole. none (λ e. whole)));
+      head = reported.head;
+      tail = reported.tail;
+      fits = IfOk-weaker c.around_frames.result _ _ (λ ends whole e. whole) reported.fits;
+      not_whole_bytes = (λ e whole. reported.not_whole_bytes.0 e (whole refl), λ none. reported.not_whole_bytes.1 (λ whole. none (λ e. whole)));
     })
 
 pub returns-in_ok-around_blocks-in-Dsf : goal.returns-in_ok-around_blocks-in-Dsf
 returns-in_ok-around_blocks-in-Dsf c =
-    let told = c.in_ok-around_blocks-in-Dsf.ensures in
-    rw c.in-Dsf.is (record { head = told.head; tail = told.tail; fits = fits LeastFirst c.args.count; not_whole_bytes = made _ _ (fits LeastFirst c.args.count) })
+    let reported = c.in_ok-around_blocks-in-Dsf.ensures in
+    rw c.in-Dsf.is (record { head = reported.head; tail = reported.tail; fits = fits LeastFirst c.args.count; not_whole_bytes = made _ _ (fits LeastFirst c.args.count) })
 
 pub returns-in_ok-around_blocks-in-Dsf8 : goal.returns-in_ok-around_blocks-in-Dsf8
 returns-in_ok-around_blocks-in-Dsf8 c =
-    let told = c.in_ok-around_blocks-in-Dsf8.ensures in
-    rw c.in-Dsf8.is (record { head = told.head; tail = told.tail; fits = fits MostFirst c.args.count; not_whole_bytes = made _ _ (fits MostFirst c.args.count) })
+    let reported = c.in_ok-around_blocks-in-Dsf8.ensures in
+    rw c.in-Dsf8.is (record { head = reported.head; tail = reported.tail; fits = fits MostFirst c.args.count; not_whole_bytes = made _ _ (fits MostFirst c.args.count) })
 
 pub returns-in_err-around_blocks-in-Dsf : goal.returns-in_err-around_blocks-in-Dsf
 returns-in_err-around_blocks-in-Dsf c =

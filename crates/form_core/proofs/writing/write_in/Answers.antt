@@ -13,20 +13,20 @@ returns-in-Dsdiff-clause-read_again c = rw c.in-Dsdiff.is (IfOk-weaker c.write.r
 
 pub returns-in_ok-write-in-Dsf : goal.returns-in_ok-write-in-Dsf
 returns-in_ok-write-in-Dsf c =
-    let told = c.in_ok-write-in-Dsf.ensures in
+    let reported = c.in_ok-write-in-Dsf.ensures in
     rw c.in-Dsf.is (record {
-      text = ap Some (sym told.text);
-      read_again = record { again = dsf.as_stored c.args.recording.now; holds = told.read_again; same_rate = refl; same_channels = refl; same_marks = λ e. absurd cc };
+      text = ap Some (sym reported.text);
+      read_again = record { again = dsf.as_stored c.args.recording.now; holds = reported.read_again; same_rate = refl; same_channels = refl; same_marks = λ e. absurd cc };
       refused = tt;
       not_whole_bytes = λ e. no_none _ _ e;
     })
 
 pub returns-in_ok-write-in-Dsf8 : goal.returns-in_ok-write-in-Dsf8
 returns-in_ok-write-in-Dsf8 c =
-    let told = c.in_ok-write-in-Dsf8.ensures in
+    let reported = c.in_ok-write-in-Dsf8.ensures in
     rw c.in-Dsf8.is (record {
-      text = ap Some (sym told.text);
-      read_again = record { again = dsf.as_stored c.args.recording.now; holds = told.read_again; same_rate = refl; same_channels = refl; same_marks = λ e. absurd cc };
+      text = ap Some (sym reported.text);
+      read_again = record { again = dsf.as_stored c.args.recording.now; holds = reported.read_again; same_rate = refl; same_channels = refl; same_marks = λ e. absurd cc };
       refused = tt;
       not_whole_bytes = λ e. no_none _ _ e;
     })

@@ -4,12 +4,12 @@ use Rattle.interleave_core.specs.Reinterleaving.{reinterleaved}
 use Rattle.interleave_core.proofs.FrameLaws.{same_frames}
 use Rattle.interleave_core.proofs.reinterleaving.push_reinterleaved.Goals as goal
 
--- what is left as it was unless all went well is so on Err
+-- what is unchanged unless all succeeded is unchanged on Err
 kept_on_err : {X E : Type 0} (new more old : List ℕ) (r : Result X E) → new ≡ cond (is_ok r) more old → OnErr r (new ≡ old)
 kept_on_err new more old (Ok x) e = tt
 kept_on_err new more old (Err f) e = e
 
--- and is what was made on Ok
+-- and on Ok it is what was made
 made_on_ok : {X E : Type 0} (new more old : List ℕ) (r : Result X E) → new ≡ cond (is_ok r) more old → OnOk r (new ≡ more)
 made_on_ok new more old (Ok x) e = e
 made_on_ok new more old (Err f) e = tt

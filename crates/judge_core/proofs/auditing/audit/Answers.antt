@@ -1,7 +1,7 @@
 use Rattle.std.proofs.Common.{◌≡◌, ◌∙◌, Err, Ok, ap, length, subst, sym}
 use Rattle.chunk_core.specs.Inlets.{inlet_given, inlet_reader}
-use Rattle.cut_core.specs.Cuts.{channel_number}
-use Rattle.judge_core.specs.Standing.{FindAllOff}
+use Rattle.cut_core.specs.Cuts.{take_channels}
+use Rattle.judge_core.specs.Kept.{FindAllOff}
 use Rattle.sound_core.proofs.TakingLaws.{memory_alone}
 use Rattle.judge_core.specs.Auditing.{IsAuditing}
 use Rattle.judge_core.proofs.AuditLaws.{file_audited, given_audited}
@@ -10,12 +10,12 @@ use Rattle.judge_core.proofs.auditing.audit.Goals as goal
 pub returns-in-Ok-clause-ok : goal.returns-in-Ok-clause-ok
 returns-in-Ok-clause-ok g c =
     file_audited c.new-auditor.result c.read_into.new.sink c.in-Ok.outline c.args.cut.now c.new-auditor.ensures.cut (c.new-auditor.ensures.ranges ∙ c.deref.ensures.value ∙ c.in_ok-ranges.ensures) c.has_shape.ensures c.lowest_off-differs.result
-    (λ r shape tells. c.lowest_off-differs.ensures r shape (subst (FindAllOff c.args.cut.now r.channels) (sym c.deref-in-Ok.ensures.value) tells)) (g.R.Read.remaining (inlet_reader c.args.inlet.now)) c.in-Ok.ensures.ok
+    (λ r shape states. c.lowest_off-differs.ensures r shape (subst (FindAllOff c.args.cut.now r.channels) (sym c.deref-in-Ok.ensures.value) states)) (g.R.Read.remaining (inlet_reader c.args.inlet.now)) c.in-Ok.ensures.ok
 
 pub returns-in-Ok-clause-any_reader : goal.returns-in-Ok-clause-any_reader
 returns-in-Ok-clause-any_reader g c =
     given_audited c.new-auditor.result c.read_into.new.sink c.in-Ok.outline c.args.cut.now c.new-auditor.ensures.cut (c.new-auditor.ensures.ranges ∙ c.deref.ensures.value ∙ c.in_ok-ranges.ensures) c.has_shape.ensures c.lowest_off-differs.result
-    (λ r shape tells. c.lowest_off-differs.ensures r shape (subst (FindAllOff c.args.cut.now r.channels) (sym c.deref-in-Ok.ensures.value) tells)) g.R.Read.remaining c.args.inlet.now c.read_into.new.inlet c.in-Ok.ensures.ok.0 c.in-Ok.ensures.any_reader
+    (λ r shape states. c.lowest_off-differs.ensures r shape (subst (FindAllOff c.args.cut.now r.channels) (sym c.deref-in-Ok.ensures.value) states)) g.R.Read.remaining c.args.inlet.now c.read_into.new.inlet c.in-Ok.ensures.ok.0 c.in-Ok.ensures.any_reader
 
 pub returns-clause-fault : goal.returns-clause-fault
 returns-clause-fault g c = memory_alone IsAuditing (g.R.Read.remaining (inlet_reader c.args.inlet.now)) (inlet_given c.args.inlet.now) (inlet_given c.read_into.new.inlet) c.new-auditor.result c.read_into.new.sink c.in-Err.fault c.in-Err.ensures.fault
@@ -23,7 +23,7 @@ returns-clause-fault g c = memory_alone IsAuditing (g.R.Read.remaining (inlet_re
 pub lowest_off-differs-requires : goal.lowest_off-differs-requires
 lowest_off-differs-requires g c =
     let is = c.in-Ok.ensures.any_reader.2.2 in
-    ap length c.deref-in-Ok.ensures.value ∙ is.audits.number ∙ ap channel_number (is.same ∙ c.new-auditor.ensures.cut)
+    ap length c.deref-in-Ok.ensures.value ∙ is.audits.number ∙ ap take_channels (is.same ∙ c.new-auditor.ensures.cut)
 
 no_fault : {X E Q : Type 0} (x : X) (fault : E) → Ok x ≡ Err fault → Q
 no_fault x fault is = absurd cc

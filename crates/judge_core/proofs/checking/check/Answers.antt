@@ -4,7 +4,7 @@ use Rattle.cut_core.specs.Opening.{file_bytes}
 use Rattle.judge_core.specs.Cutting.{SaysCut}
 use Rattle.cert_core.specs.Readers.{cert_inlet}
 use Rattle.chunk_core.specs.Inlets.{inlet_failures, inlet_reader}
-use Rattle.judge_core.specs.Accepting.{Accepts, IfAccepted, IfRejected, IsAcceptedAt, RejectsFirst}
+use Rattle.judge_core.specs.Accepting.{Accepts, IfMasterAccepted, IfMasterRejected, IsAcceptedAt, RejectsFirst}
 use Rattle.judge_core.specs.Finding.{IsFoundHeld, IsFoundIn}
 use Rattle.judge_core.proofs.FindLaws.{held_some, held_there}
 use Rattle.judge_core.proofs.CuttingLaws.{only_memory}
@@ -50,12 +50,12 @@ returns-in-Ok-check_found c =
     let h = c.in-Ok-check_found.ensures in
     let known : inlet_reader (cert_inlet c.new-reader.result) ≡ c.args.cert = ap inlet_reader c.new-reader.ensures.inlet ∙ c.new-2.ensures.reader in
     record {
-      found = subst (λ b. IfAccepted (Ok v) (Accepts project files master b.now)) known (h.found project files master is);
+      found = subst (λ b. IfMasterAccepted (Ok v) (Accepts project files master b.now)) known (h.found project files master is);
       master = h.master project files master is;
       least = h.least project files master is;
       joint = h.joint project files master is;
       windows = h.windows project files master is;
       only = λ cost. subst (λ b. Accepts project files master b.now cost → IsAcceptedAt cost v) known (h.only project files master says holds cost);
-      rejected = subst (λ b. IfRejected (Ok v) (RejectsFirst project files master b.now)) known (h.rejected project files master says holds);
+      rejected = subst (λ b. IfMasterRejected (Ok v) (RejectsFirst project files master b.now)) known (h.rejected project files master says holds);
       refused = tt;
     }

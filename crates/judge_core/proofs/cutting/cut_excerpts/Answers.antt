@@ -1,18 +1,18 @@
 use Rattle.std.proofs.Common.{refl}
 use Rattle.std.proofs.lemmas.Result.{err_from_is_err_and}
-use Rattle.judge_core.proofs.CuttingLaws.{heard_fails, heard_gives, heard_says}
+use Rattle.judge_core.proofs.CuttingLaws.{excerpted_fails, excerpted_gives, excerpted_says}
 use Rattle.judge_core.proofs.cutting.cut_excerpts.Goals as goal
 
 pub returns-in_err-of-clause-exact : goal.returns-in_err-of-clause-exact
 returns-in_err-of-clause-exact c = λ project files are.
     let p = err_from_is_err_and c.from_residual.result c.from_residual.ensures.1 in
-    rw (p.1, p.2) (heard_fails project files c.args.splice c.args.takes.items c.args.form are c.in_err-of.field-0.0 (c.in_err-of.ensures.exact are.whole are.excerpts))
+    rw (p.1, p.2) (excerpted_fails project files c.args.splice c.args.takes.items c.args.form are c.in_err-of.field-0.0 (c.in_err-of.ensures.exact are.whole are.excerpts))
 
 pub returns-clause-exact : goal.returns-clause-exact
-returns-clause-exact c = λ project files are. heard_gives project files c.args.splice c.args.takes.items c.args.form are c.in_ok-of.field-0 (c.in_ok-of.ensures.exact are.whole are.excerpts)
+returns-clause-exact c = λ project files are. excerpted_gives project files c.args.splice c.args.takes.items c.args.form are c.in_ok-of.field-0 (c.in_ok-of.ensures.exact are.whole are.excerpts)
 
 pub returns-clause-found : goal.returns-clause-found
-returns-clause-found c = λ project files are. heard_says project files c.args.splice c.args.takes.items c.args.form are c.in_ok-of.field-0 (c.in_ok-of.ensures.exact are.whole are.excerpts)
+returns-clause-found c = λ project files are. excerpted_says project files c.args.splice c.args.takes.items c.args.form are c.in_ok-of.field-0 (c.in_ok-of.ensures.exact are.whole are.excerpts)
 
 pub returns-in_err-of-clause-fault : goal.returns-in_err-of-clause-fault
 returns-in_err-of-clause-fault c =

@@ -6,7 +6,7 @@ use Rattle.cut_core.specs.Opening.{file_bytes}
 use Rattle.cut_core.proofs.OpeningLaws.{files_are}
 use Rattle.cut_core.proofs.ZipLaws.{zip_long}
 use Rattle.judge_core.specs.Cutting.{AreTakes}
-use Rattle.judge_core.proofs.CuttingLaws.{unheard, unsaid}
+use Rattle.judge_core.proofs.CuttingLaws.{unexcerpted, unsaid}
 use Rattle.judge_core.proofs.cutting.cut_files.Goals as goal
 use Rattle.judge_core.proofs.cutting.cut_files.Goals.{In_ok-takes}
 
@@ -21,10 +21,10 @@ returns-in_err-takes c =
     let p = err_from_is_err_and c.from_residual-in_err-takes.result c.from_residual-in_err-takes.ensures.1 in
     rw (p.1, p.2) (record {
       found = tt;
-      exact = unheard c.args.project.now (file_bytes c.args.takes.now) (splice_content c.in_ok-splice.splice) c.args.form c.in_err-takes.field-0.0 c.in_ok-splice.ensures.found c.in_err-takes.ensures;
+      exact = unexcerpted c.args.project.now (file_bytes c.args.takes.now) (splice_content c.in_ok-splice.splice) c.args.form c.in_err-takes.field-0.0 c.in_ok-splice.ensures.found c.in_err-takes.ensures;
     })
 
--- ---- what was heard is of the files
+-- ---- the excerpts are of the files
 are : (c : In_ok-takes) → AreTakes c.args.project.now (file_bytes c.args.takes.now) (splice_content c.in_ok-splice.splice) c.in_ok-takes.takes.items
 are c =
     let taken = c.in_ok-takes.ensures in

@@ -7,36 +7,36 @@ use Rattle.judge_core.specs.Judging.{JudgesClaims, JudgesHead}
 use Rattle.judge_core.specs.declared.verdict.Verdict.{Verdict}
 use Rattle.judge_core.specs.declared.verdict.Verdict.TheVariants.{Accepted, Rejected}
 use Rattle.judge_core.proofs.EntryLaws.{all_accepted, claims_at, entries_rejected, head_at, head_rejected, more_rejected, same_claims}
-use Rattle.judge_core.specs.Standing.{AreBitsOf, claim_from, rows_of}
+use Rattle.judge_core.specs.Kept.{AreBitsOf, claim_from, kept_items}
 use Rattle.judge_core.proofs.entries.judge_certificate.Given.{Over}
 use Rattle.judge_core.proofs.entries.judge_certificate.Goals as goal
 use Rattle.judge_core.proofs.entries.judge_certificate.Goals.{In_ok-reason, In_ok-verdict}
 
 -- what was found of the head, and then of the entries, is said of the claims of whichever channels have these bits
-head : (g : Over) (c : In_ok-reason g) (zs : List (List Bool)) → AreBitsOf c.args.cut.now (rows_of c.args.kept.now) zs → (found : Option CertReason) → c.in_ok-reason.field-0 ≡ found
+head : (g : Over) (c : In_ok-reason g) (zs : List (List Bool)) → AreBitsOf c.args.cut.now (kept_items c.args.kept.now) zs → (found : Option CertReason) → c.in_ok-reason.field-0 ≡ found
     → JudgesHead c.judge_head.new.reader.version (length c.args.cut.now.splice.weights) (length (claims c.args.cut.now zs)) (g.R.Read.remaining (inlet_reader (cert_inlet c.args.reader.now))) (g.R.Read.remaining (inlet_reader (cert_inlet c.judge_head.new.reader))) found
 head g c zs bits found is =
     let cut = c.args.cut.now in
-    let rows = rows_of c.args.kept.now in
+    let held_bits = kept_items c.args.kept.now in
     let places = c.in_ok-places.places.items in
     let v = c.judge_head.new.reader.version in
     let from = g.R.Read.remaining (inlet_reader (cert_inlet c.args.reader.now)) in
     let to = g.R.Read.remaining (inlet_reader (cert_inlet c.judge_head.new.reader)) in
     let many : c.len.result ≡ length places = omega (arith, c.len.ensures) in
     let judged = subst (λ n. JudgesHead v (length cut.splice.weights) n from to c.in_ok-reason.field-0) many c.in_ok-reason.ensures.judged in
-    head_at cut zs (claim_from cut rows) places (same_claims cut rows zs places c.in_ok-places.ensures.places c.in_ok-places.ensures.each bits) v from to c.in_ok-reason.field-0 found is judged
+    head_at cut zs (claim_from cut held_bits) places (same_claims cut held_bits zs places c.in_ok-places.ensures.places c.in_ok-places.ensures.each bits) v from to c.in_ok-reason.field-0 found is judged
 
-entries : (g : Over) (c : In_ok-verdict g) (zs : List (List Bool)) → AreBitsOf c.args.cut.now (rows_of c.args.kept.now) zs → (found : Verdict) → c.in_ok-verdict.verdict ≡ found
+entries : (g : Over) (c : In_ok-verdict g) (zs : List (List Bool)) → AreBitsOf c.args.cut.now (kept_items c.args.kept.now) zs → (found : Verdict) → c.in_ok-verdict.verdict ≡ found
     → JudgesClaims c.judge_head.new.reader.version (claims c.args.cut.now zs) (g.R.Read.remaining (inlet_reader (cert_inlet c.judge_head.new.reader))) (g.R.Read.remaining (inlet_reader (cert_inlet c.judge_entries.new.reader))) found
 entries g c zs bits found is =
     let cut = c.args.cut.now in
-    let f = claim_from cut (rows_of c.args.kept.now) in
+    let f = claim_from cut (kept_items c.args.kept.now) in
     let places = c.in_ok-places.places.items in
     let v = c.judge_head.new.reader.version in
     let from = g.R.Read.remaining (inlet_reader (cert_inlet c.judge_head.new.reader)) in
     let to = g.R.Read.remaining (inlet_reader (cert_inlet c.judge_entries.new.reader)) in
     let judged = subst (λ ps. JudgesClaims v (map f ps) from to c.in_ok-verdict.verdict) c.deref.ensures.value c.in_ok-verdict.ensures.judged in
-    claims_at cut zs f places (same_claims cut (rows_of c.args.kept.now) zs places c.in_ok-places.ensures.places c.in_ok-places.ensures.each bits) v from to c.in_ok-verdict.verdict found is judged
+    claims_at cut zs f places (same_claims cut (kept_items c.args.kept.now) zs places c.in_ok-places.ensures.places c.in_ok-places.ensures.each bits) v from to c.in_ok-verdict.verdict found is judged
 
 pub returns-in-Some : goal.returns-in-Some
 returns-in-Some g c = record {

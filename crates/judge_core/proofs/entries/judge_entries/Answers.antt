@@ -9,13 +9,13 @@ use Rattle.cert_core.specs.Certificates.{Claim}
 use Rattle.cert_core.specs.Readers.{cert_inlet}
 use Rattle.judge_core.specs.Judging.{JudgesClaim, LacksClaim, ReadsEntries, ShowsClaim}
 use Rattle.judge_core.specs.Claims.{IsLeastClaim, claim_cost}
-use Rattle.judge_core.specs.Standing.{claim_from, rows_of}
+use Rattle.judge_core.specs.Kept.{claim_from, kept_items}
 use Rattle.judge_core.proofs.EntryLaws.{lacks_one, shown_more}
 use Rattle.judge_core.proofs.entries.judge_entries.Goals as goal
 
 pub returns-in-Rejected : goal.returns-in-Rejected
 returns-in-Rejected g c = record {
-  judged = let f = claim_from c.args.cut.now (rows_of c.args.kept.now) in
+  judged = let f = claim_from c.args.cut.now (kept_items c.args.kept.now) in
       let places = c.args.places.now in
       let v = c.args.reader.now.version in
       let k = c.loop-k.k in
@@ -36,7 +36,7 @@ costs_more cs claim k total cost lt is so_far own = omega (arith, so_far, own, s
 
 pub loop-k-preserved : goal.loop-k-preserved
 loop-k-preserved g c =
-    let f = claim_from c.args.cut.now (rows_of c.args.kept.now) in
+    let f = claim_from c.args.cut.now (kept_items c.args.kept.now) in
     let places = c.args.places.now in
     let v = c.args.reader.now.version in
     let k = c.loop-k.k in
@@ -60,7 +60,7 @@ loop-k-preserved g c =
 
 pub returns : goal.returns
 returns g c = record {
-  judged = let f = claim_from c.args.cut.now (rows_of c.args.kept.now) in
+  judged = let f = claim_from c.args.cut.now (kept_items c.args.kept.now) in
       let places = c.args.places.now in
       let from = g.R.Read.remaining (inlet_reader (cert_inlet c.args.reader.now)) in
       let here = g.R.Read.remaining (inlet_reader (cert_inlet c.loop-k.reader)) in

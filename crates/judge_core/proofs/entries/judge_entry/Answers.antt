@@ -7,7 +7,7 @@ use Rattle.cert_core.specs.Readers.{cert_inlet, failed_checks}
 use Rattle.cost_core.specs.Bridges.{Bridging}
 use Rattle.cut_core.specs.Cuts as cuts
 use Rattle.cut_core.proofs.CutLaws.{first_shape}
-use Rattle.judge_core.specs.Standing.{kept_at, rows_of}
+use Rattle.judge_core.specs.Kept.{kept_at, kept_items}
 use Rattle.judge_core.specs.Judging.{JudgesClaim}
 use Rattle.judge_core.proofs.EntryLaws.{claim_is}
 use Rattle.judge_core.proofs.entries.judge_entry.Goals as goal
@@ -33,7 +33,7 @@ returns g c = record {
       let to = g.R.Read.remaining (inlet_reader (cert_inlet c.check_bits.new.reader)) in
       let window = c.in_ok-window.window in
       let bits = c.kept_in-bits.result.now in
-      let same = claim_is place.cue place.channel window (cuts.window cut place.channel place.cue) bits (kept_at (rows_of c.args.kept.now) place.channel place.cue) c.in_ok-window.ensures c.kept_in-bits.ensures in
+      let same = claim_is place.cue place.channel window (cuts.window cut place.channel place.cue) bits (kept_at (kept_items c.args.kept.now) place.channel place.cue) c.in_ok-window.ensures c.kept_in-bits.ensures in
       subst (λ claim. IfOk c.check_bits.result (JudgesClaim c.args.reader.now.version claim from to)) same c.check_bits.ensures.judged;
   failures = c.check_bits.ensures.failures;
   read = c.check_bits.ensures.read;

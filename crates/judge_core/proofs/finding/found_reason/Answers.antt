@@ -13,7 +13,7 @@ use Rattle.judge_core.proofs.finding.found_reason.Goals.{In_default}
 some_not : (reason : Reason) → Some reason ≡ None → ⊥
 some_not reason e = cc
 
--- where none stands against the rest
+-- where none contradicts the rest
 like : (c : In_default) → IsLike c.args.cut.now c.args.found.now.form c.args.found.now.recording c.args.found.now.count
 like c = subst (λ k. MatchOption k (IsLike c.args.cut.now c.args.found.now.form c.args.found.now.recording c.args.found.now.count) (OuterReason c.args.cut.now c.args.found.now.form c.args.found.now.recording c.args.found.now.count)) c.in_default.is c.in_ok-reason.ensures
 

@@ -9,7 +9,7 @@ use Rattle.judge_core.proofs.JudgeLaws.{for_known, judged_least, judged_only, ju
 use Rattle.judge_core.specs.Checking.{IsMasterOf, MasterReason}
 use Rattle.judge_core.specs.Claims.{IsCertOf}
 use Rattle.judge_core.specs.Judging.{JudgesCert, JudgesMaster}
-use Rattle.judge_core.specs.Standing.{IsFoundOf, kept_at, rows_of}
+use Rattle.judge_core.specs.Kept.{IsFoundOf, kept_at, kept_items}
 use Rattle.judge_core.specs.declared.verdict.Verdict.TheVariants.{Rejected}
 use Rattle.judge_core.proofs.finding.judge_found.Given.{Over}
 use Rattle.judge_core.proofs.finding.judge_found.Goals as goal
@@ -39,7 +39,7 @@ returns-in_err-reason g c =
       failures = sym (add-zero _);
     })
 
--- ---- where no reason stands, the recording is the master
+-- ---- where no reason applies, the recording is the master
 master : (g : Over) (c : After-judge_certificate g) (r : Content) → IsFoundOf c.args.cut.now c.args.found.now r → IsMasterOf c.args.cut.now c.args.found.now.form r
 master g c r is = subst (λ k. MatchOption k (IsMasterOf c.args.cut.now c.args.found.now.form r) (MasterReason c.args.cut.now c.args.found.now.form r)) c.in_default.is (c.in_ok-reason.ensures.reason r is)
 
@@ -48,7 +48,7 @@ certified : (g : Over) (c : After-judge_certificate g) (r : Content) → IsFound
 certified g c r is =
     let own = master g c r is in
     c.judge_certificate.ensures.judged r.channels (λ p at.
-    ap (λ (l : List (List (List Bool))). kept_at l p.channel p.cue) (ap rows_of c.deref.ensures.value) ∙ kept_bits c.args.cut.now r.channels own.shape.as_many_channels (rows_of c.args.found.now.kept.items) (is.kept own.shape own.long) p at)
+    ap (λ (l : List (List (List Bool))). kept_at l p.channel p.cue) (ap kept_items c.deref.ensures.value) ∙ kept_bits c.args.cut.now r.channels own.shape.as_many_channels (kept_items c.args.found.now.kept.items) (is.kept own.shape own.long) p at)
 
 pub returns : goal.returns
 returns g c =

@@ -7,7 +7,7 @@ use Rattle.cert_core.specs.declared.version.Version.{Version}
 use Rattle.cert_core.specs.declared.version.Version.TheVariants.{Two}
 use Rattle.chunk_core.specs.Outlets.{AppendsPart, outlet_writer}
 use Rattle.master_core.specs.Choosing.{chosen_claims}
-use Rattle.master_core.proofs.CertLaws.{cert_cut, cert_whole, failed_write, head_cut, part_is_front}
+use Rattle.master_core.proofs.CertLaws.{cert_cut, cert_whole, failed_write, head_cut, part_is_prefix}
 use Rattle.master_core.proofs.ChoiceLaws.{claim_number}
 use Rattle.master_core.proofs.certifying.write_cert.Given.{Over}
 use Rattle.master_core.proofs.certifying.write_cert.Goals as goal
@@ -22,8 +22,8 @@ begun : (g : Over) (c : In-Ok g) → Appends (g.W.Write.contents (outlet_writer 
 begun g c =
     let a = g.W.Write.contents (outlet_writer (cert_outlet c.args.writer.now)) in
     let b = g.W.Write.contents (outlet_writer (cert_outlet c.begin.new.self)) in
-    let told = subst (λ (v : Version). Appends a b (cert_head v (cert_weights c.args.writer.now) c.len.result)) c.requires.fresh.version_is c.in-Ok.ensures.ok in
-    subst (λ n. Appends a b (cert_head Two n c.len.result)) c.requires.fresh.weights_are told
+    let stated = subst (λ (v : Version). Appends a b (cert_head v (cert_weights c.args.writer.now) c.len.result)) c.requires.fresh.version_is c.in-Ok.ensures.ok in
+    subst (λ n. Appends a b (cert_head Two n c.len.result)) c.requires.fresh.weights_are stated
 
 pub returns-in_default-clause-err : goal.returns-in_default-clause-err
 returns-in_default-clause-err g c =
@@ -31,9 +31,9 @@ returns-in_default-clause-err g c =
     let a = g.W.Write.contents (outlet_writer (cert_outlet c.args.writer.now)) in
     let b = g.W.Write.contents (outlet_writer (cert_outlet c.begin.new.self)) in
     failed_write c.in_default.field-0 (has_failed c.args.writer.now) c.requires.fresh.fine c.in_default.ensures.failed (λ e.
-    let told = subst (λ (v : Version). AppendsPart a b (cert_head v (cert_weights c.args.writer.now) c.len.result)) c.requires.fresh.version_is (c.in_default.ensures.device e) in
-    let part = subst (λ n. AppendsPart a b (cert_head Two n c.len.result)) c.requires.fresh.weights_are told in
-    head_cut (length cut.splice.weights) c.len.result _ (announced g (goal.at.returns-in_default-clause-err g c).After-len) a b (part_is_front a b _ part))
+    let stated = subst (λ (v : Version). AppendsPart a b (cert_head v (cert_weights c.args.writer.now) c.len.result)) c.requires.fresh.version_is (c.in_default.ensures.device e) in
+    let part = subst (λ n. AppendsPart a b (cert_head Two n c.len.result)) c.requires.fresh.weights_are stated in
+    head_cut (length cut.splice.weights) c.len.result _ (announced g (goal.at.returns-in_default-clause-err g c).After-len) a b (part_is_prefix a b _ part))
 
 pub returns : goal.returns
 returns g c =

@@ -21,7 +21,7 @@ index-requires-in-loop-k g c =
     let made = c.args.bridges.now in
     omega (arith, as_many c.args.cut.now made c.requires.bridges, c.loop-k-test.true, c.len-k-end.ensures, made.chosen.ok.0, made.places.ok.0)
 
--- ---- the bridge of this turn
+-- ---- the bridge of this step
 module _ (g : Over) (c : After-index-in-loop-k g) where
   there : c.loop-k.k < length c.args.bridges.now.places.items
   there = omega (arith, c.loop-k-test.true, c.len-k-end.ensures, c.args.bridges.now.places.ok.0)

@@ -30,7 +30,7 @@ loop-k-init g c =
       windows_room = omega (arith, c.in_ok-windows.ensures.capacity, c.len.ensures);
     }
 
--- the place of this turn
+-- the place of this step
 there : (g : Over) (c : After-index g) → c.loop-k.k < length c.in_ok-places.places.items
 there g c = omega (arith, c.loop-k-test.true, c.len-k-end.ensures)
 

@@ -7,7 +7,7 @@ use Rattle.form_core.specs.declared.parts.Ends.{Ends}
 use Rattle.form_core.specs.Parts.{FitsIn, head_in, tail_in}
 use Rattle.master_core.proofs.filing.master_ends.Goals as goal
 
--- an answer that is no want of whole bytes
+-- an answer other than `NotWholeBytes`
 want_only : (let r : Result Ends WriteFault = Err Memory in r ≡ Err NotWholeBytes) → ⊥
 want_only e = cc
 

@@ -8,7 +8,7 @@ use Rattle.form_core.specs.Parts.{interleaving_in}
 use Rattle.cut_core.proofs.CutLaws.{first_shape}
 use Rattle.master_core.specs.Parting.{HasChosen}
 use Rattle.master_core.specs.Writing.{WritesBest, WritesBestPrefix}
-use Rattle.master_core.proofs.FilingLaws.{file_whole, head_front, sound_front, tail_front}
+use Rattle.master_core.proofs.FilingLaws.{file_whole, head_prefix, sound_prefix, tail_prefix}
 use Rattle.master_core.proofs.filing.write_master.Given.{Over}
 use Rattle.master_core.proofs.filing.write_master.Goals as goal
 use Rattle.master_core.proofs.filing.write_master.Goals.{After-deref-2, In_ok-put_all, In_ok-write_sound}
@@ -19,15 +19,15 @@ returns-in_err-put_all g c =
     record {
       room = c.requires.room;
       ok = rw e.1 tt;
-      front = let cut = c.args.cut.now in
+      prefix = let cut = c.args.cut.now in
           let a0 = g.W.Write.contents (outlet_writer c.args.outlet.now) in
           let a1 = g.W.Write.contents (outlet_writer c.put_all.new.self) in
-          any_err c.from_residual.result (head_front cut c.args.form c.written_in_parts.ensures c.args.ends.now c.requires.ends c.has_one_best.ensures (first_shape cut c.can_cut.ensures).some_channel a0 a1
+          any_err c.from_residual.result (head_prefix cut c.args.form c.written_in_parts.ensures c.args.ends.now c.requires.ends c.has_one_best.ensures (first_shape cut c.can_cut.ensures).some_channel a0 a1
           (subst (AppendsPart a0 a1) c.deref-3.ensures.value c.in_err-put_all.ensures.err));
       failures = rw e.1 c.in_err-put_all.ensures.failures;
     }
 
--- what stands before the sound was written
+-- what is before the sound was written
 head_out : (g : Over) (c : In_ok-put_all g) → Appends (g.W.Write.contents (outlet_writer c.args.outlet.now)) (g.W.Write.contents (outlet_writer c.put_all.new.self)) c.args.ends.now.head.items
 head_out g c =
     let a0 = g.W.Write.contents (outlet_writer c.args.outlet.now) in
@@ -40,16 +40,16 @@ returns-in_err-write_sound g c =
     record {
       room = c.in_err-write_sound.ensures.room;
       ok = rw e.1 tt;
-      front = let cut = c.args.cut.now in
+      prefix = let cut = c.args.cut.now in
           let a0 = g.W.Write.contents (outlet_writer c.args.outlet.now) in
           let a1 = g.W.Write.contents (outlet_writer c.put_all.new.self) in
           let a2 = g.W.Write.contents (outlet_writer c.write_sound.new.outlet) in
-          any_err c.from_residual-in_err-write_sound.result (sound_front cut c.args.form c.written_in_parts.ensures c.args.ends.now c.requires.ends c.has_one_best.ensures (first_shape cut c.can_cut.ensures).some_channel a0 a1
-          (head_out g (goal.at.returns-in_err-write_sound g c).In_ok-put_all) a2 (subst (λ to. WritesBestPrefix cut to a1 a2) c.interleaving_in.ensures c.in_err-write_sound.ensures.front));
+          any_err c.from_residual-in_err-write_sound.result (sound_prefix cut c.args.form c.written_in_parts.ensures c.args.ends.now c.requires.ends c.has_one_best.ensures (first_shape cut c.can_cut.ensures).some_channel a0 a1
+          (head_out g (goal.at.returns-in_err-write_sound g c).In_ok-put_all) a2 (subst (λ to. WritesBestPrefix cut to a1 a2) c.interleaving_in.ensures c.in_err-write_sound.ensures.prefix));
       failures = rw e.1 (c.in_err-write_sound.ensures.failures ∙ ap (λ n. n + 1) c.in_ok-put_all.ensures.failures);
     }
 
--- and the sound behind it
+-- and the sound after it
 sound_out : (g : Over) (c : In_ok-write_sound g) → WritesBest c.args.cut.now (interleaving_in c.args.form) (g.W.Write.contents (outlet_writer c.put_all.new.self)) (g.W.Write.contents (outlet_writer c.write_sound.new.outlet))
 sound_out g c =
     let a1 = g.W.Write.contents (outlet_writer c.put_all.new.self) in
@@ -65,7 +65,7 @@ returns g c =
       room = c.in_ok-write_sound.ensures.room;
       ok = on_ok_weaker c.put_all-2.result (λ out. file_whole c.args.cut.now c.args.form c.written_in_parts.ensures c.args.ends.now c.requires.ends c.has_one_best.ensures (first_shape c.args.cut.now c.can_cut.ensures).some_channel _ _
           (head_out g at.In_ok-put_all) a2 (sound_out g at.In_ok-write_sound) a3 (subst (Appends a2 a3) c.deref-4.ensures.value out)) c.put_all-2.ensures.ok;
-      front = on_err_weaker c.put_all-2.result (λ out. tail_front c.args.cut.now c.args.form c.written_in_parts.ensures c.args.ends.now c.requires.ends c.has_one_best.ensures (first_shape c.args.cut.now c.can_cut.ensures).some_channel _ _
+      prefix = on_err_weaker c.put_all-2.result (λ out. tail_prefix c.args.cut.now c.args.form c.written_in_parts.ensures c.args.ends.now c.requires.ends c.has_one_best.ensures (first_shape c.args.cut.now c.can_cut.ensures).some_channel _ _
           (head_out g at.In_ok-put_all) a2 (sound_out g at.In_ok-write_sound) a3 (subst (AppendsPart a2 a3) c.deref-4.ensures.value out)) c.put_all-2.ensures.err;
       failures = let now = outlet_failures c.put_all-2.new.self in
           subst (λ n. MatchResult c.put_all-2.result (λ _. now ≡ n) (λ _. now ≡ n + 1)) (c.in_ok-write_sound.ensures.failures ∙ c.in_ok-put_all.ensures.failures) c.put_all-2.ensures.failures;

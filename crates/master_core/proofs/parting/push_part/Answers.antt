@@ -6,14 +6,14 @@ use Rattle.cut_core.proofs.CutLaws.{fits_at}
 use Rattle.cut_core.specs.Cuts.{cue_at, cue_bits, span}
 use Rattle.judge_core.specs.Claims.{bridge_start}
 use Rattle.master_core.specs.Parting.{within}
-use Rattle.master_core.proofs.PartLaws.{front_best, front_long, front_nothing, part_more}
+use Rattle.master_core.proofs.PartLaws.{part_more, prefix_best, prefix_long, prefix_nothing}
 use Rattle.judge_core.proofs.SliceLaws.{length-slice}
 use Rattle.master_core.proofs.parting.push_part.Goals as goal
 use Rattle.master_core.proofs.parting.push_part.Goals.{In-loop-cue}
 
 -- a bridge ends inside the master
-behind_bridge : (c : In-loop-cue) → bridge_start c.args.source.now.cut.now c.loop-cue.cue + (cue_at c.args.source.now.cut.now c.loop-cue.cue).bridge ≤ 2 ^ 36
-behind_bridge c =
+after_bridge : (c : In-loop-cue) → bridge_start c.args.source.now.cut.now c.loop-cue.cue + (cue_at c.args.source.now.cut.now c.loop-cue.cue).bridge ≤ 2 ^ 36
+after_bridge c =
     let cues = c.args.source.now.cut.now.splice.cues in
     let i = c.loop-cue.cue in
     let most : sum_by span (take i cues) + span (cue_at c.args.source.now.cut.now i) ≤ sum_by span cues = sum_by_more_le span cues i _ (omega (arith, c.loop-cue-test.true, c.cue_number-cue-end.ensures.value)) in
@@ -26,7 +26,7 @@ loop-cue-init c =
     record {
       so_far = record {
         whole = first;
-        front = front_nothing cut c.can_cut.ensures c.args.channel c.requires.channel (omega (arith, c.cue_number-cue-end.ensures.value, c.cue_number-cue-end.ensures.some));
+        prefix = prefix_nothing cut c.can_cut.ensures c.args.channel c.requires.channel (omega (arith, c.cue_number-cue-end.ensures.value, c.cue_number-cue-end.ensures.some));
         part_is = ap (λ (r : RoomContent). r.bits) c.push_cue_part.ensures ∙ ap (λ (l : List Bool). l ++ within c.args.range first) c.requires.empty;
       };
       place = omega (arith, c.cue_length-at.ensures);
@@ -57,8 +57,8 @@ returns c = record {
       let all : n + 1 ≡ length cut.splice.cues = omega (arith, c.cue_number-cue-end.ensures.value, c.cue_number-cue-end.ensures.some, c.loop-cue-test.false, c.loop-cue.auto.cue-end) in
       record {
         whole = so_far.whole;
-        best = front_best cut c.can_cut.ensures c.args.channel c.requires.channel so_far.whole n all so_far.front;
-        long = front_long cut c.can_cut.ensures c.args.channel c.requires.channel so_far.whole n all so_far.front;
+        best = prefix_best cut c.can_cut.ensures c.args.channel c.requires.channel so_far.whole n all so_far.prefix;
+        long = prefix_long cut c.can_cut.ensures c.args.channel c.requires.channel so_far.whole n all so_far.prefix;
         part_is = so_far.part_is;
       };
 }
@@ -80,7 +80,7 @@ push_step-requires c =
       channel = c.requires.channel;
       cue = omega (arith, c.cue_number-cue-end.ensures.value, c.loop-cue-test.true);
       start = so_far.place;
-      in_room = omega (arith, c.requires.in_room, so_far.most, ap length so_far.so_far.part_is, length-slice whole range.start range.stop, so_far.so_far.front.long, so_far.place);
+      in_room = omega (arith, c.requires.in_room, so_far.most, ap length so_far.so_far.part_is, length-slice whole range.start range.stop, so_far.so_far.prefix.long, so_far.place);
     }
 
 pub overflow_add-cue : goal.overflow_add-cue
@@ -99,9 +99,9 @@ pub cue_length-at-requires-in-loop-cue : goal.cue_length-at-requires-in-loop-cue
 cue_length-at-requires-in-loop-cue c = omega (arith, c.loop-cue-test.true, c.cue_number-cue-end.ensures.value)
 
 pub overflow_add-at : goal.overflow_add-at
-overflow_add-at c = omega (arith, c.loop-cue.invariant.place, ap (λ (q : CueContent). q.bridge) c.cue.ensures.value, behind_bridge (goal.at.overflow_add-at c).In-loop-cue)
+overflow_add-at c = omega (arith, c.loop-cue.invariant.place, ap (λ (q : CueContent). q.bridge) c.cue.ensures.value, after_bridge (goal.at.overflow_add-at c).In-loop-cue)
 
 pub overflow_add-at-in-loop-cue : goal.overflow_add-at-in-loop-cue
 overflow_add-at-in-loop-cue c =
     let next = fits_at c.args.source.now.cut.now c.can_cut.ensures (c.loop-cue.cue + 1) (omega (arith, c.loop-cue-test.true, c.cue_number-cue-end.ensures.value)) in
-    omega (arith, c.loop-cue.invariant.place, ap (λ (q : CueContent). q.bridge) c.cue.ensures.value, c.cue_length-at-in-loop-cue.ensures, next.stop_fits, behind_bridge (goal.at.overflow_add-at-in-loop-cue c).In-loop-cue)
+    omega (arith, c.loop-cue.invariant.place, ap (λ (q : CueContent). q.bridge) c.cue.ensures.value, c.cue_length-at-in-loop-cue.ensures, next.stop_fits, after_bridge (goal.at.overflow_add-at-in-loop-cue c).In-loop-cue)

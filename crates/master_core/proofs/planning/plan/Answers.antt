@@ -17,7 +17,7 @@ returns g c = record {
 
 pub returns-in_err-bridges : goal.returns-in_err-bridges
 returns-in_err-bridges g c =
-    let e = err_from_is_err_and c.from_residual.result c.from_residual.ensures.1 in
+    let e = err_from_is_err_and c.from_residual-in_err-bridges.result c.from_residual-in_err-bridges.ensures.1 in
     rw (e.1, e.2) (record { master = tt; bridges = tt; ends = tt; room = tt; cert_room = tt; not_whole_bytes = λ is. absurd cc })
 
 pub returns-in_err-cert_room : goal.returns-in_err-cert_room
@@ -32,5 +32,5 @@ returns-in_err-room g c =
 
 pub returns-in_err-ends : goal.returns-in_err-ends
 returns-in_err-ends g c =
-    let e = err_from_is_err_and c.from_residual-in_err-ends.result c.from_residual-in_err-ends.ensures.1 in
+    let e = err_from_is_err_and c.from_residual.result c.from_residual.ensures.1 in
     rw (e.1, e.2) (record { master = tt; bridges = tt; ends = tt; room = tt; cert_room = tt; not_whole_bytes = λ is. c.in_err-ends.ensures.not_whole_bytes (ap Err is) })

@@ -1,7 +1,7 @@
 use Rattle.std.proofs.Common.{◌≡◌, ◌-◌, ◌<◌, length, refl, subst, ◌∙◌, arith}
 use Rattle.dsd_bits.specs.Rooms.{rooms_bits}
 use Rattle.dsd_bits.proofs.RoomLemmas.{length-rooms_bits}
-use Rattle.cut_core.specs.Cuts.{channel_number}
+use Rattle.cut_core.specs.Cuts.{take_channels}
 use Rattle.master_core.proofs.WritingLaws.{ArePartsUpTo, most_at, most_kept, no_parts, parts_all, parts_more, same_long}
 use Rattle.master_core.proofs.writing.fill_rooms.Goals as goal
 use Rattle.master_core.proofs.writing.fill_rooms.Goals.{In-loop-channel}
@@ -31,6 +31,6 @@ pub returns-clause-parts : goal.returns-clause-parts
 returns-clause-parts c =
     let cut = c.args.source.now.cut.now in
     let parts = rooms_bits c.loop-channel.rooms.items in
-    let many : length c.loop-channel.rooms.items ≡ channel_number cut = same_long c.args.rooms.now.items c.loop-channel.rooms.items c.loop-channel.invariant.most ∙ c.requires.number in
-    let all : c.loop-channel.channel ≡ channel_number cut = omega (arith, c.loop-channel-test.false, c.len-channel-end.ensures, c.args.rooms.now.ok.0, c.loop-channel.auto.channel-end, c.requires.number) in
+    let many : length c.loop-channel.rooms.items ≡ take_channels cut = same_long c.args.rooms.now.items c.loop-channel.rooms.items c.loop-channel.invariant.most ∙ c.requires.number in
+    let all : c.loop-channel.channel ≡ take_channels cut = omega (arith, c.loop-channel-test.false, c.len-channel-end.ensures, c.args.rooms.now.ok.0, c.loop-channel.auto.channel-end, c.requires.number) in
     parts_all cut c.args.range parts (length-rooms_bits c.loop-channel.rooms.items ∙ many) (subst (λ n. ArePartsUpTo cut c.args.range n parts) all c.loop-channel.invariant.parts)

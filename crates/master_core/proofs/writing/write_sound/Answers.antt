@@ -4,7 +4,7 @@ use Rattle.dsd_bits.proofs.ExitLaws.{any_err}
 use Rattle.chunk_core.specs.Outlets.{outlet_writer}
 use Rattle.cut_core.specs.Cuts.{master_length}
 use Rattle.cut_core.proofs.CutLaws.{first_shape}
-use Rattle.master_core.proofs.WritingLaws.{HasWritten, next_place, written_front, written_more, written_nothing, written_whole}
+use Rattle.master_core.proofs.WritingLaws.{HasWritten, next_place, written_more, written_nothing, written_prefix, written_whole}
 use Rattle.master_core.proofs.writing.write_sound.Goals as goal
 
 pub loop-from-init : goal.loop-from-init
@@ -43,13 +43,13 @@ returns-in_err-write_stretch g c =
     record {
       room = c.in_err-write_stretch.ensures.room;
       ok = rw e.1 tt;
-      front = let cut = c.args.source.now.cut.now in
+      prefix = let cut = c.args.source.now.cut.now in
           let from = c.loop-from.from in
           let stop = from + c.min.result in
           let so_far = c.loop-from.invariant in
           let groups = so_far.groups c.loop-from-test.true in
           let inside : stop ≤ master_length cut.splice.cues = omega (arith, c.min.ensures, c.length-length.ensures.value, so_far.inside) in
-          any_err c.from_residual.result (written_front cut c.args.to c.has_one_best.ensures (first_shape cut c.can_cut.ensures).some_channel from stop (g.W.Write.contents (outlet_writer c.args.outlet.now)) (g.W.Write.contents (outlet_writer c.loop-from.outlet)) (g.W.Write.contents (outlet_writer c.write_stretch.new.outlet)) groups (omega arith) inside (subst (λ n. (stop % 32768 ≡ 0) ⊎ (stop ≡ n)) c.length-length.ensures.value (next_place from c.loop-from.room.stretch c.length-length.result stop groups so_far.room.groups c.loop-from-test.true (omega (arith, c.min.ensures)))) so_far.written c.in_err-write_stretch.ensures.front);
+          any_err c.from_residual.result (written_prefix cut c.args.to c.has_one_best.ensures (first_shape cut c.can_cut.ensures).some_channel from stop (g.W.Write.contents (outlet_writer c.args.outlet.now)) (g.W.Write.contents (outlet_writer c.loop-from.outlet)) (g.W.Write.contents (outlet_writer c.write_stretch.new.outlet)) groups (omega arith) inside (subst (λ n. (stop % 32768 ≡ 0) ⊎ (stop ≡ n)) c.length-length.ensures.value (next_place from c.loop-from.room.stretch c.length-length.result stop groups so_far.room.groups c.loop-from-test.true (omega (arith, c.min.ensures)))) so_far.written c.in_err-write_stretch.ensures.prefix);
       failures = rw e.1 (omega (arith, c.in_err-write_stretch.ensures.failures, c.loop-from.invariant.failures));
     }
 
@@ -62,7 +62,7 @@ returns g c = record {
       let old = g.W.Write.contents (outlet_writer c.args.outlet.now) in
       let new = g.W.Write.contents (outlet_writer c.loop-from.outlet) in
       written_whole cut c.args.to c.has_one_best.ensures (first_shape cut c.can_cut.ensures).some_channel old new (subst (λ n. HasWritten cut c.args.to n old new) all so_far.written);
-  front = tt;
+  prefix = tt;
   failures = c.loop-from.invariant.failures;
 }
 

@@ -1,4 +1,4 @@
--- So many bits of each channel were written so far, whole groups of them where more come.
+-- N bits of each channel were written so far, whole groups of them if more follow.
 use Rattle.std.proofs.Common.{◌≡◌, ◌-◌, ◌%◌, ◌<◌, ◌≤◌}
 use Rattle.chunk_core.specs.Outlets.{outlet_failures, outlet_writer}
 use Rattle.master_core.specs.Writing.{IsRoomFor}

@@ -8,7 +8,7 @@ use Rattle.dsd_bits.specs.Sounds.{sound_size}
 use Rattle.dsd_bits.proofs.RoomLemmas.{length-rooms_bits}
 use Rattle.interleave_core.specs.Reinterleaving.{laced_in}
 use Rattle.interleave_core.proofs.GroupLaws.{size_fits}
-use Rattle.cut_core.specs.Cuts.{channel_number}
+use Rattle.cut_core.specs.Cuts.{take_channels}
 use Rattle.cut_core.proofs.CutLaws.{first_shape}
 use Rattle.master_core.specs.Parting.{within}
 use Rattle.master_core.proofs.WritingLaws.{parts_count, parts_level, parts_number, rooms_kept}
@@ -23,7 +23,7 @@ count g c =
     ap (λ (rs : List RoomContent). count_of (rooms_bits rs)) c.deref.ensures.value ∙ parts_count cut (first_shape cut c.can_cut.ensures).some_channel c.args.range (rooms_bits c.fill_rooms.new.rooms.items) c.fill_rooms.ensures.parts c.requires.inside
 
 -- how many channels there are
-number : (g : Over) (c : After-deref g) → length c.deref.result.now ≡ channel_number c.args.source.now.cut.now
+number : (g : Over) (c : After-deref g) → length c.deref.result.now ≡ take_channels c.args.source.now.cut.now
 number g c =
     let cut = c.args.source.now.cut.now in
     let rooms = c.fill_rooms.new.rooms.items in
@@ -40,7 +40,7 @@ push_rooms-requires-clause-whole g c = λ e. ap (λ (n : ℕ). n % 8) (count g (
 pub push_rooms-requires-clause-held : goal.push_rooms-requires-clause-held
 push_rooms-requires-clause-held g c =
     let cut = c.args.source.now.cut.now in
-    let n = channel_number cut in
+    let n = take_channels cut in
     let here = (goal.at.push_rooms-requires-clause-held g c).After-deref in
     let bits = c.args.range.stop - c.args.range.start in
     let size : sound_size c.args.to (length c.deref.result.now) (count_of (rooms_bits c.deref.result.now)) ≡ sound_size c.args.to n bits = ap₂ (λ (m k : ℕ). sound_size c.args.to m k) (number g here) (count g here) in
@@ -71,7 +71,7 @@ returns g c =
     record {
       room = let room = c.requires.room in
           record {
-            rooms = rooms_kept (channel_number c.args.source.now.cut.now) c.args.room.now.stretch c.args.room.now.rooms.items c.fill_rooms.new.rooms.items c.fill_rooms.ensures.most room.rooms;
+            rooms = rooms_kept (take_channels c.args.source.now.cut.now) c.args.room.now.stretch c.args.room.now.rooms.items c.fill_rooms.new.rooms.items c.fill_rooms.ensures.most room.rooms;
             some = room.some;
             groups = room.groups;
             fits = room.fits;
@@ -79,7 +79,7 @@ returns g c =
           };
       stretch = refl;
       ok = on_ok_weaker c.put_all.result (λ out. record { channels = parts.wholes; best = parts.best; written = subst (Appends (g.W.Write.contents (outlet_writer c.args.outlet.now)) (g.W.Write.contents (outlet_writer c.put_all.new.self))) (bytes g (goal.at.returns g c).After-deref-2) out }) c.put_all.ensures.ok;
-      front = on_err_weaker c.put_all.result (λ out. record { channels = parts.wholes; best = parts.best; written = subst (AppendsPart (g.W.Write.contents (outlet_writer c.args.outlet.now)) (g.W.Write.contents (outlet_writer c.put_all.new.self))) (bytes g (goal.at.returns g c).After-deref-2) out }) c.put_all.ensures.err;
+      prefix = on_err_weaker c.put_all.result (λ out. record { channels = parts.wholes; best = parts.best; written = subst (AppendsPart (g.W.Write.contents (outlet_writer c.args.outlet.now)) (g.W.Write.contents (outlet_writer c.put_all.new.self))) (bytes g (goal.at.returns g c).After-deref-2) out }) c.put_all.ensures.err;
       failures = c.put_all.ensures.failures;
     }
 

@@ -1,15 +1,16 @@
-use Rattle.std.proofs.Common.{◌≡◌, ◌∙◌, IfErr, IfOk, OnOk, subst, sym}
+use Rattle.std.proofs.Common.{◌≡◌, ◌⊎◌, ◌∙◌, IfErr, IfOk, OnOk, subst, sym}
 use Rattle.std.proofs.lemmas.Result.{IfErr-weaker}
 use Rattle.chunk_core.specs.Inlets.{inlet_reader}
 use Rattle.chunk_core.specs.Outlets.{outlet_failures, outlet_writer}
-use Rattle.player_core.specs.PartPlaying.{PartFails, PlaysPart}
+use Rattle.player_core.specs.PartPlaying.{PartFails, PlaysPartBy}
 use Rattle.player_core.specs.Playing.{PlaysFile, PlaysGiven}
+use Rattle.sound_core.specs.Readers.{CanFail, RunsOut}
 use Rattle.player_core.proofs.FaultLaws.{of_err, writes_are}
 use Rattle.player_core.proofs.PartPlayLaws.{part_only_outside}
 use Rattle.player_core.proofs.part_playing.play_part.Goals as goal
 
-pub play_part_file-requires-clause-least : goal.play_part_file-requires-clause-least
-play_part_file-requires-clause-least g c = rw c.new-sink.ensures.taps c.keeps_limits.ensures.least_factor
+pub play_part_file-requires : goal.play_part_file-requires
+play_part_file-requires g c = record { least = rw c.new-sink.ensures.taps c.keeps_limits.ensures.least_factor }
 
 pub returns : goal.returns
 returns g c =
@@ -30,22 +31,22 @@ returns g c =
     (subst (λ i. IfErr r (PartFails held left made.taps.now made.start made.stop i end)) was
     (subst (λ j. IfErr r (PartFails held left made.taps.now made.start made.stop made.outlet.now j)) is c.play_part_file.ensures.fault)))) in
     record {
-      ok = subst (λ d. IfOk r (PlaysFile left (PlaysPart d c.args.start c.args.stop) (held (outlet_writer c.args.outlet.now)) (held (outlet_writer end)))) taps
-          (subst (λ m. IfOk r (PlaysFile left (PlaysPart made.taps.now m c.args.stop) (held (outlet_writer c.args.outlet.now)) (held (outlet_writer end)))) start
-          (subst (λ n. IfOk r (PlaysFile left (PlaysPart made.taps.now made.start n) (held (outlet_writer c.args.outlet.now)) (held (outlet_writer end)))) stop
-          (subst (λ i. IfOk r (PlaysFile left (PlaysPart made.taps.now made.start made.stop) (held (outlet_writer i)) (held (outlet_writer end)))) was
-          (subst (λ j. IfOk r (PlaysFile left (PlaysPart made.taps.now made.start made.stop) (held (outlet_writer made.outlet.now)) (held (outlet_writer j)))) is c.play_part_file.ensures.ok))));
-      any_reader = subst (λ d. IfOk r (PlaysGiven g.R.Read.remaining c.args.inlet.now c.play_part_file.new.inlet (PlaysPart d c.args.start c.args.stop) (held (outlet_writer c.args.outlet.now)) (held (outlet_writer end)))) taps
-          (subst (λ m. IfOk r (PlaysGiven g.R.Read.remaining c.args.inlet.now c.play_part_file.new.inlet (PlaysPart made.taps.now m c.args.stop) (held (outlet_writer c.args.outlet.now)) (held (outlet_writer end)))) start
-          (subst (λ n. IfOk r (PlaysGiven g.R.Read.remaining c.args.inlet.now c.play_part_file.new.inlet (PlaysPart made.taps.now made.start n) (held (outlet_writer c.args.outlet.now)) (held (outlet_writer end)))) stop
-          (subst (λ i. IfOk r (PlaysGiven g.R.Read.remaining c.args.inlet.now c.play_part_file.new.inlet (PlaysPart made.taps.now made.start made.stop) (held (outlet_writer i)) (held (outlet_writer end)))) was
-          (subst (λ j. IfOk r (PlaysGiven g.R.Read.remaining c.args.inlet.now c.play_part_file.new.inlet (PlaysPart made.taps.now made.start made.stop) (held (outlet_writer made.outlet.now)) (held (outlet_writer j)))) is c.play_part_file.ensures.any_reader))));
+      ok = subst (λ d. IfOk r (PlaysFile left (PlaysPartBy d c.args.start c.args.stop) (held (outlet_writer c.args.outlet.now)) (held (outlet_writer end)))) taps
+          (subst (λ m. IfOk r (PlaysFile left (PlaysPartBy made.taps.now m c.args.stop) (held (outlet_writer c.args.outlet.now)) (held (outlet_writer end)))) start
+          (subst (λ n. IfOk r (PlaysFile left (PlaysPartBy made.taps.now made.start n) (held (outlet_writer c.args.outlet.now)) (held (outlet_writer end)))) stop
+          (subst (λ i. IfOk r (PlaysFile left (PlaysPartBy made.taps.now made.start made.stop) (held (outlet_writer i)) (held (outlet_writer end)))) was
+          (subst (λ j. IfOk r (PlaysFile left (PlaysPartBy made.taps.now made.start made.stop) (held (outlet_writer made.outlet.now)) (held (outlet_writer j)))) is c.play_part_file.ensures.ok))));
+      any_reader = subst (λ d. IfOk r (PlaysGiven g.R.Read.remaining c.args.inlet.now c.play_part_file.new.inlet (PlaysPartBy d c.args.start c.args.stop) (held (outlet_writer c.args.outlet.now)) (held (outlet_writer end)))) taps
+          (subst (λ m. IfOk r (PlaysGiven g.R.Read.remaining c.args.inlet.now c.play_part_file.new.inlet (PlaysPartBy made.taps.now m c.args.stop) (held (outlet_writer c.args.outlet.now)) (held (outlet_writer end)))) start
+          (subst (λ n. IfOk r (PlaysGiven g.R.Read.remaining c.args.inlet.now c.play_part_file.new.inlet (PlaysPartBy made.taps.now made.start n) (held (outlet_writer c.args.outlet.now)) (held (outlet_writer end)))) stop
+          (subst (λ i. IfOk r (PlaysGiven g.R.Read.remaining c.args.inlet.now c.play_part_file.new.inlet (PlaysPartBy made.taps.now made.start made.stop) (held (outlet_writer i)) (held (outlet_writer end)))) was
+          (subst (λ j. IfOk r (PlaysGiven g.R.Read.remaining c.args.inlet.now c.play_part_file.new.inlet (PlaysPartBy made.taps.now made.start made.stop) (held (outlet_writer made.outlet.now)) (held (outlet_writer j)))) is c.play_part_file.ensures.any_reader))));
       fault = IfErr-weaker r _ _ (λ f h. h.fault) fails;
       cause = IfErr-weaker r _ _ (λ f h. part_only_outside c.part_is_played.ensures c.args.taps.now c.keeps_limits.ensures.least_factor c.args.start c.args.stop left f h.fault) fails;
       unwritten = IfErr-weaker r _ _ (λ f h. h.unwritten) fails;
-      front = of_err r _ _ (λ f h. h.front) fails;
+      prefix = of_err r _ _ (λ f h. h.prefix) fails;
       read_failed = c.play_part_file.ensures.read_failed;
       write_failed = writes_are r _ _ (subst (λ i. OnOk r (outlet_failures end ≡ outlet_failures i)) was (subst (λ j. OnOk r (outlet_failures j ≡ outlet_failures made.outlet.now)) is c.play_part_file.ensures.failures)) (IfErr-weaker r _ _ (λ f h. h.failures) fails);
       reads = c.play_part_file.ensures.reads;
-      turn_limit = c.play_part_file.ensures.turn_limit;
+      turn_limit = λ is. subst (λ o. (CanFail o → ⊥) ⊎ RunsOut c.args.inlet.now c.play_part_file.new.inlet) was (c.play_part_file.ensures.turn_limit is);
     }

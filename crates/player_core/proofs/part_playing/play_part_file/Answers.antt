@@ -1,7 +1,9 @@
-use Rattle.std.proofs.Common.{◌-◌}
+use Rattle.std.proofs.Common.{◌-◌, inl}
 use Rattle.chunk_core.specs.Inlets.{inlet_given, inlet_reader}
 use Rattle.sound_core.specs.Outlines.{around_of}
+use Rattle.sound_core.specs.declared.fault.StreamFault.TheVariants.{TurnLimit}
 use Rattle.sound_core.proofs.FaultLaws.{fault_is}
+use Rattle.sound_core.proofs.TakingLaws.{not_begun}
 use Rattle.player_core.proofs.PartPlayLaws.{frames_are_sound}
 use Rattle.player_core.proofs.PartSinkLaws.{Stops, part_end_requires, part_end_stops, part_ended, part_fails, part_file_played, part_given_played, part_lies_in, part_same_outlet, part_size_is}
 use Rattle.player_core.proofs.part_playing.play_part_file.Given.{Over}
@@ -22,6 +24,11 @@ file_size-size-requires g c = rw c.frames_sound-frames.ensures.sound (frames_are
 
 pub finish_part-requires : goal.finish_part-requires
 finish_part-requires g c = part_end_requires g.W.Write.contents c.args.sink.now c.read_into.new.sink c.read_into.new.sink (around_of c.in_ok-outline.outline) c.in_ok-outline.ensures.ok.0 g.R.Read.remaining c.args.inlet.now c.read_into.new.inlet c.in_ok-outline.ensures.any_reader
+
+pub returns-then-not-can_fail-clause-fault : goal.returns-then-not-can_fail-clause-fault
+returns-then-not-can_fail-clause-fault g c =
+    let given = inlet_given c.args.inlet.now in
+    part_fails g.W.Write.contents (g.R.Read.remaining (inlet_reader c.args.inlet.now)) given given c.args.sink.now c.args.sink.now TurnLimit c.part_is_played.ensures c.requires.least (inl (not_begun (g.R.Read.remaining (inlet_reader c.args.inlet.now)) given c.args.sink.now))
 
 pub returns-in_err-outline-clause-same : goal.returns-in_err-outline-clause-same
 returns-in_err-outline-clause-same g c = part_same_outlet g.W.Write.contents (g.R.Read.remaining (inlet_reader c.args.inlet.now)) (inlet_given c.args.inlet.now) (inlet_given c.read_into.new.inlet) c.args.sink.now c.read_into.new.sink c.in_err-outline.field-0.0 c.in_err-outline.ensures.fault
@@ -56,17 +63,17 @@ returns-clause-failures g c = (part_ended g.W.Write.contents c.args.sink.now c.r
 pub returns-clause-ok : goal.returns-clause-ok
 returns-clause-ok g c =
     let o = around_of c.in_ok-outline.outline in
-    let told = c.in_ok-outline.ensures.ok.0 in
+    let stated = c.in_ok-outline.ensures.ok.0 in
     let given = c.in_ok-outline.ensures.any_reader in
-    part_file_played g.W.Write.contents c.args.sink.now c.read_into.new.sink c.finish_part.new.sink o told c.part_is_played.ensures c.requires.least c.in_ok-finish_part.ensures.ok c.file_size-size.result
-    (part_size_is g.W.Write.contents c.args.sink.now c.read_into.new.sink c.finish_part.new.sink o told g.R.Read.remaining c.args.inlet.now c.read_into.new.inlet given c.file_size-size.result c.frames_sound-frames.result c.frames_sound-frames.ensures.sound c.file_size-size.ensures)
+    part_file_played g.W.Write.contents c.args.sink.now c.read_into.new.sink c.finish_part.new.sink o stated c.part_is_played.ensures c.requires.least c.in_ok-finish_part.ensures.ok c.file_size-size.result
+    (part_size_is g.W.Write.contents c.args.sink.now c.read_into.new.sink c.finish_part.new.sink o stated g.R.Read.remaining c.args.inlet.now c.read_into.new.inlet given c.file_size-size.result c.frames_sound-frames.result c.frames_sound-frames.ensures.sound c.file_size-size.ensures)
     (g.R.Read.remaining (inlet_reader c.args.inlet.now)) c.in_ok-outline.ensures.ok
 
 pub returns-clause-any_reader : goal.returns-clause-any_reader
 returns-clause-any_reader g c =
     let o = around_of c.in_ok-outline.outline in
-    let told = c.in_ok-outline.ensures.ok.0 in
+    let stated = c.in_ok-outline.ensures.ok.0 in
     let given = c.in_ok-outline.ensures.any_reader in
-    part_given_played g.W.Write.contents c.args.sink.now c.read_into.new.sink c.finish_part.new.sink o told c.part_is_played.ensures c.requires.least c.in_ok-finish_part.ensures.ok c.file_size-size.result
-    (part_size_is g.W.Write.contents c.args.sink.now c.read_into.new.sink c.finish_part.new.sink o told g.R.Read.remaining c.args.inlet.now c.read_into.new.inlet given c.file_size-size.result c.frames_sound-frames.result c.frames_sound-frames.ensures.sound c.file_size-size.ensures)
+    part_given_played g.W.Write.contents c.args.sink.now c.read_into.new.sink c.finish_part.new.sink o stated c.part_is_played.ensures c.requires.least c.in_ok-finish_part.ensures.ok c.file_size-size.result
+    (part_size_is g.W.Write.contents c.args.sink.now c.read_into.new.sink c.finish_part.new.sink o stated g.R.Read.remaining c.args.inlet.now c.read_into.new.inlet given c.file_size-size.result c.frames_sound-frames.result c.frames_sound-frames.ensures.sound c.file_size-size.ensures)
     g.R.Read.remaining c.args.inlet.now c.read_into.new.inlet given

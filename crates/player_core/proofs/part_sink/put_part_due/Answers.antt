@@ -3,8 +3,8 @@ use Rattle.std.proofs.lemmas.List.{drop_min}
 use Rattle.std.proofs.lemmas.Result.{on_err_weaker, on_ok_weaker}
 use Rattle.sound_core.proofs.FaultLaws.{fault_is}
 use Rattle.player_core.specs.PartView.{FeedsPart, part_fed, part_rest, part_start}
-use Rattle.player_core.proofs.PartPieceLaws.{no_part_put, part_due_put, part_front_put}
-use Rattle.player_core.proofs.PieceLaws.{part_is_front}
+use Rattle.player_core.proofs.PartPieceLaws.{no_part_put, part_due_put, part_prefix_put}
+use Rattle.player_core.proofs.PieceLaws.{part_is_prefix}
 use Rattle.player_core.proofs.part_sink.put_part_due.Given.{Over}
 use Rattle.player_core.proofs.part_sink.put_part_due.Goals as goal
 use Rattle.player_core.proofs.part_sink.put_part_due.Goals.{After-split_at}
@@ -25,7 +25,7 @@ returns-in_err-feed g c =
       player = tt;
       same = tt;
       ok = tt;
-      front = no_part_put c.args.player.now c.requires.player (drop (part_start c.args.player.now - c.args.came) c.args.piece.now) _;
+      prefix = no_part_put c.args.player.now c.requires.player (drop (part_start c.args.player.now - c.args.came) c.args.piece.now) _;
       fault = tt;
       failures = sym (add-zero _);
     })
@@ -41,7 +41,7 @@ returns g c =
       player = on_ok_weaker c.put.result (λ put. c.in_ok-feed.ensures.ready) c.put.ensures.ok;
       same = on_ok_weaker c.put.result (λ put. c.feed.ensures.same) c.put.ensures.ok;
       ok = on_ok_weaker c.put.result (part_due_put p q piece given _ _ fed) (rw c.as_slice.ensures.value at c.put.ensures.ok);
-      front = on_err_weaker c.put.result (λ out. part_front_put p q c.requires.player piece given _ _ fed (part_is_front _ _ _ out)) (rw c.as_slice.ensures.value at c.put.ensures.err);
+      prefix = on_err_weaker c.put.result (λ out. part_prefix_put p q c.requires.player piece given _ _ fed (part_is_prefix _ _ _ out)) (rw c.as_slice.ensures.value at c.put.ensures.err);
       fault = c.put.ensures.fault;
       failures = c.put.ensures.failures;
     }

@@ -20,12 +20,12 @@ pub returns-clause-channels : goal.returns-clause-channels
 returns-clause-channels c = λ d fed are k t h. c.loop-channel.invariant.done d fed are k t (omega (arith, c.loop-channel.invariant.long, c.loop-channel-test.false))
 
 pub returns-clause-fed : goal.returns-clause-fed
-returns-clause-fed c = λ d fed are front k long was is all.
+returns-clause-fed c = λ d fed are prefix k long was is all.
     let s = c.args.sound.now in
-    let so = c.loop-channel.invariant.fits d fed are front k long was is all in
+    let so = c.loop-channel.invariant.fits d fed are prefix k long was is all in
     let every : c.loop-channel.channel ≡ s.channels = omega (arith, c.loop-channel.invariant.long, c.loop-channel-test.false, c.loop-channel.auto.channel-end, c.requires.channels.0) in (
       λ i t h. so.0 i t (omega (arith, c.loop-channel.invariant.long, c.loop-channel-test.false)),
-      so.1 ∙ ap (λ n. tile_of d (map (channel_bits s (front ++ c.args.groups.now)) (range_with_len 0 n)) (frames_due d s (length front)) (frames_due d s (length (front ++ c.args.groups.now)) - frames_due d s (length front))) every,
+      so.1 ∙ ap (λ n. tile_of d (map (channel_bits s (prefix ++ c.args.groups.now)) (range_with_len 0 n)) (frames_due d s (length prefix)) (frames_due d s (length (prefix ++ c.args.groups.now)) - frames_due d s (length prefix))) every,
     )
 
 pub loop-channel-init : goal.loop-channel-init
@@ -33,7 +33,7 @@ loop-channel-init c = record {
   long = refl;
   later = λ k t h. refl;
   done = λ d fed are k t h. absurd (omega arith);
-  fits = λ d fed are front k long was is all. (λ i t h. absurd (omega arith), c.clear.ensures.items);
+  fits = λ d fed are prefix k long was is all. (λ i t h. absurd (omega arith), c.clear.ensures.items);
 }
 
 pub offset_bounds-streams-channel : goal.offset_bounds-streams-channel

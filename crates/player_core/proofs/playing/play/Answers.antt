@@ -1,9 +1,10 @@
-use Rattle.std.proofs.Common.{◌≡◌, ◌-◌, ◌∙◌, IfErr, IfOk, OnOk, subst, sym}
+use Rattle.std.proofs.Common.{◌≡◌, ◌⊎◌, ◌-◌, ◌∙◌, IfErr, IfOk, OnOk, subst, sym}
 use Rattle.std.proofs.lemmas.Result.{IfErr-weaker}
 use Rattle.chunk_core.specs.Inlets.{inlet_given, inlet_reader}
 use Rattle.chunk_core.specs.Outlets.{outlet_failures, outlet_writer}
 use Rattle.player_core.specs.Pace.{PlayFails}
 use Rattle.player_core.specs.Playing.{PlaysBy, PlaysFile, PlaysGiven}
+use Rattle.sound_core.specs.Readers.{CanFail, RunsOut}
 use Rattle.player_core.proofs.FaultLaws.{of_err, writes_are}
 use Rattle.player_core.proofs.PlayLaws.{only_outside}
 use Rattle.player_core.proofs.playing.play.Goals as goal
@@ -31,10 +32,10 @@ returns g c =
       fault = IfErr-weaker c.play_file.result _ _ (λ f h. h.fault) fails;
       cause = IfErr-weaker c.play_file.result _ _ (λ f h. only_outside c.sound_is_played.ensures left c.args.taps.now f h.fault) fails;
       unwritten = IfErr-weaker c.play_file.result _ _ (λ f h. h.unwritten) fails;
-      front = of_err c.play_file.result _ _ (λ f h. h.front) fails;
+      prefix = of_err c.play_file.result _ _ (λ f h. h.prefix) fails;
       keeps_up = IfErr-weaker c.play_file.result _ _ (λ f h. h.keeps_up) fails;
       read_failed = c.play_file.ensures.read_failed;
       write_failed = writes_are c.play_file.result _ _ (subst (λ i. OnOk c.play_file.result (outlet_failures end ≡ outlet_failures i)) was (subst (λ j. OnOk c.play_file.result (outlet_failures j ≡ outlet_failures c.new-sink.result.outlet.now)) is c.play_file.ensures.failures)) (IfErr-weaker c.play_file.result _ _ (λ f h. h.failures) fails);
       reads = c.play_file.ensures.reads;
-      turn_limit = c.play_file.ensures.turn_limit;
+      turn_limit = λ is. subst (λ o. (CanFail o → ⊥) ⊎ RunsOut c.args.inlet.now c.play_file.new.inlet) was (c.play_file.ensures.turn_limit is);
     }

@@ -7,7 +7,7 @@ use Rattle.player_core.proofs.sink.finish.Goals as goal
 pub returns-in_err-put_rest-in-Some-clause-refused : goal.returns-in_err-put_rest-in-Some-clause-refused
 returns-in_err-put_rest-in-Some-clause-refused g c =
     rw (fault_is c.from_residual.result _ c.from_residual.ensures.1) (λ first bytes is long.
-    rest_refuses g.W.Write.contents first c.args.sink.now c.args.sound.now bytes is c.in-Some.player c.in-Some.is _ refl refl c.in_err-put_rest-in-Some.field-0.0 c.in_err-put_rest-in-Some.ensures.fault c.in_err-put_rest-in-Some.ensures.front c.in_err-put_rest-in-Some.ensures.failures)
+    rest_refuses g.W.Write.contents first c.args.sink.now c.args.sound.now bytes is c.in-Some.player c.in-Some.is _ refl refl c.in_err-put_rest-in-Some.field-0.0 c.in_err-put_rest-in-Some.ensures.fault c.in_err-put_rest-in-Some.ensures.prefix c.in_err-put_rest-in-Some.ensures.failures)
 
 pub returns-clause-ok : goal.returns-clause-ok
 returns-clause-ok g c =

@@ -7,14 +7,14 @@ use Rattle.wave_core.specs.declared.spec.WaveSpec.{WaveSpec}
 use Rattle.sound_core.proofs.FaultLaws.{by_writing}
 use Rattle.player_core.specs.Wave.{IsOpeningFault, sound_header}
 use Rattle.player_core.proofs.FaultLaws.{writing_later}
-use Rattle.player_core.proofs.PieceLaws.{front_nil, part_is_front}
+use Rattle.player_core.proofs.PieceLaws.{part_is_prefix, prefix_nil}
 use Rattle.player_core.proofs.WaveLaws.{header_is, opens_wave}
 use Rattle.player_core.proofs.wave.put_header.Goals as goal
 
 pub returns-then-not-rate_fits : goal.returns-then-not-rate_fits
 returns-then-not-rate_fits g c = record {
   ok = tt;
-  err = front_nil (g.W.Write.contents (outlet_writer c.args.outlet.now)) (sound_header c.args.taps.now c.args.sound.now);
+  err = prefix_nil (g.W.Write.contents (outlet_writer c.args.outlet.now)) (sound_header c.args.taps.now c.args.sound.now);
   least = tt;
   fault = λ fits. absurd (true≢false (sym (c.rate_fits.ensures.1 fits) ∙ c.if-not-rate_fits.true));
   unwritten = λ early. refl;
@@ -30,7 +30,7 @@ returns-in-Ok g c =
     let is = c.as_slice.ensures.value ∙ header_is d s c.spec_of.result c.total_frames.result c.clear.new.self.items c.push_header.new.out.items c.spec_of.ensures.spec c.total_frames.ensures c.clear.ensures.items c.in-Ok.ensures.ok in
     record {
       ok = on_ok_weaker c.put.result (opens_wave d s c.spec_of.result c.total_frames.result c.clear.new.self.items c.push_header.new.out.items c.spec_of.ensures.spec c.total_frames.ensures c.clear.ensures.items c.as_slice.result.now a b (c.rate_fits.ensures.0 c.if-not-rate_fits.false) c.in-Ok.ensures.fits is) c.put.ensures.ok;
-      err = on_err_weaker c.put.result (λ out. subst (AppendsPrefix a b) is (part_is_front a b _ out)) c.put.ensures.err;
+      err = on_err_weaker c.put.result (λ out. subst (AppendsPrefix a b) is (part_is_prefix a b _ out)) c.put.ensures.err;
       least = on_ok_weaker c.put.result (λ put. c.spec_of.ensures.factor) c.put.ensures.ok;
       fault = IfErr-weaker c.put.result _ _ (λ f h. by_writing (IsOpeningFault d s) tt tt f h) c.put.ensures.fault;
       unwritten = IfErr-weaker c.put.result _ _ (λ f h early. absurd (writing_later f h early)) c.put.ensures.fault;
@@ -44,7 +44,7 @@ returns-in-Err-TooLarge g c =
     let large = c.push_header.ensures.too_large.0 (c.in-Err-TooLarge.is ∙ ap (λ f. Err f) c.in-Err-TooLarge.field-0-is) in
     record {
       ok = tt;
-      err = front_nil (g.W.Write.contents (outlet_writer c.args.outlet.now)) (sound_header d s);
+      err = prefix_nil (g.W.Write.contents (outlet_writer c.args.outlet.now)) (sound_header d s);
       least = tt;
       fault = (c.rate_fits.ensures.0 c.if-not-rate_fits.false, subst (λ n. 2 ^ 32 ≤ riff_size s.channels d.width n) c.total_frames.ensures (subst (λ (t : WaveSpec). 2 ^ 32 ≤ riff_size t.channels t.width c.total_frames.result) c.spec_of.ensures.spec large));
       unwritten = λ early. refl;
@@ -54,7 +54,7 @@ returns-in-Err-TooLarge g c =
 pub returns-in-Err-Memory : goal.returns-in-Err-Memory
 returns-in-Err-Memory g c = record {
   ok = tt;
-  err = front_nil (g.W.Write.contents (outlet_writer c.args.outlet.now)) (sound_header c.args.taps.now c.args.sound.now);
+  err = prefix_nil (g.W.Write.contents (outlet_writer c.args.outlet.now)) (sound_header c.args.taps.now c.args.sound.now);
   least = tt;
   fault = tt;
   unwritten = λ early. absurd early;

@@ -1,17 +1,19 @@
-use Rattle.std.proofs.Common.{◌≡◌, ◌++◌, ◌∙◌, ℕ, List, [], ap, inl, inr, arith, length, length-append, refl, subst, sym}
-use Rattle.std.specs.Prelude.{Err, IfSome}
+use Rattle.std.proofs.Common.{◌≡◌, ◌+◌, ◌++◌, ◌∙◌, ℕ, List, [], ap, inl, inr, arith, length, length-append, refl, subst, sym}
+use Rattle.std.specs.Prelude.{Err}
 use Rattle.dsd_bits.specs.declared.sound.Sound.{Sound}
 use Rattle.dsdiff_core.specs.Walks.{IsWalked}
 use Rattle.dsdiff_core.proofs.SeekLoop.{walked_first, walked_later}
 use Rattle.form_core.specs.Opening.{opened_of}
-use Rattle.sound_core.proofs.NamingLaws.{front_sure, whole_sure}
+use Rattle.sound_core.specs.Causes.{IsCauseIn}
+use Rattle.sound_core.proofs.CauseLaws.{prefix_stated}
+use Rattle.sound_core.proofs.NamingLaws.{whole_sure}
 use Rattle.chunk_core.specs.Inlets.{inlet_given, inlet_reader}
-use Rattle.sound_core.specs.Files.{IsBeforeSound, IsRefused, StatesSound}
+use Rattle.sound_core.specs.Files.{IsBeforeSound, IsRefused, LeadsToSound}
 use Rattle.sound_core.specs.Reads.{Reads}
-use Rattle.sound_core.proofs.ToldLaws.{before_first, gives_none}
+use Rattle.sound_core.proofs.StatedLaws.{before_first, gives_none}
 use Rattle.sound_core.proofs.ReadLaws.{after, at_end, reads_none, reads_on}
 use Rattle.sound_core.proofs.ReaderLaws.{counts_later, counts_ok, counts_refused, counts_want, same_on, same_self}
-use Rattle.sound_core.proofs.FaultLaws.{fault_is, memory_unnamed, reading_in_front, reading_unnamed}
+use Rattle.sound_core.proofs.FaultLaws.{fault_is, memory_unnamed, reading_in_prefix, reading_unnamed}
 use Rattle.sound_core.proofs.header.read_header.Goals as goal
 
 -- no file is empty
@@ -47,14 +49,14 @@ loop-count-preserved g c =
       same_on c.args.reader.now c.loop-count.reader c.read_more.new.self so_far.3 c.read_more.ensures.same,
       omega (arith, so_far.4, c.in_ok-count.ensures.counts.failures),
       subst IsBeforeSound c.as_slice-in-loop-count.ensures.value before,
-      subst (λ front. IsWalked front c.in-More.at) c.as_slice-in-loop-count.ensures.value walked,
+      subst (λ prefix. IsWalked prefix c.in-More.at) c.as_slice-in-loop-count.ensures.value walked,
     )
 
-pub told_by-requires : goal.told_by-requires
-told_by-requires g c =
+pub stated_by-requires : goal.stated_by-requires
+stated_by-requires g c =
     let so_far = c.loop-count.invariant in
     let read = c.in_ok-count.ensures.read in
-    record { walked = subst (λ front. IsWalked front c.loop-count.walked) (sym (c.as_slice-in-loop-count.ensures.value ∙ read.3)) (walked_later c.loop-count.reader.ahead.now.items read.0 c.loop-count.walked so_far.6) }
+    record { walked = subst (λ prefix. IsWalked prefix c.loop-count.walked) (sym (c.as_slice-in-loop-count.ensures.value ∙ read.3)) (walked_later c.loop-count.reader.ahead.now.items read.0 c.loop-count.walked so_far.6) }
 
 pub loop-count-smaller : goal.loop-count-smaller
 loop-count-smaller g c = omega (arith, c.in_ok-count.ensures.turn, c.in_ok-count.ensures.counts.most, c.loop-count.invariant.3.limit)
@@ -68,10 +70,10 @@ returns-in_err-count g c =
       reading = tt;
       given = tt;
       read = tt;
-      tells = tt;
+      states = tt;
       named = reading_unnamed f c.in_err-count.ensures.fault;
       counts = counts_later c.args.reader.now c.loop-count.reader c.read_more.new.self f so_far.3.limit so_far.4 c.in_err-count.ensures.counts;
-      fault = reading_in_front (g.R.Read.remaining (inlet_reader c.args.reader.now.inlet.now)) f c.in_err-count.ensures.fault;
+      fault = reading_in_prefix (g.R.Read.remaining (inlet_reader c.args.reader.now.inlet.now)) f c.in_err-count.ensures.fault;
       stopped = λ stops. gives_none g.R.Read.remaining c.args.reader.now.inlet.now c.loop-count.reader.inlet.now (inlet_given c.read_more.new.self.inlet.now) c.loop-count.reader.ahead.now.items so_far.0 so_far.5 (c.in_err-count.ensures.none stops);
     })
 
@@ -86,9 +88,9 @@ returns-then-count-eq0 g c =
       reading = tt;
       given = tt;
       read = tt;
-      tells = tt;
+      states = tt;
       named = λ is. whole_sure g.R.Read.remaining c.args.reader.now.inlet.now c.read_more.new.self.inlet.now c.read_more.new.self.ahead.now.items _ (rw read.3 (reads_on g.R.Read.remaining c.args.reader.now.inlet.now c.loop-count.reader.inlet.now c.read_more.new.self.inlet.now c.loop-count.reader.ahead.now.items read.0 so_far.0 read.1)) (c.in_ok-count.ensures.end c.if-count-eq0.true)
-          (subst (λ f. IfSome c.in_ok-reader.field-0 (λ e. opened_of f ≡ Err e)) c.as_slice.ensures.value c.in_ok-reader.ensures);
+          (subst (λ f. opened_of f ≡ Err c.in_ok-fault_of.field-0) c.as_slice.ensures.value c.in_ok-fault_of.ensures);
       counts = record { failures = counts.failures; turns = counts.turns; most = counts.most };
       fault = at_end g.R.Read.remaining c.args.reader.now.inlet.now c.loop-count.reader.inlet.now c.read_more.new.self.inlet.now c.loop-count.reader.ahead.now.items read.0 IsRefused so_far.0 read.1 (omega (arith, read.2, c.if-count-eq0.true)) (c.in_ok-count.ensures.end c.if-count-eq0.true) so_far.1;
       stopped = λ stops. absurd stops;
@@ -102,7 +104,7 @@ returns-in_err-sound g c =
       reading = tt;
       given = tt;
       read = tt;
-      tells = tt;
+      states = tt;
       named = memory_unnamed;
       counts = counts_want c.args.reader.now c.loop-count.reader c.read_more.new.self c.in_ok-count.count so_far.3.limit so_far.4 c.in_ok-count.ensures.counts;
       fault = tt;
@@ -114,27 +116,25 @@ returns-in-Refused g c =
     let so_far = c.loop-count.invariant in
     let read = c.in_ok-count.ensures.read in
     let same = same_on c.args.reader.now c.loop-count.reader c.read_more.new.self so_far.3 c.read_more.ensures.same in
+    let still = c.in_ok-count.ensures.reading in
     let counts = counts_refused {Y = Sound} c.args.reader.now c.loop-count.reader c.read_more.new.self c.in_ok-count.count so_far.3.limit so_far.4 c.in_ok-count.ensures.counts in
-    let front = reads_on g.R.Read.remaining c.args.reader.now.inlet.now c.loop-count.reader.inlet.now c.read_more.new.self.inlet.now c.loop-count.reader.ahead.now.items read.0 so_far.0 read.1 in
-    let refused = rw c.in-Refused.is at c.in_ok-sound.ensures.refused in
+    let prefix = reads_on g.R.Read.remaining c.args.reader.now.inlet.now c.loop-count.reader.inlet.now c.read_more.new.self.inlet.now c.loop-count.reader.ahead.now.items read.0 so_far.0 read.1 in
+    let counted : inlet_given c.read_more.new.self.inlet.now ≡ c.read_more.new.self.given + length c.read_more.new.self.ahead.now.items = omega (arith, so_far.0.given, read.1.given, ap length read.3, length-append c.loop-count.reader.ahead.now.items read.0, c.requires.given, so_far.3.given, c.read_more.ensures.same.given) in
+    let none = subst (λ f. (rest : List ℕ) → IsRefused (f ++ rest)) c.as_slice-in-loop-count.ensures.value (rw c.in-Refused.is at c.in_ok-sound.ensures.refused) in
     record {
       same = record { reference = same.reference; given = same.given; limit = same.limit };
       reading = tt;
       given = tt;
       read = tt;
-      tells = tt;
-      named = λ is. front_sure g.R.Read.remaining c.args.reader.now.inlet.now c.read_more.new.self.inlet.now c.read_more.new.self.ahead.now.items c.in-Refused.fault (rw read.3 front) (subst (λ f. (rest : List ℕ) → opened_of (f ++ rest) ≡ Err c.in-Refused.fault) c.as_slice-in-loop-count.ensures.value (rw c.in-Refused.is at c.in_ok-sound.ensures.sure));
+      states = tt;
+      named = λ is.
+          prefix_stated ⊥ g.R.Read.remaining c.args.reader.now.inlet.now _ (record { ready = still.ready; budget = still.budget; size = still.size }) (subst (Reads g.R.Read.remaining c.args.reader.now.inlet.now c.read_more.new.self.inlet.now) (sym read.3) prefix)
+          counted none c.in-Refused.cause
+          (subst (λ f. IsCauseIn f c.in-Refused.cause) c.as_slice-in-loop-count.ensures.value (rw c.in-Refused.is at c.in_ok-sound.ensures.sure));
       counts = record { failures = counts.failures; turns = counts.turns; most = counts.most };
-      fault = after IsRefused _ _ _ front.consumed (rw (c.as_slice-in-loop-count.ensures.value ∙ read.3) at refused);
+      fault = after IsRefused _ _ _ prefix.consumed (rw read.3 at none);
       stopped = λ stops. absurd stops;
     }
-
-pub returns-in-Unsure-clause-fault : goal.returns-in-Unsure-clause-fault
-returns-in-Unsure-clause-fault g c =
-    let so_far = c.loop-count.invariant in
-    let read = c.in_ok-count.ensures.read in
-    let front = reads_on g.R.Read.remaining c.args.reader.now.inlet.now c.loop-count.reader.inlet.now c.read_more.new.self.inlet.now c.loop-count.reader.ahead.now.items read.0 so_far.0 read.1 in
-    after IsRefused _ _ _ front.consumed (rw (c.as_slice-in-loop-count.ensures.value ∙ read.3) at (rw c.in-Unsure.is at c.in_ok-sound.ensures.refused))
 
 pub returns-in-Found : goal.returns-in-Found
 returns-in-Found g c =
@@ -145,7 +145,7 @@ returns-in-Found g c =
       reading = c.in_ok-count.ensures.reading;
       given = omega (arith, so_far.0.given, read.1.given, ap length read.3, length-append c.loop-count.reader.ahead.now.items read.0, c.requires.given, so_far.3.given, c.read_more.ensures.same.given);
       read = rw read.3 (reads_on g.R.Read.remaining c.args.reader.now.inlet.now c.loop-count.reader.inlet.now c.read_more.new.self.inlet.now c.loop-count.reader.ahead.now.items read.0 so_far.0 read.1);
-      tells = subst (λ front. StatesSound front c.in-Found.sound) c.as_slice-in-loop-count.ensures.value (rw c.in-Found.is at c.in_ok-sound.ensures.found);
+      states = subst (λ prefix. LeadsToSound prefix c.in-Found.sound) c.as_slice-in-loop-count.ensures.value (rw c.in-Found.is at c.in_ok-sound.ensures.found);
       named = tt;
       counts = counts_ok _ _ _ _ _ so_far.3.limit so_far.4 c.in_ok-count.ensures.counts;
       fault = tt;

@@ -1,4 +1,4 @@
--- What was read so far is ahead, which is no file that holds a recording, and holds nothing of the sound.
+-- What was read so far is buffered. It is no file that holds a recording, and has nothing of the sound.
 use Rattle.std.proofs.Common.{◌≡◌, ◌-◌}
 use Rattle.chunk_core.specs.Inlets.{inlet_failures, inlet_reads}
 use Rattle.dsdiff_core.specs.Walks.{IsWalked}

@@ -3,8 +3,8 @@ use Rattle.sound_core.proofs.FaultLaws.{fault_is}
 use Rattle.sound_core.proofs.ReaderLaws.{counts_kept, same_counts, same_on}
 use Rattle.sound_core.proofs.outline.read_rest.Goals as goal
 
-pub read_behind-requires : goal.read_behind-requires
-read_behind-requires g c = record {
+pub read_after_sound-requires : goal.read_after_sound-requires
+read_after_sound-requires g c = record {
   at_sound = rw c.deref.ensures.value c.requires.at_sound;
   sound = c.requires.sound;
   whole = c.requires.whole;
@@ -12,21 +12,21 @@ read_behind-requires g c = record {
   given = rw c.deref.ensures.value c.requires.given;
 }
 
-pub returns-in_err-behind : goal.returns-in_err-behind
-returns-in_err-behind g c =
+pub returns-in_err-after : goal.returns-in_err-after
+returns-in_err-after g c =
     rw (fault_is c.from_residual.result _ c.from_residual.ensures.1) (record {
-      same = c.read_behind.ensures.same;
+      same = c.read_after_sound.ensures.same;
       ok = tt;
-      named = rw (← c.deref.ensures.value) c.in_err-behind.ensures.named;
-      counts = same_counts c.args.reader.now c.read_behind.new.reader c.in_err-behind.field-0.0 c.in_err-behind.ensures.counts;
-      fault = rw (← c.deref.ensures.value) c.in_err-behind.ensures.fault;
+      named = rw (← c.deref.ensures.value) c.in_err-after.ensures.named;
+      counts = same_counts c.args.reader.now c.read_after_sound.new.reader c.in_err-after.field-0.0 c.in_err-after.ensures.counts;
+      fault = rw (← c.deref.ensures.value) c.in_err-after.ensures.fault;
     })
 
 pub returns : goal.returns
 returns g c = record {
-  same = same_on c.args.reader.now c.read_behind.new.reader c.take_ahead-back.new.self c.read_behind.ensures.same c.take_ahead-back.ensures.same;
-  ok = (refl, refl, rw (c.take_ahead-back.ensures.untouched, c.take_ahead-back.ensures.taken, ← c.deref.ensures.value) c.in_ok-behind.ensures.ok);
+  same = same_on c.args.reader.now c.read_after_sound.new.reader c.take_ahead-back.new.self c.read_after_sound.ensures.same c.take_ahead-back.ensures.same;
+  ok = (refl, refl, rw (c.take_ahead-back.ensures.untouched, c.take_ahead-back.ensures.taken, ← c.deref.ensures.value) c.in_ok-after.ensures.ok);
   named = tt;
-  counts = counts_kept c.args.reader.now c.read_behind.new.reader c.take_ahead-back.new.self _ _ c.take_ahead-back.ensures.untouched c.in_ok-behind.ensures.counts;
+  counts = counts_kept c.args.reader.now c.read_after_sound.new.reader c.take_ahead-back.new.self _ _ c.take_ahead-back.ensures.untouched c.in_ok-after.ensures.counts;
   fault = tt;
 }

@@ -5,6 +5,6 @@ use Rattle.sound_core.specs.declared.fault.StreamFault.TheVariants.{TurnLimit}
 use Rattle.sound_core.proofs.RelayLaws.{nothing_relayed}
 use Rattle.sound_core.proofs.relaying.relay.Goals as goal
 
-pub returns-then-reads-ge-MOST_COUNTED-clause-front : goal.returns-then-reads-ge-MOST_COUNTED-clause-front
-returns-then-reads-ge-MOST_COUNTED-clause-front g c =
+pub returns-then-not-can_fail-clause-prefix : goal.returns-then-not-can_fail-clause-prefix
+returns-then-not-can_fail-clause-prefix g c =
     nothing_relayed (g.R.Read.remaining (inlet_reader c.args.inlet.now)) c.args.target.now (around_of c.args.outline.now) (g.W.Write.contents (outlet_writer c.args.outlet.now)) TurnLimit (λ same. cc)

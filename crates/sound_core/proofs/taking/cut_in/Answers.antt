@@ -7,8 +7,8 @@ use Rattle.sound_core.proofs.taking.cut_in.Goals as goal
 
 pub returns-then-has_blocks : goal.returns-then-has_blocks
 returns-then-has_blocks c = λ rest long short.
-    let told = has_order c.args.sound.now.interleaving (sym c.if-has_blocks.ensures) in
-    cut_blocks c.args.head.now rest c.args.sound.now c.requires told.0 told.1 (omega (arith, long, short))
+    let stated = has_order c.args.sound.now.interleaving (sym c.if-has_blocks.ensures) in
+    cut_blocks c.args.head.now rest c.args.sound.now c.requires stated.0 stated.1 (omega (arith, long, short))
 
 pub cut_fault-requires : goal.cut_fault-requires
 cut_fault-requires c =

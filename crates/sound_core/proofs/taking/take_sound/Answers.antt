@@ -1,4 +1,4 @@
-use Rattle.std.proofs.Common.{◌+◌, ◌-◌, ◌≤◌, inl, inr, arith, refl}
+use Rattle.std.proofs.Common.{◌+◌, ◌-◌, ◌≤◌, ◌++◌, [], inl, inr, arith, refl, subst}
 use Rattle.interleave_core.proofs.GroupLaws.{last_groups, size_fits}
 use Rattle.sound_core.proofs.FaultLaws.{fault_is}
 use Rattle.sound_core.proofs.ReaderLaws.{same_on, same_self}
@@ -46,6 +46,16 @@ returns-in_err-take_part-clause-fault g c =
     rw (fault_is c.from_residual-in_err-take_part.result _ c.from_residual-in_err-take_part.ensures.1)
     (stops_on g.R.Read.remaining g.S.SoundSink.has _ c.args.reader.now.inlet.now c.loop-done.reader.inlet.now c.args.sink.now c.loop-done.sink c.args.reader.now.ahead.now.items c.loop-done.reader.ahead.now.items c.loop-done.invariant.0
     g.S.SoundSink.refused c.take_part.new.reader.inlet.now c.take_part.new.sink c.take_part.new.reader.ahead.now.items c.in_err-take_part.field-0.0 c.in_err-take_part.ensures.fault)
+
+pub returns-in_err-begin-clause-own : goal.returns-in_err-begin-clause-own
+returns-in_err-begin-clause-own g c = rw (fault_is c.from_residual.result _ c.from_residual.ensures.1) (λ is. (c.args.sound, [], subst (g.S.SoundSink.refused c.args.sink.now c.begin.new.self c.args.sound []) is c.in_err-begin.ensures.refused))
+
+pub returns-in_err-take_part-clause-own : goal.returns-in_err-take_part-clause-own
+returns-in_err-take_part-clause-own g c =
+    rw (fault_is c.from_residual-in_err-take_part.result _ c.from_residual-in_err-take_part.ensures.1) (λ is.
+    let refuses = c.in_err-take_part.ensures.own is in
+    let so_far = c.loop-done.invariant.0 in
+    (c.args.sound, so_far.passes.passed ++ refuses.passes.passed, subst (g.S.SoundSink.refused c.args.sink.now c.take_part.new.sink c.args.sound (so_far.passes.passed ++ refuses.passes.passed)) is (refuses.refuses c.args.sink.now so_far.passes.passed so_far.fed so_far.taken)))
 
 pub returns-clause-ok : goal.returns-clause-ok
 returns-clause-ok g c = λ yes.

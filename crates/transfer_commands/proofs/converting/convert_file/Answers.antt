@@ -1,13 +1,11 @@
 use Rattle.std.proofs.Common.{◌∙◌, Err, ap, subst, sym}
-use Rattle.std.specs.Prelude.{IfSome}
 use Rattle.std.proofs.lemmas.Result.{err_from_is_err_and}
 use Rattle.folder_core.specs.Files.{IsReadOf, View}
 use Rattle.folder_core.specs.ShortFiles.{IsShortOf}
-use Rattle.sound_core.specs.Outlines.{AreStated, around_of}
 use Rattle.transfer_commands.specs.Converting.{ConvertComesTo}
-use Rattle.transfer_commands.specs.Outlining.{IsUnoutlined, OutlinesFile, OutlinesRead}
+use Rattle.transfer_commands.specs.Outlining.{IsUnoutlined, OutlinesRead}
 use Rattle.transfer_commands.proofs.ConvertLaws.{unconverted, unoutlined_unconverted}
-use Rattle.transfer_commands.proofs.HearLaws.{unread_of}
+use Rattle.transfer_commands.proofs.ExcerptLaws.{unread_of}
 use Rattle.transfer_commands.proofs.ReadLaws.{short_read}
 use Rattle.transfer_commands.proofs.converting.convert_file.Goals as goal
 
@@ -27,24 +25,13 @@ returns-in-Some g c =
     subst (λ (v : View). ConvertComesTo c.args.form input c.args.output.now v (view c.convert_whole.new.folder) c.convert_whole.result) same
     (c.convert_whole.ensures input (subst (λ (v : View). IsReadOf v input c.deref.result.now) (sym same) read))
 
-pub returns-in-Some-2 : goal.returns-in-Some-2
-returns-in-Some-2 g c =
-    let view = g.F.Folder.view in
-    let input = c.args.input.now in
-    let output = c.args.output.now in
-    let same = c.outline_file.ensures.same ∙ c.read_short.ensures.same in
-    let found = subst (OutlinesFile input (view c.read_short.new.folder)) c.in-Some-2.is c.in_ok-outline.ensures.found in
-    subst (λ (v : View). ConvertComesTo c.args.form input output v (view c.convert_outlined.new.folder) c.convert_outlined.result) same
-    (c.convert_outlined.ensures (subst (λ (v : View). OutlinesRead input v c.in-Some-2.outline) (sym c.outline_file.ensures.same) found))
-
 pub returns : goal.returns
 returns g c =
     let view = g.F.Folder.view in
     let input = c.args.input.now in
-    let same = c.read_file.ensures.same ∙ c.outline_file.ensures.same ∙ c.read_short.ensures.same in
-    let read = subst (λ (v : View). IsReadOf v input c.in_ok-file-2.file.items) (sym c.read_file.ensures.same) c.in_ok-file-2.ensures.bytes in
-    subst (λ (v : View). ConvertComesTo c.args.form input c.args.output.now v (view c.convert_whole-2.new.folder) c.convert_whole-2.result) same
-    (c.convert_whole-2.ensures input (subst (IsReadOf (view c.read_file.new.folder) input) (sym c.deref-2.ensures.value) read))
+    let same = c.outline_file.ensures.same ∙ c.read_short.ensures.same in
+    subst (λ (v : View). ConvertComesTo c.args.form input c.args.output.now v (view c.convert_outlined.new.folder) c.convert_outlined.result) same
+    (c.convert_outlined.ensures (subst (λ (v : View). OutlinesRead input v c.in_ok-outline.outline) (sym c.outline_file.ensures.same) c.in_ok-outline.ensures.found))
 
 pub returns-in_err-outline : goal.returns-in_err-outline
 returns-in_err-outline g c =
@@ -52,11 +39,5 @@ returns-in_err-outline g c =
     let e = err_from_is_err_and c.from_residual-in_err-outline.result c.from_residual-in_err-outline.ensures.1 in
     subst (ConvertComesTo c.args.form c.args.input.now c.args.output.now (view c.args.folder.now) (view c.outline_file.new.folder)) (sym (e.1 ∙ ap Err e.2)) (unoutlined_unconverted c.args.form c.args.input.now c.args.output.now (view c.args.folder.now) (view c.outline_file.new.folder) c.in_err-outline.field-0.0 (c.outline_file.ensures.same ∙ c.read_short.ensures.same) (subst (λ (v : View). IsUnoutlined c.args.input.now v c.in_err-outline.field-0.0) c.read_short.ensures.same c.in_err-outline.ensures.fault))
 
-pub returns-in_err-file-2 : goal.returns-in_err-file-2
-returns-in_err-file-2 g c =
-    let view = g.F.Folder.view in
-    let e = err_from_is_err_and c.from_residual-in_err-file-2.result c.from_residual-in_err-file-2.ensures.1 in
-    subst (ConvertComesTo c.args.form c.args.input.now c.args.output.now (view c.args.folder.now) (view c.read_file.new.folder)) (sym (e.1 ∙ ap Err e.2)) (unconverted c.args.form c.args.input.now c.args.output.now (view c.args.folder.now) (view c.read_file.new.folder) _ (c.read_file.ensures.same ∙ c.outline_file.ensures.same ∙ c.read_short.ensures.same) (unread_of c.in_err-file-2.field-0.0 c.in_err-file-2.ensures.fault))
-
 pub convert_outlined-requires : goal.convert_outlined-requires
-convert_outlined-requires g c = record { told = subst (λ o. IfSome o (λ outline. AreStated (around_of outline))) c.in-Some-2.is c.in_ok-outline.ensures.around }
+convert_outlined-requires g c = record { reported = c.in_ok-outline.ensures.around }

@@ -6,9 +6,9 @@ use Rattle.sound_core.specs.Outlines.{around_of}
 use Rattle.transfer_core.specs.Conversions as streams
 use Rattle.transfer_core.specs.declared.fault.Fault.{Fault}
 use Rattle.std.proofs.Common.{Err}
-use Rattle.transfer_commands.specs.Converting.{ConvertsPrefix}
+use Rattle.transfer_commands.specs.Converting.{LeavesConvertedPrefix}
 use Rattle.transfer_commands.specs.Outlining.{OutlinesRead}
-use Rattle.transfer_commands.proofs.ConvertLaws.{converts_all, converts_front, converts_none, outlined_unconverted}
+use Rattle.transfer_commands.proofs.ConvertLaws.{converts_all, converts_none, converts_prefix, outlined_unconverted}
 use Rattle.transfer_commands.proofs.converting.convert_outlined.Given.{Over}
 use Rattle.transfer_commands.proofs.converting.convert_outlined.Goals as goal
 use Rattle.transfer_commands.proofs.converting.convert_outlined.Goals.{After-hand_back-handed, In-Ok-create}
@@ -30,7 +30,7 @@ pub returns-in_default-create : goal.returns-in_default-create
 returns-in_default-create g c = λ found.
     let same = c.in_default-create.ensures.same ∙ c.open.ensures.same in
     converts_none c.args.form c.args.input.now c.args.output.now (g.F.Folder.view c.args.folder.now) (g.F.Folder.view c.create.new.self)
-    (rw same (record { others = λ other differs. refl; same_told = refl; same_keeping = refl }))
+    (rw same (record { others = λ other differs. refl; same_known = refl; same_keeping = refl }))
     c.args.outline.now found c.written_in_parts.ensures (c.if-not-fits_in.ensures.0 refl) (rw same refl)
 
 -- what was known before the output was handed back
@@ -44,8 +44,8 @@ module _ (g : Over) (c : In-Ok-create g) where
   given : IsGiven old c.args.input.now (g.F.In.Read.remaining c.in-Ok.file)
   given = c.in-Ok.ensures.bytes
 
-  empty : IsTrue old.is_told → g.F.Out.Write.contents c.in-Ok-create.made ≡ Some []
-  empty = subst (λ (v : View). IsTrue v.is_told → g.F.Out.Write.contents c.in-Ok-create.made ≡ Some []) c.open.ensures.same c.in-Ok-create.ensures.empty
+  empty : IsTrue old.is_known → g.F.Out.Write.contents c.in-Ok-create.made ≡ Some []
+  empty = subst (λ (v : View). IsTrue v.is_known → g.F.Out.Write.contents c.in-Ok-create.made ≡ Some []) c.open.ensures.same c.in-Ok-create.ensures.empty
 
 -- it was handed back, or given up
 module _ (g : Over) (c : After-hand_back-handed g) where
@@ -58,17 +58,17 @@ module _ (g : Over) (c : After-hand_back-handed g) where
   others : KeepsOthers c.args.output.now (old g k) new
   others = subst (λ (v : View). KeepsOthers c.args.output.now v new) (same g k) c.hand_back-handed.ensures.others
 
-  -- after a fault a prefix was written, or what was there is there still
-  front : (fault : Fault) → c.convert_between-came.result.0 ≡ Err fault → OutlinesRead c.args.input.now (old g k) c.args.outline.now → ConvertsPrefix c.args.form c.args.input.now c.args.output.now (old g k) new
-  front fault is found =
+  -- after a fault a prefix was written, or nothing changed
+  prefix : (fault : Fault) → c.convert_between-came.result.0 ≡ Err fault → OutlinesRead c.args.input.now (old g k) c.args.outline.now → LeavesConvertedPrefix c.args.form c.args.input.now c.args.output.now (old g k) new
+  prefix fault is found =
       let written = g.F.Out.Write.contents c.convert_between-came.result.1 in
       let part : is_ok c.convert_between-came.result.0 ≡ false = ap is_ok is in
       let stays = given_up c.args.output.now (g.F.Folder.view c.create.new.self) new (is_ok c.convert_between-came.result.0) written c.hand_back-handed.result part c.hand_back-handed.ensures.whole c.hand_back-handed.ensures.refused in
-      let before : streams.ConvertsPrefix (g.F.In.Read.remaining c.in-Ok.file) (around_of c.args.outline.now) c.args.form (g.F.Out.Write.contents c.in-Ok-create.made) written = rw is at c.convert_between-came.ensures.front in
-      converts_front c.args.form c.args.input.now c.args.output.now (old g k) new others
+      let before : streams.ConvertsPrefix (g.F.In.Read.remaining c.in-Ok.file) (around_of c.args.outline.now) c.args.form (g.F.Out.Write.contents c.in-Ok-create.made) written = rw is at c.convert_between-came.ensures.prefix in
+      converts_prefix c.args.form c.args.input.now c.args.output.now (old g k) new others
       c.args.outline.now found c.written_in_parts.ensures (c.if-not-fits_in.ensures.0 refl)
       (g.F.In.Read.remaining c.in-Ok.file) (g.F.Out.Write.contents c.in-Ok-create.made) written
-      (given g k) (empty g k) (subst (λ (v : View). IsTrue v.is_told → IsGivenUp c.args.output.now v new written) (same g k) stays) before
+      (given g k) (empty g k) (subst (λ (v : View). IsTrue v.is_known → IsGivenUp c.args.output.now v new written) (same g k) stays) before
 
 pub returns-in-Ok-handed : goal.returns-in-Ok-handed
 returns-in-Ok-handed g c = λ found.
@@ -77,7 +77,7 @@ returns-in-Ok-handed g c = λ found.
     let written = g.F.Out.Write.contents c.convert_between-came.result.1 in
     converts_all c.args.form c.args.input.now c.args.output.now (old g made) (new g h) (others g h)
     (g.F.In.Read.remaining c.in-Ok.file) (g.F.Out.Write.contents c.in-Ok-create.made) written c.in-Ok-came.dropped
-    (given g made) (empty g made) (subst (λ (v : View). IsTrue v.is_told → (new g h).file c.args.output.now ≡ written) (same g made) c.in-Ok-handed.ensures.bytes) (rw c.in-Ok-came.is at c.convert_between-came.ensures.ok) (rw c.in-Ok-came.is at c.convert_between-came.ensures.any_reader)
+    (given g made) (empty g made) (subst (λ (v : View). IsTrue v.is_known → (new g h).file c.args.output.now ≡ written) (same g made) c.in-Ok-handed.ensures.bytes) (rw c.in-Ok-came.is at c.convert_between-came.ensures.ok) (rw c.in-Ok-came.is at c.convert_between-came.ensures.any_reader)
 
 pub returns-in-Err-handed : goal.returns-in-Err-handed
 returns-in-Err-handed g c = λ found.
@@ -89,10 +89,10 @@ returns-in-Err-handed g c = λ found.
     c.args.outline.now found c.written_in_parts.ensures (c.if-not-fits_in.ensures.0 refl) (subst (λ (v : View). (new g h).file c.args.output.now ≡ v.file c.args.output.now) (same g made) same_file)
 
 pub returns-in-Err-Stream-WriteFailed : goal.returns-in-Err-Stream-WriteFailed
-returns-in-Err-Stream-WriteFailed g c = λ found. front g (goal.at.returns-in-Err-Stream-WriteFailed g c).After-hand_back-handed _ c.in-Err-Stream-WriteFailed.is found
+returns-in-Err-Stream-WriteFailed g c = λ found. prefix g (goal.at.returns-in-Err-Stream-WriteFailed g c).After-hand_back-handed _ c.in-Err-Stream-WriteFailed.is found
 
 pub returns-in-Err-Memory : goal.returns-in-Err-Memory
-returns-in-Err-Memory g c = λ found. inr (front g (goal.at.returns-in-Err-Memory g c).After-hand_back-handed _ c.in-Err-Memory.is found)
+returns-in-Err-Memory g c = λ found. inr (prefix g (goal.at.returns-in-Err-Memory g c).After-hand_back-handed _ c.in-Err-Memory.is found)
 
 pub returns-in-Err : goal.returns-in-Err
-returns-in-Err g c = λ found. inr (front g (goal.at.returns-in-Err g c).After-hand_back-handed _ c.in-Err.is found)
+returns-in-Err g c = λ found. inr (prefix g (goal.at.returns-in-Err g c).After-hand_back-handed _ c.in-Err.is found)

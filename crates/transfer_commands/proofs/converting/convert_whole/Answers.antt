@@ -1,6 +1,6 @@
 use Rattle.std.proofs.Common.{◌∙◌, Err, ap, subst, sym}
 use Rattle.std.proofs.lemmas.Result.{err_from_is_err_and}
-use Rattle.folder_core.specs.Files.{IsFront, IsPut}
+use Rattle.folder_core.specs.Files.{IsPut, IsPutInPart}
 use Rattle.transfer_commands.specs.Converting.{ConvertComesTo}
 use Rattle.transfer_commands.proofs.ConvertLaws.{convert_unwritten}
 use Rattle.transfer_commands.proofs.converting.convert_whole.Goals as goal
@@ -23,7 +23,7 @@ returns-in_err-write_file g c = λ input read.
     subst (ConvertComesTo c.args.form input c.args.output.now old new) (sym (p.1 ∙ ap Err p.2)) (convert_unwritten old new
     c.args.form input c.args.output.now c.args.file.now c.in_ok-converted.converted.bytes.items c.in_ok-converted.converted.dropped c.in_err-write_file.field-0.0
     read
-    (subst (IsFront c.args.output.now old new) c.deref.ensures.value c.in_err-write_file.ensures.refused)
+    (subst (IsPutInPart c.args.output.now old new) c.deref.ensures.value c.in_err-write_file.ensures.refused)
     c.in_err-write_file.ensures.others
     c.in_ok-converted.ensures.found
     c.in_err-write_file.ensures.fault)

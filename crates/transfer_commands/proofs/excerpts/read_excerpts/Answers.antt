@@ -9,7 +9,7 @@ use Rattle.cut_core.specs.Opening.{IsOfTakes}
 use Rattle.folder_core.specs.Files.{View}
 use Rattle.transfer_commands.specs.Excerpts.{ReadsExcerpts, ReadsAllExcerpts}
 use Rattle.transfer_commands.specs.Outlining.{IsUnread}
-use Rattle.transfer_commands.proofs.HearLaws.{err_says, files_more}
+use Rattle.transfer_commands.proofs.ExcerptLaws.{err_says, files_more}
 use Rattle.transfer_commands.proofs.excerpts.read_excerpts.Goals as goal
 
 pub loop-number-preserved : goal.loop-number-preserved

@@ -1,10 +1,9 @@
-use Rattle.std.proofs.Common.{◌∙◌, Err, Some, List, Option, ℕ, ap, subst}
+use Rattle.std.proofs.Common.{◌∙◌, Err, List, Option, ℕ, ap, subst}
 use Rattle.std.specs.Prelude.{IfSome}
 use Rattle.splice_core.specs.Splices.{splice_content}
-use Rattle.sound_core.specs.Files.{IsRefused}
 use Rattle.sound_core.proofs.NamingLaws.{file_named}
 use Rattle.transfer_commands.specs.Excerpts.{HoldsExcerpts, AreExcerptsIn}
-use Rattle.transfer_commands.proofs.StreamLaws.{given_heard, left_heard, left_named, take_named}
+use Rattle.transfer_commands.proofs.StreamLaws.{given_excerpted, left_excerpted, left_named, take_named}
 use Rattle.transfer_commands.proofs.excerpts.reader_excerpts.Goals as goal
 
 pub returns-in-Ok-read_stretches : goal.returns-in-Ok-read_stretches
@@ -13,10 +12,10 @@ returns-in-Ok-read_stretches g c =
     let splice = splice_content c.args.splice.now in
     let left_is = ap g.R.Read.remaining c.new-inlet.ensures.reader in
     let own = c.deref.ensures.value ∙ c.in-Ok.ensures in
-    let some = given_heard c.in-Ok-read_stretches.kept splice c.args.number c.excerpts_by.result c.deref.result.now own c.excerpts_by.ensures
+    let some = given_excerpted c.in-Ok-read_stretches.kept splice c.args.number c.excerpts_by.result c.deref.result.now own c.excerpts_by.ensures
     read.ok.0 read.any_reader.0 read.any_reader.2 in
     record {
-      excerpts = subst (λ (o : Option (List ℕ)). IfSome o (λ file. HoldsExcerpts splice c.args.number file c.excerpts_by.result)) left_is (left_heard c.in-Ok-read_stretches.kept splice c.args.number c.excerpts_by.result c.deref.result.now own c.excerpts_by.ensures _ read.ok);
+      excerpts = subst (λ (o : Option (List ℕ)). IfSome o (λ file. HoldsExcerpts splice c.args.number file c.excerpts_by.result)) left_is (left_excerpted c.in-Ok-read_stretches.kept splice c.args.number c.excerpts_by.result c.deref.result.now own c.excerpts_by.ensures _ read.ok);
       any_reader = (read.any_reader.0, some);
       of = (some.recording, some.shape, some.are_excerpts);
       fault = tt;
@@ -27,7 +26,7 @@ returns-in-Err-Refused g c =
     let named = rw c.in-Err-Refused.field-0-is at c.in-Err-Refused.ensures.named in
     let splice = splice_content c.args.splice.now in
     record {
-      excerpts = subst (λ (o : Option (List ℕ)). IfSome o (λ file. AreExcerptsIn splice c.args.number file (Some (Err c.take_unread.result)))) (ap g.R.Read.remaining c.new-inlet.ensures.reader)
+      excerpts = subst (λ (o : Option (List ℕ)). IfSome o (λ file. AreExcerptsIn splice c.args.number file (Err c.take_unread.result))) (ap g.R.Read.remaining c.new-inlet.ensures.reader)
           (left_named _ splice c.args.number c.in-Err-Refused.fault c.take_unread.result c.take_unread.ensures (file_named g.R.Read.remaining _ _ c.in-Err-Refused.fault named));
       any_reader = (named.read, rw c.take_unread.ensures (take_named c.args.number named.read c.in-Err-Refused.fault named.sure.now));
       of = tt;

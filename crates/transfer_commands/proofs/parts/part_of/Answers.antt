@@ -5,18 +5,18 @@ use Rattle.transfer_commands.proofs.parts.part_of.Goals as goal
 
 pub returns-clause-found : goal.returns-clause-found
 returns-clause-found g c =
-    let tells = c.in_ok-told.ensures in
-    let told = c.in_ok-told.told in
+    let states = c.in_ok-reported.ensures in
+    let reported = c.in_ok-reported.reported in
     let frames = c.in_ok-frames.frames in
     let rate = c.rate-rate.ensures.value in
     let start = c.in_ok-start.start in
     let stop = c.in_ok-start.stop in
     record {
-      file = tells.file;
-      told = told;
+      file = states.file;
+      reported = reported;
       frames = frames;
-      file_read = tells.file_read;
-      is_told = tells.is_told;
-      frames_are = subst (λ n. AreFramesOf c.args.project.now told.description.rate n frames) c.count.ensures.value (subst (λ n. AreFramesOf c.args.project.now n c.count.result frames) rate c.in_ok-frames.ensures.found);
-      span_is = subst (λ ms. IsSpanOf frames told.description.rate ms c.args.span start stop) c.marks.ensures (subst (λ n. IsSpanOf frames n (map mark_content c.marks.result.now) c.args.span start stop) rate c.in_ok-start.ensures.found);
+      file_read = states.file_read;
+      is_known = states.is_known;
+      frames_are = subst (λ n. AreFramesOf c.args.project.now reported.description.rate n frames) c.count.ensures.value (subst (λ n. AreFramesOf c.args.project.now n c.count.result frames) rate c.in_ok-frames.ensures.found);
+      span_is = subst (λ ms. IsSpanOf frames reported.description.rate ms c.args.span start stop) c.marks.ensures (subst (λ n. IsSpanOf frames n (map mark_content c.marks.result.now) c.args.span start stop) rate c.in_ok-start.ensures.found);
     }

@@ -1,63 +1,55 @@
 use Rattle.std.proofs.Common.{◌≡◌, ◌∙◌, IsTrue, ap, false, subst, true}
 use Rattle.std.specs.Prelude.{is_ok}
-use Rattle.folder_core.specs.Files.{IsGivenUp}
 use Rattle.folder_core.proofs.FileLaws.{given_up, not_kept}
-use Rattle.transfer_core.specs.PartStreaming.{PartOnlyFromOutside, PartStands, PlaysPart}
-use Rattle.player_core.specs.Playing.{PlaysFile, PlaysGiven, WritesPrefix}
-use Rattle.transfer_core.specs.Streaming.{IsBeforeWriting}
-use Rattle.chunk_core.specs.Inlets.{inlet_reader}
-use Rattle.chunk_core.specs.Outlets.{outlet_writer}
+use Rattle.transfer_core.specs.PartStreaming.{PartApplies, PartOnlyFromOutside, PlaysPart}
+use Rattle.player_core.specs.Playing.{PlaysFile, WritesPrefix}
+use Rattle.transfer_core.specs.Streaming.{FailsBeforeWriting}
+use Rattle.transfer_commands.specs.Opening.{left_of}
+use Rattle.transfer_commands.specs.PartPlaying.{PlaysSome}
 use Rattle.transfer_commands.proofs.PartLaws.{part_ended, part_played}
 use Rattle.transfer_commands.proofs.parts.play_part_to.Goals as goal
 
 pub returns-in-Ok-handed : goal.returns-in-Ok-handed
 returns-in-Ok-handed g c = λ input given empty.
-    let project = c.args.part.project.now in
-    let start = c.args.part.start in
-    let stop = c.args.part.stop in
+    let project = c.args.found.part.project.now in
+    let start = c.args.found.part.start in
+    let stop = c.args.found.part.stop in
     let view = g.F.Folder.view in
-    let written = g.F.Out.Write.contents (outlet_writer c.play_part_stream-played.new.outlet) in
-    let left = ap g.F.In.Read.remaining c.new-inlet.ensures.reader in
-    let held = ap g.F.Out.Write.contents c.new-outlet.ensures.writer in
-    let ok : PlaysFile (g.F.In.Read.remaining (inlet_reader c.new-inlet.result)) (PlaysPart project start stop) (g.F.Out.Write.contents (outlet_writer c.new-outlet.result)) written c.in-Ok.count = rw c.in-Ok.is at c.play_part_stream-played.ensures.ok in
-    let plays = subst (λ o. PlaysFile o (PlaysPart project start stop) (g.F.Out.Write.contents c.args.wave) written c.in-Ok.count) left (subst (λ o. PlaysFile (g.F.In.Read.remaining (inlet_reader c.new-inlet.result)) (PlaysPart project start stop) o written c.in-Ok.count) held ok) in
-    let some : PlaysGiven g.F.In.Read.remaining c.new-inlet.result c.play_part_stream-played.new.inlet (PlaysPart project start stop) (g.F.Out.Write.contents (outlet_writer c.new-outlet.result)) written c.in-Ok.count = rw c.in-Ok.is at c.play_part_stream-played.ensures.any_reader in
-    let stands = subst (λ w. IsTrue (view c.args.folder.now).is_told → (view c.hand_back-handed.new.folder).file c.args.output.now ≡ g.F.Out.Write.contents w) c.into_inner.ensures c.in-Ok-handed.ensures.bytes in
-    part_played project start stop input c.args.output.now (view c.args.folder.now) (view c.hand_back-handed.new.folder) (g.F.In.Read.remaining c.args.file) (g.F.Out.Write.contents c.args.wave) written given empty c.hand_back-handed.ensures.others stands c.in-Ok.count plays (some.0, some.1, some.3, some.4)
+    let left = left_of g.F.In.Read.remaining c.args.found.opened in
+    let held = g.F.Out.Write.contents c.args.wave in
+    let written = g.F.Out.Write.contents c.play_opened-played.result.1 in
+    let ok : PlaysFile left (PlaysPart project start stop) held written c.in-Ok.count = rw c.in-Ok.is at c.play_opened-played.ensures.ok in
+    let some : PlaysSome project start stop c.in-Ok.count = rw c.in-Ok.is at c.play_opened-played.ensures.some in
+    part_played project start stop input c.args.output.now (view c.args.folder.now) (view c.hand_back-handed.new.folder) left held written given empty c.hand_back-handed.ensures.others c.in-Ok-handed.ensures.bytes c.in-Ok.count ok some
 
-pub returns-in-Ok : goal.returns-in-Ok
-returns-in-Ok g c = λ input given empty.
-    let whole : is_ok c.play_part_stream-played.result ≡ true = ap is_ok c.in-Ok.is in
-    (c.hand_back-handed.ensures.others, not_kept c.args.output.now (g.F.Folder.view c.args.folder.now) (g.F.Folder.view c.hand_back-handed.new.folder) (is_ok c.play_part_stream-played.result) (g.F.Out.Write.contents c.into_inner.result) whole c.in-Err-handed.ensures.refused)
+pub returns-in-Err-handed : goal.returns-in-Err-handed
+returns-in-Err-handed g c = λ input given empty.
+    let whole : is_ok c.play_opened-played.result.0 ≡ true = ap is_ok c.in-Ok.is in
+    (c.hand_back-handed.ensures.others, not_kept c.args.output.now (g.F.Folder.view c.args.folder.now) (g.F.Folder.view c.hand_back-handed.new.folder) (is_ok c.play_opened-played.result.0) (g.F.Out.Write.contents c.play_opened-played.result.1) whole c.in-Err-handed.ensures.refused)
 
-pub returns : goal.returns
-returns g c = λ input given empty.
-    let project = c.args.part.project.now in
-    let start = c.args.part.start in
-    let stop = c.args.part.stop in
+pub returns-in-Err : goal.returns-in-Err
+returns-in-Err g c = λ input given empty.
+    let project = c.args.found.part.project.now in
+    let start = c.args.found.part.start in
+    let stop = c.args.found.part.stop in
     let fault = c.in-Err.fault in
-    let written = g.F.Out.Write.contents (outlet_writer c.play_part_stream-played.new.outlet) in
-    let left = ap g.F.In.Read.remaining c.new-inlet.ensures.reader in
-    let held = ap g.F.Out.Write.contents c.new-outlet.ensures.writer in
+    let left = left_of g.F.In.Read.remaining c.args.found.opened in
+    let held = g.F.Out.Write.contents c.args.wave in
+    let written = g.F.Out.Write.contents c.play_opened-played.result.1 in
     let old = g.F.Folder.view c.args.folder.now in
     let new = g.F.Folder.view c.hand_back-handed.new.folder in
-    let part : is_ok c.play_part_stream-played.result ≡ false = ap is_ok c.in-Err.is in
-    let stream = c.play_part_stream-played.ensures in
-    let unread = g.F.In.Read.remaining (inlet_reader c.new-inlet.result) in
-    let own : WritesPrefix unread (PlaysPart project start stop) (g.F.Out.Write.contents (outlet_writer c.new-outlet.result)) written = rw c.in-Err.is at stream.front in
-    let stands : PartStands unread project start stop fault = rw c.in-Err.is at stream.refused in
-    let cause : PartOnlyFromOutside unread project start stop fault = rw c.in-Err.is at stream.cause in
-    let unwritten : IsBeforeWriting fault → outlet_writer c.play_part_stream-played.new.outlet ≡ outlet_writer c.new-outlet.result = rw c.in-Err.is at stream.unwritten in
-    let front = subst (λ o. WritesPrefix o (PlaysPart project start stop) (g.F.Out.Write.contents c.args.wave) written) left (subst (λ o. WritesPrefix unread (PlaysPart project start stop) o written) held own) in (
-      (λ told.
-          let file = given told in
-          let stays = subst (λ w. IsGivenUp c.args.output.now old new (g.F.Out.Write.contents w)) c.into_inner.ensures (given_up c.args.output.now old new (is_ok c.play_part_stream-played.result) (g.F.Out.Write.contents c.into_inner.result) c.hand_back-handed.result part c.hand_back-handed.ensures.whole c.hand_back-handed.ensures.refused told) in (
+    let part : is_ok c.play_opened-played.result.0 ≡ false = ap is_ok c.in-Err.is in
+    let played = c.play_opened-played.ensures in
+    let prefix : WritesPrefix left (PlaysPart project start stop) held written = rw c.in-Err.is at played.prefix in
+    let stands : PartApplies left project start stop fault = rw c.in-Err.is at played.refused in
+    let cause : PartOnlyFromOutside left project start stop fault = rw c.in-Err.is at played.cause in
+    let unwritten : FailsBeforeWriting fault → written ≡ held = rw c.in-Err.is at played.unwritten in (
+      (λ reported.
+          let file = given reported in
+          let stays = given_up c.args.output.now old new (is_ok c.play_opened-played.result.0) written c.hand_back-handed.result part c.hand_back-handed.ensures.whole c.hand_back-handed.ensures.refused reported in (
             file.0,
             file.1,
-            part_ended project start stop c.args.output.now old new (g.F.In.Read.remaining c.args.file) (g.F.Out.Write.contents c.args.wave) written stays
-                fault (subst (λ o. PartStands o project start stop fault) left stands) (subst (λ o. PartOnlyFromOutside o project start stop fault) left cause) front
-                (λ before. ap g.F.Out.Write.contents (unwritten before) ∙ held)
-                file.0 file.2 (empty told),
+            part_ended project start stop c.args.output.now old new left held written stays fault stands cause prefix unwritten file.0 file.2 (empty reported),
           )),
       c.hand_back-handed.ensures.others,
     )

@@ -4,7 +4,7 @@ use Rattle.folder_core.specs.Files.{IsGivenUp}
 use Rattle.folder_core.proofs.FileLaws.{given_up, not_kept}
 use Rattle.transfer_core.specs.Playing.{Plays}
 use Rattle.player_core.specs.Playing.{PlaysFile, PlaysGiven, WritesPrefix}
-use Rattle.transfer_core.specs.Streaming.{IsBeforeWriting, OnlyFromOutside, StreamApplies}
+use Rattle.transfer_core.specs.Streaming.{FailsBeforeWriting, OnlyFromOutside, StreamApplies}
 use Rattle.chunk_core.specs.Inlets.{inlet_reader}
 use Rattle.chunk_core.specs.Outlets.{outlet_writer}
 use Rattle.transfer_commands.proofs.PlayLaws.{ended, played}
@@ -20,7 +20,7 @@ returns-in-Ok-handed g c = λ input given empty.
     let ok : PlaysFile (g.F.In.Read.remaining (inlet_reader c.new-inlet.result)) (Plays project) (g.F.Out.Write.contents (outlet_writer c.new-outlet.result)) written c.in-Ok.count = rw c.in-Ok.is at c.play_stream-played.ensures.ok in
     let plays = subst (λ o. PlaysFile o (Plays project) (g.F.Out.Write.contents c.args.wave) written c.in-Ok.count) left (subst (λ o. PlaysFile (g.F.In.Read.remaining (inlet_reader c.new-inlet.result)) (Plays project) o written c.in-Ok.count) held ok) in
     let some : PlaysGiven g.F.In.Read.remaining c.new-inlet.result c.play_stream-played.new.inlet (Plays project) (g.F.Out.Write.contents (outlet_writer c.new-outlet.result)) written c.in-Ok.count = rw c.in-Ok.is at c.play_stream-played.ensures.any_reader in
-    let stands = subst (λ w. IsTrue (view c.args.folder.now).is_told → (view c.hand_back-handed.new.folder).file c.args.output.now ≡ g.F.Out.Write.contents w) c.into_inner.ensures c.in-Ok-handed.ensures.bytes in
+    let stands = subst (λ w. IsTrue (view c.args.folder.now).is_known → (view c.hand_back-handed.new.folder).file c.args.output.now ≡ g.F.Out.Write.contents w) c.into_inner.ensures c.in-Ok-handed.ensures.bytes in
     played project input c.args.output.now (view c.args.folder.now) (view c.hand_back-handed.new.folder) (g.F.In.Read.remaining c.args.file) (g.F.Out.Write.contents c.args.wave) written given empty c.hand_back-handed.ensures.others stands c.in-Ok.count plays (some.0, some.1, some.3, some.4)
 
 pub returns-in-Ok : goal.returns-in-Ok
@@ -40,20 +40,20 @@ returns g c = λ input given empty.
     let part : is_ok c.play_stream-played.result ≡ false = ap is_ok c.in-Err.is in
     let stream = c.play_stream-played.ensures in
     let unread = g.F.In.Read.remaining (inlet_reader c.new-inlet.result) in
-    let own : WritesPrefix unread (Plays project) (g.F.Out.Write.contents (outlet_writer c.new-outlet.result)) written = rw c.in-Err.is at stream.front in
+    let own : WritesPrefix unread (Plays project) (g.F.Out.Write.contents (outlet_writer c.new-outlet.result)) written = rw c.in-Err.is at stream.prefix in
     let stands : StreamApplies unread project fault = rw c.in-Err.is at stream.refused in
     let cause : OnlyFromOutside unread project fault = rw c.in-Err.is at stream.cause in
-    let unwritten : IsBeforeWriting fault → outlet_writer c.play_stream-played.new.outlet ≡ outlet_writer c.new-outlet.result = rw c.in-Err.is at stream.unwritten in
-    let front = subst (λ o. WritesPrefix o (Plays project) (g.F.Out.Write.contents c.args.wave) written) left (subst (λ o. WritesPrefix unread (Plays project) o written) held own) in (
-      (λ told.
-          let file = given told in
-          let stays = subst (λ w. IsGivenUp c.args.output.now old new (g.F.Out.Write.contents w)) c.into_inner.ensures (given_up c.args.output.now old new (is_ok c.play_stream-played.result) (g.F.Out.Write.contents c.into_inner.result) c.hand_back-handed.result part c.hand_back-handed.ensures.whole c.hand_back-handed.ensures.refused told) in (
+    let unwritten : FailsBeforeWriting fault → outlet_writer c.play_stream-played.new.outlet ≡ outlet_writer c.new-outlet.result = rw c.in-Err.is at stream.unwritten in
+    let prefix = subst (λ o. WritesPrefix o (Plays project) (g.F.Out.Write.contents c.args.wave) written) left (subst (λ o. WritesPrefix unread (Plays project) o written) held own) in (
+      (λ reported.
+          let file = given reported in
+          let stays = subst (λ w. IsGivenUp c.args.output.now old new (g.F.Out.Write.contents w)) c.into_inner.ensures (given_up c.args.output.now old new (is_ok c.play_stream-played.result) (g.F.Out.Write.contents c.into_inner.result) c.hand_back-handed.result part c.hand_back-handed.ensures.whole c.hand_back-handed.ensures.refused reported) in (
             file.0,
             file.1,
             ended project c.args.output.now old new (g.F.In.Read.remaining c.args.file) (g.F.Out.Write.contents c.args.wave) written stays
-                fault (subst (λ o. StreamApplies o project fault) left stands) (subst (λ o. OnlyFromOutside o project fault) left cause) front
+                fault (subst (λ o. StreamApplies o project fault) left stands) (subst (λ o. OnlyFromOutside o project fault) left cause) prefix
                 (λ before. ap g.F.Out.Write.contents (unwritten before) ∙ held)
-                file.0 file.2 (empty told),
+                file.0 file.2 (empty reported),
           )),
       c.hand_back-handed.ensures.others,
     )

@@ -2,14 +2,14 @@ use Rattle.std.proofs.Common.{◌∙◌, Err, ap, inr}
 use Rattle.std.proofs.lemmas.Result.{err_from_is_err_and}
 use Rattle.dsd_bits.proofs.ExitLaws.{no_value}
 use Rattle.splice_core.specs.Splices.{splice_content}
-use Rattle.transfer_commands.proofs.HearLaws.{err_says, sources_heard, unnamed, unread, unread_of}
+use Rattle.transfer_commands.proofs.ExcerptLaws.{err_says, sources_excerpted, unnamed, unread, unread_of}
 use Rattle.transfer_commands.proofs.sources.source_excerpts.Goals as goal
 
 pub returns : goal.returns
 returns g c = record {
   same = c.read_excerpts.ensures.same ∙ c.read_file.ensures.same;
   excerpts =
-      sources_heard c.args.project.now (g.F.Folder.view c.args.folder.now) (g.F.Folder.view c.read_file.new.folder) c.in_ok-project.project.items (splice_content c.in_ok-splice.splice) c.in_ok-takes.takes
+      sources_excerpted c.args.project.now (g.F.Folder.view c.args.folder.now) (g.F.Folder.view c.read_file.new.folder) c.in_ok-project.project.items (splice_content c.in_ok-splice.splice) c.in_ok-takes.takes
       c.read_file.ensures.same c.in_ok-project.ensures.bytes (rw c.deref.ensures.value at c.in_ok-splice.ensures.found) c.in_ok-takes.ensures.excerpts;
   of = c.in_ok-takes.ensures.of;
   fault = tt;

@@ -3,7 +3,7 @@ use Rattle.chunk_core.specs.Inlets.{inlet_reader}
 use Rattle.chunk_core.specs.Outlets.{outlet_writer}
 use Rattle.sound_core.specs.Outlines.{around_of}
 use Rattle.form_core.specs.Parts.{head_in, tail_in}
-use Rattle.transfer_core.proofs.ConversionLaws.{converts_file, converts_front, converts_given, ends_stand, nothing_converted, relay_stands, stream_whole, turns_as, writing_not_whole, writing_stream, writing_turns}
+use Rattle.transfer_core.proofs.ConversionLaws.{converts_file, converts_given, converts_prefix, ends_stand, nothing_converted, relay_holds, stream_whole, turns_as, writing_not_whole, writing_stream, writing_turns}
 use Rattle.transfer_core.proofs.StreamLaws.{answered, fault_is, same_stream, stream_turns}
 use Rattle.transfer_core.proofs.converting.convert_stream.Given.{Over}
 use Rattle.transfer_core.proofs.converting.convert_stream.Goals as goal
@@ -25,7 +25,7 @@ returns-in_err-ends g c =
     rw (fault_is c.from_residual.result _ c.from_residual.ensures.1) (record {
       ok = tt;
       any_reader = tt;
-      front = nothing_converted left around c.args.form before;
+      prefix = nothing_converted left around c.args.form before;
       refused = ends_stand left around c.args.form f (λ is. c.in_err-ends.ensures.not_whole_bytes.0 (ap Err is));
       not_whole_bytes = λ is. writing_not_whole f (c.in_err-ends.ensures.not_whole_bytes.1 is);
       read_failed = rw (writing_stream f) (sym (add-zero _));
@@ -46,8 +46,8 @@ returns-in_err-relay g c =
     rw (fault_is c.from_residual-in_err-relay.result _ c.from_residual-in_err-relay.ensures.1) (record {
       ok = tt;
       any_reader = tt;
-      front = converts_front c.written_in_parts.ensures around c.requires.told c.args.form c.in_ok-ends.ensures.fits (record { interleaving = c.interleaving_in.result; head = c.deref.result; tail = c.deref-2.result }) c.interleaving_in.ensures (head_is g at.After-relay) (tail_is g at.After-relay) left before (g.W.Write.contents (outlet_writer c.relay.new.outlet)) f c.in_err-relay.ensures.front;
-      refused = relay_stands left around c.args.form f c.in_err-relay.ensures.fault;
+      prefix = converts_prefix c.written_in_parts.ensures around c.requires.reported c.args.form c.in_ok-ends.ensures.fits (record { interleaving = c.interleaving_in.result; head = c.deref.result; tail = c.deref-2.result }) c.interleaving_in.ensures (head_is g at.After-relay) (tail_is g at.After-relay) left before (g.W.Write.contents (outlet_writer c.relay.new.outlet)) f c.in_err-relay.ensures.prefix;
+      refused = relay_holds left around c.args.form f c.in_err-relay.ensures.fault;
       not_whole_bytes = λ is. absurd (is c.in_ok-ends.ensures.fits);
       read_failed = rw (same_stream f) c.in_err-relay.ensures.read_failed;
       write_failed = rw (same_stream f) c.in_err-relay.ensures.write_failed;
@@ -65,9 +65,9 @@ returns g c =
     let before = g.W.Write.contents (outlet_writer c.args.outlet.now) in
     let after = g.W.Write.contents (outlet_writer c.relay.new.outlet) in
     record {
-      ok = rw (c.dropped_in.ensures, c.description.ensures) (converts_file c.written_in_parts.ensures around c.requires.told c.args.form c.in_ok-ends.ensures.fits (record { interleaving = c.interleaving_in.result; head = c.deref.result; tail = c.deref-2.result }) c.interleaving_in.ensures (head_is g at.After-relay) (tail_is g at.After-relay) left before after c.in_ok-relay.ensures.ok);
-      any_reader = rw (c.dropped_in.ensures, c.description.ensures) (converts_given c.written_in_parts.ensures around c.requires.told c.args.form c.in_ok-ends.ensures.fits (record { interleaving = c.interleaving_in.result; head = c.deref.result; tail = c.deref-2.result }) c.interleaving_in.ensures (head_is g at.After-relay) (tail_is g at.After-relay) g.R.Read.remaining c.args.inlet.now c.relay.new.inlet before after c.in_ok-relay.ensures.any_reader);
-      front = tt;
+      ok = rw (c.dropped_in.ensures, c.description.ensures) (converts_file c.written_in_parts.ensures around c.requires.reported c.args.form c.in_ok-ends.ensures.fits (record { interleaving = c.interleaving_in.result; head = c.deref.result; tail = c.deref-2.result }) c.interleaving_in.ensures (head_is g at.After-relay) (tail_is g at.After-relay) left before after c.in_ok-relay.ensures.ok);
+      any_reader = rw (c.dropped_in.ensures, c.description.ensures) (converts_given c.written_in_parts.ensures around c.requires.reported c.args.form c.in_ok-ends.ensures.fits (record { interleaving = c.interleaving_in.result; head = c.deref.result; tail = c.deref-2.result }) c.interleaving_in.ensures (head_is g at.After-relay) (tail_is g at.After-relay) g.R.Read.remaining c.args.inlet.now c.relay.new.inlet before after c.in_ok-relay.ensures.any_reader);
+      prefix = tt;
       refused = tt;
       not_whole_bytes = λ is. absurd (is c.in_ok-ends.ensures.fits);
       read_failed = c.in_ok-relay.ensures.read_failed;
@@ -80,8 +80,6 @@ returns g c =
 
 pub relay-requires : goal.relay-requires
 relay-requires g c = record {
-  told = c.requires.told;
+  stated = c.requires.reported;
   whole = λ bytes. c.in_ok-ends.ensures.fits (sym c.interleaving_in.ensures ∙ bytes);
-  inlet_ready = c.requires.inlet_ready;
-  outlet_ready = c.requires.outlet_ready;
 }

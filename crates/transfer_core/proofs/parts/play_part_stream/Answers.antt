@@ -1,9 +1,9 @@
 use Rattle.std.proofs.Common.{add-zero, arith, inl, refl, sym}
 use Rattle.chunk_core.specs.Inlets.{inlet_reader}
 use Rattle.chunk_core.specs.Outlets.{outlet_writer}
-use Rattle.player_core.proofs.PlayLaws.{none_front}
+use Rattle.player_core.proofs.PlayLaws.{none_prefix}
 use Rattle.transfer_core.specs.PartStreaming.{PlaysPart}
-use Rattle.transfer_core.proofs.PartStreamLaws.{part_front, part_outside, part_plays_file, part_plays_given, part_project_outside, part_stands}
+use Rattle.transfer_core.proofs.PartStreamLaws.{part_header, part_holds, part_outside, part_plays_file, part_plays_given, part_project_outside}
 use Rattle.transfer_core.proofs.StreamLaws.{answered, before_writing, fault_is, project_stream, project_turns, same_stream, stream_turns}
 use Rattle.transfer_core.proofs.parts.play_part_stream.Goals as goal
 
@@ -18,7 +18,7 @@ returns-in_err-taps g c =
       ok = tt;
       any_reader = tt;
       cause = part_project_outside left p c.args.start c.args.stop f s.exact;
-      front = none_front left (PlaysPart p c.args.start c.args.stop) before;
+      prefix = none_prefix left (PlaysPart p c.args.start c.args.stop) before;
       refused = inl s.exact;
       read_failed = rw (project_stream f s.cause) (sym (add-zero _));
       write_failed = rw (project_stream f s.cause) (sym (add-zero _));
@@ -41,8 +41,8 @@ returns-in_err-play_part g c =
       ok = tt;
       any_reader = tt;
       cause = part_outside p c.args.start c.args.stop taps c.in_ok-taps.ensures.exact left f s.cause;
-      front = part_front p c.args.start c.args.stop taps c.in_ok-taps.ensures.exact left before after s.front;
-      refused = part_stands p c.args.start c.args.stop taps c.in_ok-taps.ensures.found left f s.fault;
+      prefix = part_header p c.args.start c.args.stop taps c.in_ok-taps.ensures.exact left before after s.prefix;
+      refused = part_holds p c.args.start c.args.stop taps c.in_ok-taps.ensures.found left f s.fault;
       read_failed = rw (same_stream f) s.read_failed;
       write_failed = rw (same_stream f) s.write_failed;
       reads = c.play_part.ensures.reads;
@@ -60,7 +60,7 @@ returns g c =
       ok = part_plays_file p c.args.start c.args.stop c.in_ok-taps.taps c.in_ok-taps.ensures.found (g.R.Read.remaining (inlet_reader c.args.inlet.now)) before after c.in_ok-play_part.field-0 c.in_ok-play_part.ensures.ok;
       any_reader = part_plays_given p c.args.start c.args.stop c.in_ok-taps.taps c.in_ok-taps.ensures.found g.R.Read.remaining c.args.inlet.now c.play_part.new.inlet before after c.in_ok-play_part.field-0 c.in_ok-play_part.ensures.any_reader;
       cause = tt;
-      front = tt;
+      prefix = tt;
       refused = tt;
       read_failed = c.in_ok-play_part.ensures.read_failed;
       write_failed = c.in_ok-play_part.ensures.write_failed;

@@ -80,12 +80,12 @@ fill_pairs-requires c =
     let P = IsSample c.args.width in
     let two = c.if-channels-eq2.true in
     let whole : frames + frames ≤ length samples = omega (arith, div-mul-le_self (length samples) frames, ap (λ m. m * frames) two) in
-    let front = ap length c.split_at.ensures.front ∙ length-take-le frames samples (omega (arith, whole)) in
+    let prefix = ap length c.split_at.ensures.front ∙ length-take-le frames samples (omega (arith, whole)) in
     let back = ap length c.split_at.ensures.back ∙ length-drop frames samples in
     record {
       width = c.requires.width;
       left = subst (All P) (sym c.split_at.ensures.front) (All-take P frames samples c.requires.values);
       right = subst (All P) (sym c.split_at.ensures.back) (All-drop P frames samples c.requires.values);
-      as_many = omega (arith, whole, front, back);
-      enough = omega (arith, ap (λ m. m * 2 * (c.args.width / 8)) front, ap (λ m. frames * m * (c.args.width / 8)) two, c.requires.size);
+      as_many = omega (arith, whole, prefix, back);
+      enough = omega (arith, ap (λ m. m * 2 * (c.args.width / 8)) prefix, ap (λ m. frames * m * (c.args.width / 8)) two, c.requires.size);
     }

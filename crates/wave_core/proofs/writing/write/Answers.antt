@@ -2,8 +2,8 @@ use Rattle.std.proofs.Common.{All, ap, arith, subst, sym}
 use Rattle.std.proofs.lemmas.Grind.{common_steps}
 use Rattle.std.proofs.lemmas.Result.{err_from_is_err_and}
 use Rattle.wave_core.specs.Contents.{IsSample, WaveSpec}
-use Rattle.wave_core.proofs.FaultLaws.{made_told, memory_told}
-use Rattle.wave_core.proofs.JoinLaws.{sized_text_stands}
+use Rattle.wave_core.proofs.FaultLaws.{made_stated, memory_stated}
+use Rattle.wave_core.proofs.JoinLaws.{sized_text_holds}
 use Rattle.wave_core.proofs.writing.write.Goals as goal
 
 pub returns-in_default-clause-too_large : goal.returns-in_default-clause-too_large
@@ -11,38 +11,38 @@ returns-in_default-clause-too_large c = grind (arith, common_steps)
 
 pub returns-in_err-out : goal.returns-in_err-out
 returns-in_err-out c =
-    let told = c.from_residual.ensures.1 in
-    let e = err_from_is_err_and c.from_residual.result told in
+    let stated = c.from_residual.ensures.1 in
+    let e = err_from_is_err_and c.from_residual.result stated in
     record {
       text = rw e.1 tt;
-      too_large = memory_told c.from_residual.result _ told (sized_text_stands c.args.pcm.now _ c.in-Some.sizes.riff_size c.len.result c.from.result c.spec.inside.channels c.pcm.view_is (omega arith) c.from.ensures (ap (λ (s : WaveSpec). s.channels) c.spec.view_is) c.in-Some.ensures.riff_size (omega arith));
+      too_large = memory_stated c.from_residual.result _ stated (sized_text_holds c.args.pcm.now _ c.in-Some.sizes.riff_size c.len.result c.from.result c.spec.inside.channels c.pcm.view_is (omega arith) c.from.ensures (ap (λ (s : WaveSpec). s.channels) c.spec.view_is) c.in-Some.ensures.riff_size (omega arith));
     }
 
 pub returns-in_err-push_fields : goal.returns-in_err-push_fields
 returns-in_err-push_fields c =
-    let told = c.from_residual-in_err-push_fields.ensures.1 in
-    let e = err_from_is_err_and c.from_residual-in_err-push_fields.result told in
+    let stated = c.from_residual-in_err-push_fields.ensures.1 in
+    let e = err_from_is_err_and c.from_residual-in_err-push_fields.result stated in
     record {
       text = rw e.1 tt;
-      too_large = memory_told c.from_residual-in_err-push_fields.result _ told (sized_text_stands c.args.pcm.now _ c.in-Some.sizes.riff_size c.len.result c.from.result c.spec.inside.channels c.pcm.view_is (omega arith) c.from.ensures (ap (λ (s : WaveSpec). s.channels) c.spec.view_is) c.in-Some.ensures.riff_size (omega arith));
+      too_large = memory_stated c.from_residual-in_err-push_fields.result _ stated (sized_text_holds c.args.pcm.now _ c.in-Some.sizes.riff_size c.len.result c.from.result c.spec.inside.channels c.pcm.view_is (omega arith) c.from.ensures (ap (λ (s : WaveSpec). s.channels) c.spec.view_is) c.in-Some.ensures.riff_size (omega arith));
     }
 
 pub returns-in_err-push_samples : goal.returns-in_err-push_samples
 returns-in_err-push_samples c =
-    let told = c.from_residual-in_err-push_samples.ensures.1 in
-    let e = err_from_is_err_and c.from_residual-in_err-push_samples.result told in
+    let stated = c.from_residual-in_err-push_samples.ensures.1 in
+    let e = err_from_is_err_and c.from_residual-in_err-push_samples.result stated in
     record {
       text = rw e.1 tt;
-      too_large = memory_told c.from_residual-in_err-push_samples.result _ told (sized_text_stands c.args.pcm.now _ c.in-Some.sizes.riff_size c.len.result c.from.result c.spec.inside.channels c.pcm.view_is (omega arith) c.from.ensures (ap (λ (s : WaveSpec). s.channels) c.spec.view_is) c.in-Some.ensures.riff_size (omega arith));
+      too_large = memory_stated c.from_residual-in_err-push_samples.result _ stated (sized_text_holds c.args.pcm.now _ c.in-Some.sizes.riff_size c.len.result c.from.result c.spec.inside.channels c.pcm.view_is (omega arith) c.from.ensures (ap (λ (s : WaveSpec). s.channels) c.spec.view_is) c.in-Some.ensures.riff_size (omega arith));
     }
 
 pub returns-in_err-push_pad : goal.returns-in_err-push_pad
 returns-in_err-push_pad c =
-    let told = c.from_residual-in_err-push_pad.ensures.1 in
-    let e = err_from_is_err_and c.from_residual-in_err-push_pad.result told in
+    let stated = c.from_residual-in_err-push_pad.ensures.1 in
+    let e = err_from_is_err_and c.from_residual-in_err-push_pad.result stated in
     record {
       text = rw e.1 tt;
-      too_large = memory_told c.from_residual-in_err-push_pad.result _ told (sized_text_stands c.args.pcm.now _ c.in-Some.sizes.riff_size c.len.result c.from.result c.spec.inside.channels c.pcm.view_is (omega arith) c.from.ensures (ap (λ (s : WaveSpec). s.channels) c.spec.view_is) c.in-Some.ensures.riff_size (omega arith));
+      too_large = memory_stated c.from_residual-in_err-push_pad.result _ stated (sized_text_holds c.args.pcm.now _ c.in-Some.sizes.riff_size c.len.result c.from.result c.spec.inside.channels c.pcm.view_is (omega arith) c.from.ensures (ap (λ (s : WaveSpec). s.channels) c.spec.view_is) c.in-Some.ensures.riff_size (omega arith));
     }
 
 pub push_samples-requires-clause-values : goal.push_samples-requires-clause-values
@@ -52,4 +52,4 @@ push_samples-requires-clause-values c =
 
 pub returns-clause-too_large : goal.returns-clause-too_large
 returns-clause-too_large c =
-    made_told c.push_pad.new.out _ (sized_text_stands c.args.pcm.now _ c.in-Some.sizes.riff_size c.len.result c.from.result c.spec.inside.channels c.pcm.view_is (omega arith) c.from.ensures (ap (λ (s : WaveSpec). s.channels) c.spec.view_is) c.in-Some.ensures.riff_size (omega arith))
+    made_stated c.push_pad.new.out _ (sized_text_holds c.args.pcm.now _ c.in-Some.sizes.riff_size c.len.result c.from.result c.spec.inside.channels c.pcm.view_is (omega arith) c.from.ensures (ap (λ (s : WaveSpec). s.channels) c.spec.view_is) c.in-Some.ensures.riff_size (omega arith))

@@ -19,4 +19,4 @@ returns-clause-err g c = λ file is.
     let new = g.W.Write.contents (outlet_writer c.write_master.new.outlet) in
     let planned = c.args.self.now in
     on_err_weaker c.write_master.result
-    (λ written. subst (AppendsPart old new) (one_file planned.cut planned.form written.channels is.channels written.text file written.best is.best written.text_is is.text) written.written) c.write_master.ensures.front
+    (λ written. subst (AppendsPart old new) (one_file planned.cut planned.form written.channels is.channels written.text file written.best is.best written.text_is is.text) written.written) c.write_master.ensures.prefix

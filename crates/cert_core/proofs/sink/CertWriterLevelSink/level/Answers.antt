@@ -6,7 +6,7 @@ use Rattle.std.proofs.KnownBytes.{Appends-nil}
 use Rattle.chunk_core.specs.Outlets.{outlet_writer, AppendsPart}
 use Rattle.chunk_core.specs.declared.fused_outlet.FusedFault.{FusedFault}
 use Rattle.chunk_core.specs.declared.fused_outlet.FusedFault.TheVariants.{Device, Failed}
-use Rattle.cost_core.specs.Sinks.{AppendsPrefix}
+use Rattle.cost_core.specs.Sinks.{GrowsByPrefix}
 use Rattle.cert_core.specs.Spelling.{row_text, version_number, version_of}
 use Rattle.cert_core.specs.Writers.{cert_outlet, cert_version, has_failed, rows_left}
 use Rattle.cert_core.specs.declared.version.Version.{Version}
@@ -25,16 +25,16 @@ same_version : (v : Version) → v ≡ version_of (version_number v)
 same_version One = refl
 same_version Two = refl
 
--- what was told stays told
-told : (old new : Option (List ℕ)) (bytes : List ℕ) → Appends old new bytes → IsSome old → IsSome new
-told None new bytes wrote is = absurd (true≢false (sym is))
-told (Some x) None bytes wrote is = absurd wrote
-told (Some x) (Some y) bytes wrote is = refl
+-- what was stated stays stated
+stated : (old new : Option (List ℕ)) (bytes : List ℕ) → Appends old new bytes → IsSome old → IsSome new
+stated None new bytes wrote is = absurd (true≢false (sym is))
+stated (Some x) None bytes wrote is = absurd wrote
+stated (Some x) (Some y) bytes wrote is = refl
 
 -- what a refusal leaves of the bytes
-front : (old new : Option (List ℕ)) (bytes : List ℕ) (f : FusedFault) → (IsErrOf {T = Unit {0}} (Err f) Device → AppendsPart old new bytes) → (IsErrOf {T = Unit {0}} (Err f) Failed → new ≡ old) → AppendsPrefix old new bytes
-front old new bytes Device part same = let (front, back, is, some, wrote) = part refl in (front, back, is, wrote)
-front old new bytes Failed part same = ([], bytes, refl, subst (λ a. Appends old a []) (sym (same refl)) (Appends-nil old))
+prefix : (old new : Option (List ℕ)) (bytes : List ℕ) (f : FusedFault) → (IsErrOf {T = Unit {0}} (Err f) Device → AppendsPart old new bytes) → (IsErrOf {T = Unit {0}} (Err f) Failed → new ≡ old) → GrowsByPrefix old new bytes
+prefix old new bytes Device part same = let (prefix, back, is, some, wrote) = part refl in (prefix, back, is, wrote)
+prefix old new bytes Failed part same = ([], bytes, refl, subst (λ a. Appends old a []) (sym (same refl)) (Appends-nil old))
 
 pub returns-in-Ok : goal.returns-in-Ok
 returns-in-Ok g c =
@@ -45,7 +45,7 @@ returns-in-Ok g c =
       row_length = ap (λ s. 2 ^ (s.weights - 1)) c.level.ensures.kept;
       kind = ap (λ s. version_number s.version) c.level.ensures.kept;
       kept = c.level.ensures.kept;
-      telling = told old new _ c.in-Ok.ensures.ok;
+      telling = stated old new _ c.in-Ok.ensures.ok;
       ok = subst (λ v. Appends old new (row_text v c.args.row.now)) (same_version (cert_version c.args.self.now)) c.in-Ok.ensures.ok;
       err = tt;
       refused = λ _. c.in-Ok.ensures.refused;
@@ -55,14 +55,14 @@ pub returns-in-Err : goal.returns-in-Err
 returns-in-Err g c =
     let old = g.W.Write.contents (outlet_writer (cert_outlet c.args.self.now)) in
     let new = g.W.Write.contents (outlet_writer (cert_outlet c.level.new.self)) in
-    let part = front old new (row_text (cert_version c.args.self.now) c.args.row.now) c.in-Err.field-0 c.in-Err.ensures.device (λ h. ap (λ w. g.W.Write.contents (outlet_writer (cert_outlet w))) (c.in-Err.ensures.unchanged h)) in
+    let part = prefix old new (row_text (cert_version c.args.self.now) c.args.row.now) c.in-Err.field-0 c.in-Err.ensures.device (λ h. ap (λ w. g.W.Write.contents (outlet_writer (cert_outlet w))) (c.in-Err.ensures.unchanged h)) in
     record {
       rows = tt;
       row_length = ap (λ s. 2 ^ (s.weights - 1)) c.level.ensures.kept;
       kind = ap (λ s. version_number s.version) c.level.ensures.kept;
       kept = c.level.ensures.kept;
-      telling = told old new _ part.3;
+      telling = stated old new _ part.3;
       ok = tt;
-      err = subst (λ v. AppendsPrefix old new (row_text v c.args.row.now)) (same_version (cert_version c.args.self.now)) part;
+      err = subst (λ v. GrowsByPrefix old new (row_text v c.args.row.now)) (same_version (cert_version c.args.self.now)) part;
       refused = λ _. c.in-Err.ensures.refused;
     }

@@ -1,4 +1,4 @@
--- What was read stands at the buffer's front, and no read failed yet.
+-- What was read is at the start of the buffer, and no read failed yet.
 use Rattle.std.proofs.Common.{◌≡◌, ◌+◌, ◌-◌, ◌≤◌, length, take}
 use Rattle.std.specs.Io.KnownBytes.{Consumes}
 use Rattle.std.specs.Io.Iter.{u64_saturate}

@@ -3,16 +3,16 @@ use Rattle.std.proofs.lemmas.List.{take_rest}
 use Rattle.std.proofs.KnownBytes.{Appends-trans}
 use Rattle.chunk_core.proofs.outlet.Outlet.put_all.Goals as goal
 
--- the front of what is left goes over to what is done
-moves_front : (all done rest : List ℕ) (n : ℕ) → all ≡ done ++ rest → all ≡ (done ++ take n rest) ++ take (length rest - n) (drop n rest)
-moves_front all done rest n e =
+-- the first part of what is left becomes part of what is done
+moves_prefix : (all done rest : List ℕ) (n : ℕ) → all ≡ done ++ rest → all ≡ (done ++ take n rest) ++ take (length rest - n) (drop n rest)
+moves_prefix all done rest n e =
     e ∙ ap (λ l. done ++ l) (sym (take-append-drop n rest)) ∙ sym (append_assoc done (take n rest) (drop n rest)) ∙ ap (λ l. (done ++ take n rest) ++ l) (sym (take_rest rest n))
 
 pub loop-rest-preserved : goal.loop-rest-preserved
 loop-rest-preserved g c =
     let (done, split, appended, calm) = c.loop-rest.invariant in
     let n = c.in-Ok.count in
-    (done ++ take n c.loop-rest.rest.now, moves_front _ done c.loop-rest.rest.now n split, Appends-trans _ _ _ _ _ appended c.in-Ok.ensures.bytes, calm)
+    (done ++ take n c.loop-rest.rest.now, moves_prefix _ done c.loop-rest.rest.now n split, Appends-trans _ _ _ _ _ appended c.in-Ok.ensures.bytes, calm)
 
 pub returns-clause-err : goal.returns-clause-err
 returns-clause-err g c = tt

@@ -16,8 +16,8 @@ returns c =
     let ws = c.as_slice-weights.ensures.value in
     let ew = c.in_ok-weights.ensures.items ∙ ws in
     let el = ap (λ (q : CueContent). q.bridge) (cue_read splice i c.index.result.now there c.index.ensures) in
-    let ep = c.in_ok-push_range.ensures.ok ∙ (λ j. c.new-preceding.ensures j ++ slice_range c.args.own.now (c.args.stop - (length (ws j) - 1)) c.args.stop) in
-    let ef = c.in_ok-push_range-2.ensures.ok ∙ (λ j. c.new-following.ensures j ++ slice_range c.args.next.now c.args.start (c.args.start + (length (ws j) - 1))) in
+    let ep = c.in_ok-push_range.ensures.ok ∙ (λ j. c.new-preceding.ensures j ++ slice_range c.args.seam.own.now (c.args.seam.stop - (length (ws j) - 1)) c.args.seam.stop) in
+    let ef = c.in_ok-push_range-2.ensures.ok ∙ (λ j. c.new-following.ensures j ++ slice_range c.args.seam.next.now c.args.seam.start (c.args.seam.start + (length (ws j) - 1))) in
     let et = c.in_ok-targets.ensures in
     λ j. record { weights = ew j; levels = el j; preceding = ep j; following = ef j; targets = et j }
 
@@ -26,10 +26,10 @@ invariant_of-result c =
     let content = splice_content c.args.splice.now in
     let room = c.requires.room in
     let there : c.args.cue < length content.cues = omega (arith, c.requires.cues) in
-    let many = targets_many content (splicing c.args.splice.now) c.args.cue c.args.own.now c.args.stop c.args.next.now c.args.start there room.ends (omega (arith, room.after)) room.goes_on in
+    let many = targets_many content (splicing c.args.splice.now) c.args.cue c.args.seam.own.now c.args.seam.stop c.args.seam.next.now c.args.seam.start there room.ends (omega (arith, room.after)) room.goes_on in
     let is = returns c in
     record {
-      limits = subst IsBridging (sym is) (bridging_limits content (splicing c.args.splice.now) c.args.cue c.args.own.now c.args.stop c.args.next.now c.args.start there room.ends (omega (arith, room.after)) room.goes_on);
+      limits = subst IsBridging (sym is) (bridging_limits content (splicing c.args.splice.now) c.args.cue c.args.seam.own.now c.args.seam.stop c.args.seam.next.now c.args.seam.start there room.ends (omega (arith, room.after)) room.goes_on);
       as_many_targets = ap (λ (d : Bridging). length d.targets) is ∙ many ∙ sym (ap (λ (d : Bridging). d.levels + length d.following) is);
       start_is = c.read_state-state.ensures;
       table_is = rw c.in_ok-weights.ensures.items c.in_ok-scaled.ensures;
@@ -81,8 +81,8 @@ scaled_sums-requires-clause-levels c =
 pub read_state-state-requires : goal.read_state-state-requires
 read_state-state-requires c =
     let room = c.requires.room in
-    let before = c.in_ok-push_range.ensures.ok ∙ (λ j. c.new-preceding.ensures j ++ slice_range c.args.own.now (c.args.stop - (length (c.as_slice-weights.ensures.value j) - 1)) c.args.stop) in
-    let many = preceding_many (splice_content c.args.splice.now) (splicing c.args.splice.now) c.args.cue c.args.own.now c.args.stop c.args.next.now c.args.start (omega (arith, c.requires.cues)) room.ends (omega (arith, room.after)) room.goes_on in
+    let before = c.in_ok-push_range.ensures.ok ∙ (λ j. c.new-preceding.ensures j ++ slice_range c.args.seam.own.now (c.args.seam.stop - (length (c.as_slice-weights.ensures.value j) - 1)) c.args.seam.stop) in
+    let many = preceding_many (splice_content c.args.splice.now) (splicing c.args.splice.now) c.args.cue c.args.seam.own.now c.args.seam.stop c.args.seam.next.now c.args.seam.start (omega (arith, c.requires.cues)) room.ends (omega (arith, room.after)) room.goes_on in
     omega (arith, ap length before ∙ many, (splicing c.args.splice.now).weights_fit.few_weights)
 
 -- ---- the exits

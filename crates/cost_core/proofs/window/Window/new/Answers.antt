@@ -8,7 +8,7 @@ use Rattle.cost_core.proofs.Windows.{cue_fits, cue_read, splicing}
 use Rattle.cost_core.proofs.window.Window.new.Goals as goal
 use Rattle.std.proofs.lemmas.Result.{IfOk-from_err, err_from_is_err_and}
 
--- what the target and the weights read stands there: in both cues, and beyond them where there is room
+-- what the target and the weights read is there: in both cues, and beyond them where there is room
 pub between-requires-clause-room : goal.between-requires-clause-room
 between-requires-clause-room c =
     let splice = c.args.splice.now in

@@ -1,15 +1,15 @@
 use Rattle.std.proofs.Common.{◌≡◌, ◌-◌, ◌<◌, ◌≤◌, ◌∙◌, ap, arith, length, map, slice_range, subst, sym}
 use Rattle.splice_core.specs.Cues.{CueContent}
 use Rattle.splice_core.specs.Splices.{splice_content}
-use Rattle.cut_core.specs.Cuts.{CutContent, channel_number, cue_at, cue_bits}
+use Rattle.cut_core.specs.Cuts.{CutContent, cue_at, cue_bits, take_channels}
 use Rattle.cut_core.specs.Excerpts.{HasStretch, excerpts_content, start_in, stop_in, stretch_at}
 use Rattle.cut_core.specs.View.{cut_content}
 use Rattle.cut_core.proofs.KeepingLaws.{as_many, bits_there, cue_there, stretch_there}
 use Rattle.cut_core.proofs.cut.Cut.cued.Goals as goal
 use Rattle.cut_core.proofs.cut.Cut.cued.Goals.{After-deref, After-stretch-stretch}
 
-channel : (c : After-deref) → c.args.channel < channel_number (cut_content c.self.inside)
-channel c = omega (arith, ap channel_number c.self.view_is, c.requires.channel)
+channel : (c : After-deref) → c.args.channel < take_channels (cut_content c.self.inside)
+channel c = omega (arith, ap take_channels c.self.view_is, c.requires.channel)
 
 cue : (c : After-deref) → c.args.cue < length (splice_content c.self.inside.splice).cues
 cue c = omega (arith, ap (λ (k : CutContent). length k.splice.cues) c.self.view_is, c.requires.cue)

@@ -7,15 +7,15 @@ use Rattle.cut_core.specs.Cuts.{FitTakes}
 use Rattle.cut_core.specs.Excerpts.{AreExcerpts, cut_of_excerpts, excerpts_shapes, shape_of}
 use Rattle.cut_core.specs.Opening.{IsWhole, fitting}
 use Rattle.cut_core.specs.Rooms.{HaveRoom}
-use Rattle.cut_core.proofs.HearingLaws.{heard_is, shapes_are}
-use Rattle.cut_core.proofs.KeepingLaws.{cut_fails, cut_fits, heard_long}
+use Rattle.cut_core.proofs.ExcerptLaws.{excerpted_is, shapes_are}
+use Rattle.cut_core.proofs.KeepingLaws.{cut_fails, cut_fits, excerpted_long}
 use Rattle.cut_core.proofs.OpeningLaws.{fits_is}
 use Rattle.cut_core.proofs.cut.Cut.of.Goals as goal
 use Rattle.cut_core.proofs.cut.Cut.of.Goals.{In_ok-fits}
 
 pub fits-requires : goal.fits-requires
 fits-requires c =
-    ap length c.deref.ensures.value ∙ heard_long (splice_content c.args.splice) c.requires.whole c.args.takes.items c.requires.excerpts ∙ c.requires.as_many
+    ap length c.deref.ensures.value ∙ excerpted_long (splice_content c.args.splice) c.requires.whole c.args.takes.items c.requires.excerpts ∙ c.requires.as_many
 
 pub returns-in_err-fits : goal.returns-in_err-fits
 returns-in_err-fits c =
@@ -26,7 +26,7 @@ returns-in_err-fits c =
           rw (p.1, p.2) (cut_fails c.args.form (splice_content c.args.splice) whole c.in_err-fits.field-0.0 (c.in_err-fits.ensures ∙ ap (fitting c.args.form (splice_content c.args.splice)) shapes));
     }
 
--- of whichever takes it was heard, they fit
+-- of whichever takes the excerpts are, they fit
 fits : (c : In_ok-fits) (whole : List Content) → AreExcerpts (splice_content c.args.splice) whole c.args.takes.items → fitting c.args.form (splice_content c.args.splice) (map shape_of whole) ≡ Ok tt
 fits c whole are =
     let shapes : excerpts_shapes c.deref.result.now ≡ map shape_of whole = ap excerpts_shapes c.deref.ensures.value ∙ shapes_are (splice_content c.args.splice) whole c.args.takes.items are in
@@ -34,7 +34,7 @@ fits c whole are =
 
 many : (c : In_ok-fits) (whole : List Content) → AreExcerpts (splice_content c.args.splice) whole c.args.takes.items → length whole ≡ length (splice_content c.args.splice).takes
 many c whole are =
-    sym (heard_long (splice_content c.args.splice) whole c.args.takes.items are) ∙ heard_long (splice_content c.args.splice) c.requires.whole c.args.takes.items c.requires.excerpts ∙ c.requires.as_many
+    sym (excerpted_long (splice_content c.args.splice) whole c.args.takes.items are) ∙ excerpted_long (splice_content c.args.splice) c.requires.whole c.args.takes.items c.requires.excerpts ∙ c.requires.as_many
 
 met : (c : In_ok-fits) (whole : List Content) → AreExcerpts (splice_content c.args.splice) whole c.args.takes.items → FitTakes (splice_content c.args.splice) whole × IsWhole c.args.form (splice_content c.args.splice) × HaveRoom (splice_content c.args.splice) whole
 met c whole are = fits_is c.args.form (splice_content c.args.splice) whole (many c whole are) (fits c whole are)
@@ -52,5 +52,5 @@ returns c =
     record {
       exact = λ whole are.
           let parts = met here whole are in
-          cut_fits c.args.form splice whole (fits here whole are) ∙ ap (λ k. Ok k) (sym (ap (cut_of_excerpts splice) are.excerpts ∙ heard_is splice whole (splicing c.args.splice) parts.0 parts.2));
+          cut_fits c.args.form splice whole (fits here whole are) ∙ ap (λ k. Ok k) (sym (ap (cut_of_excerpts splice) are.excerpts ∙ excerpted_is splice whole (splicing c.args.splice) parts.0 parts.2));
     }

@@ -1,7 +1,7 @@
 use Rattle.std.proofs.Common.{arith, subst, sym}
 use Rattle.splice_core.specs.Splices.{splice_content}
 use Rattle.form_core.specs.Forms.{HoldsSome}
-use Rattle.form_core.specs.Steps.{Gives}
+use Rattle.form_core.specs.Steps.{GivesUnless}
 use Rattle.cut_core.specs.declared.fault.CutFault.TheVariants.{Memory}
 use Rattle.cut_core.specs.Opening.{file_bytes}
 use Rattle.cut_core.proofs.OpeningLaws.{files_are, gives_opens, read_on}
@@ -19,4 +19,4 @@ returns-clause-found c =
     let taken = c.in_ok-takes.ensures in
     let splice = splice_content c.args.splice in
     let files = file_bytes c.args.files.now in
-    gives_opens splice files c.args.form c.of.result (subst (λ steps. Gives Memory (λ cut. cut) c.of.result steps) (sym (read_on splice files c.args.form taken.0 taken.1)) (c.of.ensures.exact taken.0 taken.2))
+    gives_opens splice files c.args.form c.of.result (subst (λ steps. GivesUnless Memory (λ cut. cut) c.of.result steps) (sym (read_on splice files c.args.form taken.0 taken.1)) (c.of.ensures.exact taken.0 taken.2))

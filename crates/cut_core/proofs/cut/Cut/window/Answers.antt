@@ -3,23 +3,23 @@ use Rattle.std.specs.Prelude.{IfOk}
 use Rattle.splice_core.specs.Cues.{CueContent}
 use Rattle.splice_core.specs.Splices.{splice_content}
 use Rattle.cost_core.specs.Bridges.{Bridging}
-use Rattle.cost_core.specs.Windows.{bridging_at, cue_at}
+use Rattle.cost_core.specs.Windows.{bridging_at, splice_cue}
 use Rattle.cut_core.specs.Cuts as cuts
-use Rattle.cut_core.specs.Cuts.{CutContent, channel_number}
+use Rattle.cut_core.specs.Cuts.{CutContent, take_channels}
 use Rattle.cut_core.specs.Excerpts.{HasStretch, excerpts_content, start_in, stop_in, stretch_at}
 use Rattle.cut_core.specs.View.{cut_content}
 use Rattle.cut_core.proofs.KeepingLaws.{as_many, bridge_there, room_again, stretch_there, window_there}
 use Rattle.cut_core.proofs.cut.Cut.window.Goals as goal
 use Rattle.cut_core.proofs.cut.Cut.window.Goals.{After-deref, After-excerpt_start-2}
 
-channel : (c : After-deref) → c.args.place.channel < channel_number (cut_content c.self.inside)
-channel c = omega (arith, ap channel_number c.self.view_is, c.requires.channel_there)
+channel : (c : After-deref) → c.args.place.channel < take_channels (cut_content c.self.inside)
+channel c = omega (arith, ap take_channels c.self.view_is, c.requires.channel_there)
 
 next : (c : After-deref) → c.args.place.cue + 1 < length (splice_content c.self.inside.splice).cues
 next c = omega (arith, ap (λ (k : CutContent). length k.splice.cues) c.self.view_is, c.requires.cue_there)
 
-some : (c : After-deref) → 1 ≤ (cue_at (splice_content c.self.inside.splice) c.args.place.cue).bridge
-some c = omega (arith, ap (λ (k : CutContent). (cue_at k.splice c.args.place.cue).bridge) c.self.view_is, c.requires.bridged)
+some : (c : After-deref) → 1 ≤ (splice_cue (splice_content c.self.inside.splice) c.args.place.cue).bridge
+some c = omega (arith, ap (λ (k : CutContent). (splice_cue k.splice c.args.place.cue).bridge) c.self.view_is, c.requires.bridged)
 
 pub stretch-own-requires-clause-takes : goal.stretch-own-requires-clause-takes
 stretch-own-requires-clause-takes c = ap length c.deref.ensures.value ∙ as_many c.self.inside c.self.invariant

@@ -8,6 +8,6 @@ returns-in-Ok-insert-clause-others c = record {
   others = λ other differs.
       let e : get_by_text c.insert.new.self other ≡ get_by_text c.args.self.now.files other = grind (arith, text_keys) in
       ap (option_map (λ v. v.items)) e;
-  same_told = refl;
+  same_known = refl;
   same_keeping = refl;
 }

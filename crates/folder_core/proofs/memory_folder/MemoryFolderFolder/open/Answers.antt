@@ -17,7 +17,7 @@ returns-in-Ok c =
     let file = c.in_ok-file.file.now.items in
     record {
       same = refl;
-      bytes = λ told. (
+      bytes = λ stated. (
         file,
         (0, ap (option_map (λ v. v.items)) (sym c.get.ensures.value ∙ ap option_copied c.in_ok-file.ensures.ok_part)),
         (λ j. Some (drop (c.new.ensures.position j) (c.new.ensures.inner j).items)) ∙ ap Some (same_from_all_zip (λ x y. y ≡ x) file c.in-Ok.file.items c.in-Ok.ensures.cases.0 (λ x y is. is)),

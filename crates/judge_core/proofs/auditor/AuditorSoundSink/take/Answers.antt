@@ -41,7 +41,7 @@ returns-in_ok-parts-clause-has c = λ first before fed is.
       same = is.same;
       ranges = keeps.same;
       audits = rw made (audits_more a.cut.now c.args.part n.ranges.now (items_of a.keeper.stretches.items) a.firsts.items before c.args.bytes.now
-          (record { keeps = subst (λ rs. Keeps c.args.part.sound rs c.args.part.done (items_of a.keeper.stretches.items) before) (is.ranges ∙ sym keeps.same) is.audits.keeps; number = is.audits.number; tells = is.audits.tells }) c.requires.size (items_of n.stretches.items) keeps.keeps (c.has_measure.ensures.yes c.if-has_measure.true) c.note_firsts.new.firsts more);
+          (record { keeps = subst (λ rs. Keeps c.args.part.sound rs c.args.part.done (items_of a.keeper.stretches.items) before) (is.ranges ∙ sym keeps.same) is.audits.keeps; number = is.audits.number; states = is.audits.states }) c.requires.size (items_of n.stretches.items) keeps.keeps (c.has_measure.ensures.yes c.if-has_measure.true) c.note_firsts.new.firsts more);
     }
 
 pub returns-else-has_measure-clause-has : goal.returns-else-has_measure-clause-has
@@ -50,7 +50,7 @@ returns-else-has_measure-clause-has c = λ first before fed is.
     record {
       same = is.same;
       ranges = keeps.same;
-      audits = record { keeps = keeps.keeps; number = is.audits.number; tells = λ measure. absurd (c.has_measure.ensures.no c.if-has_measure.false measure) };
+      audits = record { keeps = keeps.keeps; number = is.audits.number; states = λ measure. absurd (c.has_measure.ensures.no c.if-has_measure.false measure) };
     }
 
 pub returns-in_err-take-clause-refused : goal.returns-in_err-take-clause-refused

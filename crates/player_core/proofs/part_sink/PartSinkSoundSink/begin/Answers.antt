@@ -11,7 +11,7 @@ use Rattle.player_core.specs.Wave.{IsOpeningFault, OpensWave, sound_header, pad_
 use Rattle.player_core.proofs.PartFaultLaws.{part_opening}
 use Rattle.player_core.proofs.PartPlayLaws.{frames_number}
 use Rattle.player_core.proofs.PartSinkLaws.{due_at_first}
-use Rattle.player_core.proofs.PieceLaws.{front_more, front_nil, whole_front}
+use Rattle.player_core.proofs.PieceLaws.{prefix_more, prefix_nil, whole_prefix}
 use Rattle.player_core.proofs.part_sink.PartSinkSoundSink.begin.Goals as goal
 
 pub returns-then-not-lies_in : goal.returns-then-not-lies_in
@@ -22,7 +22,7 @@ returns-then-not-lies_in g c = record {
     same = refl;
     fault = c.lies_in.ensures.outside c.if-not-lies_in.true;
     unwritten = λ early. absurd early;
-    front = λ rest long. front_nil _ _;
+    prefix = λ rest long. prefix_nil _ _;
     failures = sym (add-zero _);
   };
 }
@@ -43,7 +43,7 @@ returns-in_err-put_header-clause-refused g c =
       same = refl;
       fault = part_opening d s p.start p.stop (omega (arith, c.frames_sound-frames.ensures.limits.least_factor)) (omega (arith, at.0, at.1)) f (subst (λ (t : Sound). IsOpeningFault d t f) frames c.in_err-put_header.ensures.fault);
       unwritten = c.in_err-put_header.ensures.unwritten;
-      front = λ rest long. front_more a b (sound_header d fs) (part_bytes d s ([] ++ rest) p.start p.stop ++ pad_of d fs) (subst (λ (t : Sound). AppendsPrefix a b (sound_header d t)) frames err);
+      prefix = λ rest long. prefix_more a b (sound_header d fs) (part_bytes d s ([] ++ rest) p.start p.stop ++ pad_of d fs) (subst (λ (t : Sound). AppendsPrefix a b (sound_header d t)) frames err);
       failures = c.in_err-put_header.ensures.failures;
     })
 
@@ -59,8 +59,8 @@ returns-in_err-player-clause-refused g c =
       same = refl;
       fault = tt;
       unwritten = λ early. absurd early;
-      front = λ rest long. front_more a b (sound_header d fs) (part_bytes d s ([] ++ rest) p.start p.stop ++ pad_of d fs)
-          (whole_front a b (sound_header d fs) (subst (λ (t : Sound). Appends a b (sound_header d t)) c.frames_sound-frames.ensures.sound c.in_ok-put_header.ensures.ok.written));
+      prefix = λ rest long. prefix_more a b (sound_header d fs) (part_bytes d s ([] ++ rest) p.start p.stop ++ pad_of d fs)
+          (whole_prefix a b (sound_header d fs) (subst (λ (t : Sound). Appends a b (sound_header d t)) c.frames_sound-frames.ensures.sound c.in_ok-put_header.ensures.ok.written));
       failures = c.in_ok-put_header.ensures.failures;
     })
 

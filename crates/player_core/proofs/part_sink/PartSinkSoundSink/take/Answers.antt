@@ -13,7 +13,7 @@ pub returns-in_err-put_part_due-in-Some-clause-refused : goal.returns-in_err-put
 returns-in_err-put_part_due-in-Some-clause-refused g c =
     let put = c.in_err-put_part_due-in-Some.ensures in
     rw (fault_is c.from_residual.result _ c.from_residual.ensures.1) (λ first before fed is.
-    part_playing_refuses g.W.Write.contents first c.args.self.now c.args._part.sound before is c.in-Some.player c.in-Some.is _ c.args.bytes.now refl c.in_err-put_part_due-in-Some.field-0.0 put.fault put.front put.failures)
+    part_playing_refuses g.W.Write.contents first c.args.self.now c.args._part.sound before is c.in-Some.player c.in-Some.is _ c.args.bytes.now refl c.in_err-put_part_due-in-Some.field-0.0 put.fault put.prefix put.failures)
 
 pub overflow_add-self : goal.overflow_add-self
 overflow_add-self g c =

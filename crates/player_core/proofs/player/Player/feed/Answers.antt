@@ -10,14 +10,14 @@ use Rattle.player_core.specs.Due.{bytes_known}
 use Rattle.player_core.specs.Groups.{group_size, part_size}
 use Rattle.player_core.specs.PlayerView.{AreChannels, FeedAll, IsPlayerFed}
 use Rattle.player_core.proofs.FeedLaws.{mul_some, some_part}
-use Rattle.player_core.proofs.StepLaws.{all_fit, gives_due, groups_size, heard_grows, heard_more, held_next, filter_known, held_size, in_range, ready_more}
+use Rattle.player_core.proofs.StepLaws.{all_fit, gives_due, groups_size, known_grows, known_more, held_next, filter_known, held_size, in_range, ready_more}
 use Rattle.player_core.proofs.player.Player.feed.Goals as goal
 use Rattle.player_core.proofs.player.Player.feed.Goals.{After-deref_mut, After-as_slice, After-drop_first}
 
 pub overflow_sub-number : goal.overflow_sub-number
 overflow_sub-number c =
     let s = c.args.self.now.sound in
-    omega (arith, c.bytes_known.ensures, c.bytes_known-2.ensures, heard_grows s c.args.self.now.fed (c.args.self.now.fed + length c.args.bytes.now) c.requires.ready.sound.some_channel (omega arith))
+    omega (arith, c.bytes_known.ensures, c.bytes_known-2.ensures, known_grows s c.args.self.now.fed (c.args.self.now.fed + length c.args.bytes.now) c.requires.ready.sound.some_channel (omega arith))
 
 pub feed_all-requires-clause-ready : goal.feed_all-requires-clause-ready
 feed_all-requires-clause-ready c =
@@ -40,15 +40,15 @@ feed_all-requires-clause-enough c =
     let past = c.requires.ready.history in
     let rest = held_size past.0 p.held.items (group_size s.interleaving s.channels) past.1.held ∙ ap (λ n. n % group_size s.interleaving s.channels) (sym past.1.fed) in
     let size = ap length (groups_are (goal.at.feed_all-requires-clause-enough c).After-deref_mut) ∙ groups_size p.held.items c.args.bytes.now (group_size s.interleaving s.channels) in
-    rw (c.bytes_known.ensures, c.bytes_known-2.ensures) (heard_more s p.fed (length c.args.bytes.now) (length p.held.items) (length c.split_at.result.0.now) c.requires.ready.sound.some_channel rest size)
+    rw (c.bytes_known.ensures, c.bytes_known-2.ensures) (known_more s p.fed (length c.args.bytes.now) (length p.held.items) (length c.split_at.result.0.now) c.requires.ready.sound.some_channel rest size)
 
-next_heard : (c : After-deref_mut) (before : List ℕ) → IsPlayerFed c.args.self.now before
+next_known : (c : After-deref_mut) (before : List ℕ) → IsPlayerFed c.args.self.now before
     → bytes_known c.args.self.now.sound (length (before ++ c.args.bytes.now)) ≡ bytes_known c.args.self.now.sound c.args.self.now.fed + (c.bytes_known.result - c.bytes_known-2.result)
-next_heard c before fed =
+next_known c before fed =
     let s = c.args.self.now.sound in
     let n = c.args.self.now.fed in
     let size : length (before ++ c.args.bytes.now) ≡ n + length c.args.bytes.now = omega (arith, length-append before c.args.bytes.now, fed.fed) in
-    let grows = heard_grows s n (n + length c.args.bytes.now) c.requires.ready.sound.some_channel (omega arith) in
+    let grows = known_grows s n (n + length c.args.bytes.now) c.requires.ready.sound.some_channel (omega arith) in
     ap (bytes_known s) size ∙ omega (arith, grows, c.bytes_known.ensures, c.bytes_known-2.ensures)
 
 streams_are : (c : After-as_slice) → AreChannels c.args.self.now.taps.now c.args.self.now.sound.count (bytes_known c.args.self.now.sound c.args.self.now.fed) c.deref_mut.result.now
@@ -71,7 +71,7 @@ push_tile-requires-clause-values c =
     let past = c.requires.ready.history in
     let e = (goal.at.push_tile-requires-clause-values c).After-deref_mut in
     rw c.as_slice.ensures.value (in_range s past.0 c.args.bytes.now c.requires.ready.sound.some_channel d p.streams.items c.feed_all.new.streams c.feed_all.new.tile.items (bytes_known s p.fed) (c.bytes_known.result - c.bytes_known-2.result)
-    c.requires.ready.number (number_is c) (known c).least_factor (ap (bytes_known s) (sym past.1.fed)) (next_heard e past.0 past.1) past.1.each p.held.items c.split_at.result.0.now past.1.held (groups_are e)
+    c.requires.ready.number (number_is c) (known c).least_factor (ap (bytes_known s) (sym past.1.fed)) (next_known e past.0 past.1) past.1.each p.held.items c.split_at.result.0.now past.1.held (groups_are e)
     (fed_all c) c.width.result c.width.ensures.value (known c).known_width)
 
 streams_back : (c : After-as_slice) → take c.args.self.now.streams.len (c.feed_all.new.streams ++ drop (length c.feed_all.new.streams) c.args.self.now.streams.items) ≡ c.feed_all.new.streams
@@ -100,10 +100,10 @@ returns-clause-ok c =
           fed = omega (arith, length-append before c.args.bytes.now, fed.fed);
           held = held_now (goal.at.returns-clause-ok c).After-drop_first ∙ held_next s before c.args.bytes.now c.requires.ready.sound.some_channel p.held.items fed.held;
           each = rw (streams_back w) (all_fit s before c.args.bytes.now c.requires.ready.sound.some_channel d p.streams.items c.feed_all.new.streams c.feed_all.new.tile.items (bytes_known s p.fed) (c.bytes_known.result - c.bytes_known-2.result)
-              c.requires.ready.number (number_is w) (known w).least_factor (ap (bytes_known s) (sym fed.fed)) (next_heard e before fed) fed.each p.held.items c.split_at.result.0.now fed.held (groups_are e) (fed_all w));
+              c.requires.ready.number (number_is w) (known w).least_factor (ap (bytes_known s) (sym fed.fed)) (next_known e before fed) fed.each p.held.items c.split_at.result.0.now fed.held (groups_are e) (fed_all w));
         },
         gives_due s before c.args.bytes.now c.requires.ready.sound.some_channel d p.streams.items c.feed_all.new.streams c.feed_all.new.tile.items (bytes_known s p.fed) (c.bytes_known.result - c.bytes_known-2.result)
-            c.requires.ready.number (number_is w) (known w).least_factor (ap (bytes_known s) (sym fed.fed)) (next_heard e before fed) fed.each p.held.items c.split_at.result.0.now fed.held (groups_are e) (fed_all w),
+            c.requires.ready.number (number_is w) (known w).least_factor (ap (bytes_known s) (sym fed.fed)) (next_known e before fed) fed.each p.held.items c.split_at.result.0.now fed.held (groups_are e) (fed_all w),
       ),
     )
 
@@ -113,14 +113,14 @@ returns-clause-ready c =
     let s = p.sound in
     let past = c.requires.ready.history in
     let w = (goal.at.returns-clause-ready c).After-as_slice in
-    let grows = heard_grows s p.fed (p.fed + length c.args.bytes.now) c.requires.ready.sound.some_channel (omega arith) in
-    let heard : bytes_known s p.fed + (c.bytes_known.result - c.bytes_known-2.result) ≡ bytes_known s (p.fed + length c.args.bytes.now) = omega (arith, grows, c.bytes_known.ensures, c.bytes_known-2.ensures) in
+    let grows = known_grows s p.fed (p.fed + length c.args.bytes.now) c.requires.ready.sound.some_channel (omega arith) in
+    let reached : bytes_known s p.fed + (c.bytes_known.result - c.bytes_known-2.result) ≡ bytes_known s (p.fed + length c.args.bytes.now) = omega (arith, grows, c.bytes_known.ensures, c.bytes_known-2.ensures) in
     record {
       sound = c.requires.ready.sound;
       whole = c.requires.ready.whole;
       within = c.requires.few;
       number = rw (streams_back w) (number_is w);
-      each = rw (streams_back w, ← heard) (c.in_ok-feed_all.ensures.channels p.taps.now (bytes_known s p.fed) (streams_are w));
+      each = rw (streams_back w, ← reached) (c.in_ok-feed_all.ensures.channels p.taps.now (bytes_known s p.fed) (streams_are w));
       history = (past.0 ++ c.args.bytes.now, ((returns-clause-ok c).2 past.0 past.1).0);
     }
 

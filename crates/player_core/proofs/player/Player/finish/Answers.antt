@@ -8,7 +8,7 @@ use Rattle.player_core.specs.Due.{bytes_known, channel_whole, frames_due}
 use Rattle.player_core.specs.Frames.{tile_of}
 use Rattle.player_core.specs.PlayerView.{AllFit, AreChannels, IsPlayerFed, IsPlayer}
 use Rattle.player_core.specs.declared.player.Player.{Player}
-use Rattle.player_core.proofs.FinishLaws.{gives_all, heard_whole, rest_in_range}
+use Rattle.player_core.proofs.FinishLaws.{gives_all, known_whole, rest_in_range}
 use Rattle.player_core.proofs.StepLaws.{all_whole, filter_known}
 use Rattle.player_core.proofs.player.Player.finish.Goals as goal
 use Rattle.player_core.proofs.player.Player.finish.Goals.{After-as_slice}
@@ -19,7 +19,7 @@ known p is = filter_known p.taps.now p.sound.count (bytes_known p.sound p.fed) p
 pub finish_all-requires : goal.finish_all-requires
 finish_all-requires c =
     let p = c.args.self.now in
-    rw c.deref_mut.ensures.value (record { ready = all_whole p.taps.now p.sound p.streams.items p.fed (ap (bytes_known p.sound) c.requires.all ∙ heard_whole p.sound c.requires.ready.sound c.requires.ready.whole) c.requires.ready.each })
+    rw c.deref_mut.ensures.value (record { ready = all_whole p.taps.now p.sound p.streams.items p.fed (ap (bytes_known p.sound) c.requires.all ∙ known_whole p.sound c.requires.ready.sound c.requires.ready.whole) c.requires.ready.each })
 
 -- what the streams gave, after whatever bytes came
 made : (c : After-as_slice) (bytes : List ℕ) → IsPlayerFed c.args.self.now bytes

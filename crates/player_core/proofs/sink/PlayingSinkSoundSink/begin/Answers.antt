@@ -6,7 +6,7 @@ use Rattle.player_core.proofs.SoundLaws.{nothing_is_due}
 use Rattle.sound_core.proofs.FaultLaws.{fault_is}
 use Rattle.player_core.specs.Wave.{sound_header, pad_of}
 use Rattle.player_core.proofs.FaultLaws.{opening_own}
-use Rattle.player_core.proofs.PieceLaws.{front_more, whole_front}
+use Rattle.player_core.proofs.PieceLaws.{prefix_more, whole_prefix}
 use Rattle.player_core.proofs.sink.PlayingSinkSoundSink.begin.Goals as goal
 
 pub returns-in_err-put_header-clause-own : goal.returns-in_err-put_header-clause-own
@@ -20,7 +20,7 @@ returns-in_err-put_header-clause-refused g c =
       same = refl;
       fault = c.in_err-put_header.ensures.fault;
       unwritten = c.in_err-put_header.ensures.unwritten;
-      front = λ rest long. front_more _ _ (sound_header d s) (all_bytes d s ([] ++ rest) ++ pad_of d s) c.in_err-put_header.ensures.err;
+      prefix = λ rest long. prefix_more _ _ (sound_header d s) (all_bytes d s ([] ++ rest) ++ pad_of d s) c.in_err-put_header.ensures.err;
       failures = c.in_err-put_header.ensures.failures;
     })
 
@@ -32,7 +32,7 @@ returns-in_err-player-clause-refused g c =
       same = refl;
       fault = tt;
       unwritten = λ early. absurd early;
-      front = λ rest long. front_more _ _ (sound_header d s) (all_bytes d s ([] ++ rest) ++ pad_of d s) (whole_front _ _ (sound_header d s) c.in_ok-put_header.ensures.ok.written);
+      prefix = λ rest long. prefix_more _ _ (sound_header d s) (all_bytes d s ([] ++ rest) ++ pad_of d s) (whole_prefix _ _ (sound_header d s) c.in_ok-put_header.ensures.ok.written);
       failures = c.in_ok-put_header.ensures.failures;
     })
 

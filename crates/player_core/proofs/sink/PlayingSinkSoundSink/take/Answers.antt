@@ -20,5 +20,5 @@ returns-clause-has g c =
 pub returns-clause-refused : goal.returns-clause-refused
 returns-clause-refused g c =
     let puts = c.put_due.ensures in
-    all_err _ _ c.put_due.result puts.front puts.fault puts.failures (λ f front fault failures first before fed is.
-    playing_refuses g.W.Write.contents first c.args.self.now c.args._part.sound before is c.in-Some.player c.in-Some.is _ c.args.bytes.now refl refl f fault front failures)
+    all_err _ _ c.put_due.result puts.prefix puts.fault puts.failures (λ f prefix fault failures first before fed is.
+    playing_refuses g.W.Write.contents first c.args.self.now c.args._part.sound before is c.in-Some.player c.in-Some.is _ c.args.bytes.now refl refl f fault prefix failures)

@@ -2,7 +2,7 @@ use Rattle.std.proofs.Common.{◌≡◌, ◌<◌, ◌++◌, [], ◌∙◌, ap, a
 use Rattle.chunk_core.specs.Inlets.{inlet_failures}
 use Rattle.sound_core.specs.Reads.{Reads}
 use Rattle.sound_core.proofs.FaultLaws.{fault_is}
-use Rattle.sound_core.proofs.ReadLaws.{joined_behind, reads_none, reads_on}
+use Rattle.sound_core.proofs.ReadLaws.{joined_after, reads_none, reads_on}
 use Rattle.sound_core.proofs.ReaderLaws.{same_on}
 use Rattle.sound_core.proofs.reader.SoundReader.fill.Goals as goal
 
@@ -26,7 +26,7 @@ loop-filled-preserved g c =
     let pulls = c.in_ok-count.ensures.read in (
       so_far.0 ++ pulls.read,
       reads_on g.R.Read.remaining c.args.self.now.inlet.now c.loop-filled.self.inlet.now c.pull_after.new.self.inlet.now so_far.0 pulls.read so_far.1 pulls.reads,
-      pulls.front ∙ ap (λ xs. xs ++ pulls.read) so_far.2 ∙ append_assoc (take c.args.size c.args.self.now.ahead.now.items) so_far.0 pulls.read,
+      pulls.prefix ∙ ap (λ xs. xs ++ pulls.read) so_far.2 ∙ append_assoc (take c.args.size c.args.self.now.ahead.now.items) so_far.0 pulls.read,
       omega (arith, so_far.3, pulls.number, length-append so_far.0 pulls.read),
       pulls.few,
       c.pull_after.ensures.kept ∙ so_far.5,
@@ -64,7 +64,7 @@ returns-clause-ok g c = λ yes.
         passed = first ++ so_far.0;
         read = so_far.0;
         reads = so_far.1;
-        parts = joined_behind c.args.size ahead so_far.0 (omega (arith, so_far.3, full)) ∙ ap (λ xs. (first ++ so_far.0) ++ xs) (sym so_far.5);
+        parts = joined_after c.args.size ahead so_far.0 (omega (arith, so_far.3, full)) ∙ ap (λ xs. (first ++ so_far.0) ++ xs) (sym so_far.5);
         long = omega (arith, length-append first so_far.0, so_far.3, full);
       };
       first = ap (λ n. take n c.loop-filled.self.block.now.items) (sym full) ∙ so_far.2;

@@ -1,4 +1,4 @@
--- The block begins with the bytes that were ahead, and what was read so far.
+-- The block begins with the buffered bytes and what was read so far.
 use Rattle.std.proofs.Common.{◌≡◌, ℕ, ◌+◌, ◌-◌, ◌≤◌, List, ◌++◌, drop, length, take}
 use Rattle.chunk_core.specs.Inlets.{inlet_failures}
 use Rattle.sound_core.specs.Readers.{IsReading, IsSame}

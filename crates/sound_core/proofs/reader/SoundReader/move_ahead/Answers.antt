@@ -17,4 +17,4 @@ returns-clause-moved g c =
     let least : count ≡ min c.args.size (length ahead) = omega (arith, c.min-count.ensures, c.len.ensures) in
     let is : moved ≡ take count ahead = c.split_at.ensures.front ∙ ap (take count) c.deref.ensures.value in
     let long : length moved ≡ count = omega (arith, ap length is, length-take count ahead, least) in
-    ap (take count) c.drop_ahead.ensures.block ∙ ap (λ n. take n c.put_first.new.block.items) (sym long) ∙ c.put_first.ensures.front ∙ is ∙ ap (λ n. take n ahead) least ∙ take_min c.args.size ahead
+    ap (take count) c.drop_ahead.ensures.block ∙ ap (λ n. take n c.put_first.new.block.items) (sym long) ∙ c.put_first.ensures.prefix ∙ is ∙ ap (λ n. take n ahead) least ∙ take_min c.args.size ahead

@@ -1,9 +1,9 @@
 use Rattle.std.proofs.Common.{◌≡◌, ◌+◌, ◌-◌, ◌++◌, ◌∙◌, ap, arith, length, refl, subst, sym}
-use Rattle.chunk_core.specs.Inlets.{inlet_failures, inlet_reader}
+use Rattle.chunk_core.specs.Inlets.{inlet_failures}
 use Rattle.sound_core.specs.Readers.{Passes}
-use Rattle.sound_core.proofs.FaultLaws.{fault_is, reading_in_pass}
+use Rattle.sound_core.proofs.FaultLaws.{fault_is}
 use Rattle.sound_core.proofs.OutlineLaws.{pass_more, pass_none, pass_part, pass_short}
-use Rattle.sound_core.proofs.ReaderLaws.{counts_later, counts_refused, counts_so_far, same_on, same_self}
+use Rattle.sound_core.proofs.ReaderLaws.{counts_later, counts_ok, counts_so_far, same_on, same_self}
 use Rattle.sound_core.proofs.reader.SoundReader.pass.Goals as goal
 
 pub loop-left-init : goal.loop-left-init
@@ -45,8 +45,9 @@ returns g c =
     record {
       same = same_on c.args.self.now c.loop-left.self c.drop_ahead.new.self c.loop-left.invariant.3 c.drop_ahead.ensures.same;
       reading = c.drop_ahead.ensures.reading c.loop-left.invariant.2;
-      ok = subst (λ n. Passes g.R.Read.remaining c.args.self.now.inlet.now c.drop_ahead.new.self.inlet.now n old rest) sum
+      ok = λ yes. subst (λ n. Passes g.R.Read.remaining c.args.self.now.inlet.now c.drop_ahead.new.self.inlet.now n old rest) sum
           (pass_part g.R.Read.remaining c.args.self.now.inlet.now c.loop-left.self.inlet.now (c.args.wanted - c.loop-left.left) old c.loop-left.self.ahead.now.items so_far.0 c.drop_ahead.new.self.inlet.now c.loop-left.left rest c.drop_ahead.ensures.untouched (omega (arith, c.len.ensures, c.loop-left-test.false)) c.drop_ahead.ensures.rest);
+      short = λ no. absurd cc;
       counts = counts_so_far c.args.self.now c.drop_ahead.new.self _ (c.drop_ahead.ensures.reading so_far.2) (same_on c.args.self.now c.loop-left.self c.drop_ahead.new.self so_far.3 c.drop_ahead.ensures.same) (ap inlet_failures c.drop_ahead.ensures.untouched ∙ so_far.4);
       fault = tt;
     }
@@ -68,8 +69,9 @@ returns-in_err-read_more g c =
       same = record { reference = same.reference ∙ so_far.3.reference; given = same.given ∙ so_far.3.given; limit = same.limit ∙ so_far.3.limit };
       reading = tt;
       ok = tt;
+      short = tt;
       counts = counts_later c.args.self.now _ c.read_more.new.self c.in_err-read_more.field-0.0 so_far.3.limit so_far.4 c.in_err-read_more.ensures.counts;
-      fault = reading_in_pass (g.R.Read.remaining (inlet_reader c.args.self.now.inlet.now)) c.args.wanted c.args.self.now.ahead.now.items c.in_err-read_more.field-0.0 c.in_err-read_more.ensures.fault;
+      fault = c.in_err-read_more.ensures.fault;
     })
 
 pub returns-then-branch-eq0 : goal.returns-then-branch-eq0
@@ -79,9 +81,10 @@ returns-then-branch-eq0 g c =
     let read = c.in_ok-read_more.ensures.read in
     record {
       same = record { reference = same.reference ∙ so_far.3.reference; given = same.given ∙ so_far.3.given; limit = same.limit ∙ so_far.3.limit };
-      reading = tt;
-      ok = tt;
-      counts = counts_refused c.args.self.now _ c.read_more.new.self c.in_ok-read_more.field-0 so_far.3.limit so_far.4 c.in_ok-read_more.ensures.counts;
-      fault = pass_short g.R.Read.remaining c.args.self.now.inlet.now c.loop-left.self.inlet.now (c.args.wanted - c.loop-left.left) c.args.self.now.ahead.now.items c.loop-left.self.ahead.now.items so_far.0 c.read_more.new.self.inlet.now read.0 c.args.wanted read.1
+      reading = c.in_ok-read_more.ensures.reading;
+      ok = λ yes. absurd cc;
+      short = λ no. pass_short g.R.Read.remaining c.args.self.now.inlet.now c.loop-left.self.inlet.now (c.args.wanted - c.loop-left.left) c.args.self.now.ahead.now.items c.loop-left.self.ahead.now.items so_far.0 c.read_more.new.self.inlet.now read.0 c.args.wanted read.1
           (omega (arith, read.2, c.if-branch-eq0.true)) (c.in_ok-read_more.ensures.end c.if-branch-eq0.true) (omega (arith, so_far.1, c.len.ensures, c.loop-left-test.true));
+      counts = counts_ok c.args.self.now _ c.read_more.new.self c.in_ok-read_more.field-0 _ so_far.3.limit so_far.4 c.in_ok-read_more.ensures.counts;
+      fault = tt;
     }

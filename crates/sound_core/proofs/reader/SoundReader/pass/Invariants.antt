@@ -1,4 +1,4 @@
--- So many bytes were passed so far.
+-- N bytes were passed so far.
 use Rattle.std.proofs.Common.{◌≡◌, ◌-◌, ◌≤◌}
 use Rattle.chunk_core.specs.Inlets.{inlet_failures, inlet_reads}
 use Rattle.sound_core.specs.Readers.{IsReading, IsSame, Passes}

@@ -1,4 +1,4 @@
--- What was read so far is ahead.
+-- What was read so far is buffered.
 use Rattle.std.proofs.Common.{◌≡◌, ℕ, ◌-◌, List, ◌++◌}
 use Rattle.chunk_core.specs.Inlets.{inlet_failures, inlet_reads}
 use Rattle.sound_core.specs.Readers.{IsReading, IsSame}

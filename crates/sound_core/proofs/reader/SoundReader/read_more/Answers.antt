@@ -50,7 +50,7 @@ returns g c =
         pulls.read,
         pulls.reads,
         pulls.number,
-        c.in_ok-extend_from_slice.ensures.items ∙ ap₂ (λ xs ys. xs ++ ys) c.pull_after.ensures.kept (c.split_at.ensures.front ∙ ap (take c.in_ok-count.count) c.deref.ensures.value ∙ ap (λ n. take n c.pull_after.new.self.block.now.items) own ∙ pulls.front),
+        c.in_ok-extend_from_slice.ensures.items ∙ ap₂ (λ xs ys. xs ++ ys) c.pull_after.ensures.kept (c.split_at.ensures.front ∙ ap (take c.in_ok-count.count) c.deref.ensures.value ∙ ap (λ n. take n c.pull_after.new.self.block.now.items) own ∙ pulls.prefix),
       );
       end = pulls.end;
       turn = c.in_ok-count.ensures.turn;

@@ -22,6 +22,6 @@ returns-clause-refused g c =
     each_err _ _ c.put.result c.put.ensures.err c.put.ensures.fault c.put.ensures.failures (λ f out fault failures. record {
       same = refl;
       fault = writing_is_own c.args.self.now.sound c.args.sound f fault;
-      front = λ own rest long. until_more _ _ target.head.now (reinterleaved_sound c.args.sound target.interleaving ([] ++ rest) ++ target.tail.now) f (until_part _ _ target.head.now f out);
+      prefix = λ own rest long. until_more _ _ target.head.now (reinterleaved_sound c.args.sound target.interleaving ([] ++ rest) ++ target.tail.now) f (until_part _ _ target.head.now f out);
       failures = failures;
     })

@@ -1,6 +1,6 @@
 use Rattle.std.proofs.Common.{arith, refl}
 use Rattle.std.proofs.lemmas.Result.{err_from_is_err_and}
-use Rattle.wave_core.proofs.FaultLaws.{memory_told}
+use Rattle.wave_core.proofs.FaultLaws.{memory_stated}
 use Rattle.wave_core.proofs.spec.WaveSpec.push_header.Goals as goal
 
 pub returns-in_default : goal.returns-in_default
@@ -8,33 +8,33 @@ returns-in_default c = record { ok = tt; fits = tt; too_large = (λ e. c.in_defa
 
 pub returns-in_err-header : goal.returns-in_err-header
 returns-in_err-header c =
-    let told = c.from_residual.ensures.1 in
-    let e = err_from_is_err_and c.from_residual.result told in
+    let stated = c.from_residual.ensures.1 in
+    let e = err_from_is_err_and c.from_residual.result stated in
     record {
       ok = rw e.1 tt;
       fits = rw e.1 tt;
-      too_large = memory_told c.from_residual.result _ told (λ large. omega (arith, c.in-Some.ensures.riff_size, large));
+      too_large = memory_stated c.from_residual.result _ stated (λ large. omega (arith, c.in-Some.ensures.riff_size, large));
       unchanged = rw e.1 (λ i. c.args.out.now.items);
     }
 
 pub returns-in_err-push_fields : goal.returns-in_err-push_fields
 returns-in_err-push_fields c =
-    let told = c.from_residual-in_err-push_fields.ensures.1 in
-    let e = err_from_is_err_and c.from_residual-in_err-push_fields.result told in
+    let stated = c.from_residual-in_err-push_fields.ensures.1 in
+    let e = err_from_is_err_and c.from_residual-in_err-push_fields.result stated in
     record {
       ok = rw e.1 tt;
       fits = rw e.1 tt;
-      too_large = memory_told c.from_residual-in_err-push_fields.result _ told (λ large. omega (arith, c.in-Some.ensures.riff_size, large));
+      too_large = memory_stated c.from_residual-in_err-push_fields.result _ stated (λ large. omega (arith, c.in-Some.ensures.riff_size, large));
       unchanged = rw e.1 (λ i. c.args.out.now.items);
     }
 
 pub returns-in_err-extend_from_slice : goal.returns-in_err-extend_from_slice
 returns-in_err-extend_from_slice c =
-    let told = c.from_residual-in_err-extend_from_slice.ensures.1 in
-    let e = err_from_is_err_and c.from_residual-in_err-extend_from_slice.result told in
+    let stated = c.from_residual-in_err-extend_from_slice.ensures.1 in
+    let e = err_from_is_err_and c.from_residual-in_err-extend_from_slice.result stated in
     record {
       ok = rw e.1 tt;
       fits = rw e.1 tt;
-      too_large = memory_told c.from_residual-in_err-extend_from_slice.result _ told (λ large. omega (arith, c.in-Some.ensures.riff_size, large));
+      too_large = memory_stated c.from_residual-in_err-extend_from_slice.result _ stated (λ large. omega (arith, c.in-Some.ensures.riff_size, large));
       unchanged = rw e.1 c.in_err-extend_from_slice.ensures.items;
     }

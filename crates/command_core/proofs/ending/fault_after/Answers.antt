@@ -1,0 +1,8 @@
+use Rattle.std.proofs.Common.{◌∙◌, inr, refl}
+use Rattle.command_core.proofs.ending.fault_after.Goals as goal
+
+pub returns-then-reads_through-2 : goal.returns-then-reads_through-2
+returns-then-reads_through-2 g c = record {
+  same = c.reads_through-then-reads_through.ensures.same ∙ c.reads_through.ensures.same;
+  fault = inr refl;
+}

@@ -1,0 +1,106 @@
+//! Why `sum` has no sums of a file, or can't read a list.
+
+ghost use Rattle.std.specs.Prelude.{◌≤◌, IfSome, string_len};
+
+use crate::explaining::Ended;
+use crate::files::text_of;
+use crate::line::{Line, Part};
+use crate::seen::{explain_file, is_recording};
+use crate::unread::{explain_at, say_folder, trouble_of};
+use std::rt::{Env, Files};
+use transfer_core::Fault;
+
+/// A file of `sum`, and where its name stands.
+#[derive(Clone, Copy)]
+pub enum Summed<'a> {
+    /// It is a word, and is to be summed.
+    File(&'a str),
+    /// It is a word, and is a list.
+    List(&'a str),
+    /// It stands in the line of this number of a list, which is named second.
+    Listed(&'a str, usize, &'a str),
+}
+
+/// The line that explains what `sum` came to at a file, as [`explain`](crate::explain) does for other commands.
+pub fn explain_sum<R: Files + Env + AllocGlobal>(
+    rt: &R,
+    file: Summed,
+    ended: Ended,
+) -> Option<String>
+    ensures { IfSome result (λ line. 1 ≤ string_len line) }
+{
+    let mut line = Line::new(rt.alloc());
+    let name = say_file(&mut line, file);
+    match ended {
+        Ended::Fault(Fault::FileUnread(why)) => explain_file(&mut line, rt, name, why),
+        Ended::Fault(Fault::Memory) => line.say(MEMORY, &[]),
+        Ended::ReadFailed => {
+            explain_read(&mut line, rt, name);
+            if let Summed::Listed(_, _, _) = file {
+                say_folder(&mut line, rt, "names", name);
+            }
+        }
+        Ended::ListRefused(number) => explain_list(&mut line, rt, name, number),
+        _ => {}
+    }
+    line.end()
+}
+
+// Adds a file and where its name stands. Returns the name.
+fn say_file<'a>(line: &mut Line, file: Summed<'a>) -> &'a str {
+    let (name, word) = match file {
+        Summed::File(name) => (name, "FILE"),
+        Summed::List(name) => (name, "LIST"),
+        Summed::Listed(name, number, list) => {
+            let (named, number) = (Part::Text(name), Part::Number(number as u64));
+            line.say("{0} (line {1} of ", &[named, number]);
+            line.say("{0}): ", &[Part::Text(list)]);
+            return name;
+        }
+    };
+    line.say("{0}: ", &[Part::Named(name, word)]);
+    name
+}
+
+fn explain_read<R: Files>(line: &mut Line, rt: &R, name: &str) {
+    match trouble_of(rt, name) {
+        Some(trouble) => explain_at(line, rt, name, trouble),
+        None => line.say(
+            "a read failed part way, or it was changed while it was read",
+            &[],
+        ),
+    }
+}
+
+// Adds why a list is refused: a line of it, or for the number 0 all of it.
+fn explain_list<R: Files>(line: &mut Line, rt: &R, name: &str, number: usize) {
+    match text_of(rt, line.alloc(), name) {
+        _ if is_recording(rt, name) => line.say(
+            "it is a recording; without --check it is summed",
+            &[],
+        ),
+        Some(text) => explain_lines(line, &text, number),
+        None => line.say(WANTED, &[]),
+    }
+}
+
+fn explain_lines(line: &mut Line, text: &[u8], number: usize) {
+    match (std::str::from_utf8(text), number.checked_sub(1)) {
+        (Err(_), _) => line.say("it is not UTF-8", &[]),
+        (Ok(_), None) => line.say("it has no line", &[]),
+        (Ok(text), Some(before)) => {
+            for found in text.lines().skip(before).take(1) {
+                line.say("line {0} is ", &[Part::Number(number as u64)]);
+                match found.len() {
+                    0..=80 => line.say("\"{0}\"; ", &[Part::Text(found)]),
+                    bytes => line.say("{0} bytes long; ", &[Part::Count(bytes as u64)]),
+                }
+            }
+            line.say(WANTED, &[]);
+        }
+    }
+}
+
+const MEMORY: &str = "what surrounds the sound is held whole, and a list: free some memory";
+
+const WANTED: &str = "a line has to be one that dsdarc sum prints of a file";

@@ -1,0 +1,203 @@
+//! A file of the operating system that is being written.
+
+ghost use Rattle.std.specs.Io.{WritesAtMost};
+
+use crate::direct::Direct;
+use crate::places::TargetPath;
+use std::fs::OpenFile;
+use std::io::{Error, ErrorKind, Write};
+use std::rt::Files;
+use std::{fs, io};
+
+/// A file of a [`Disk`](crate::Disk) that is being written. It ends only with [`keep`](crate::Folder::keep) or
+/// [`give_up`](crate::Folder::give_up).
+pub struct DiskFile<F, O> {
+    destination: Destination<F, O>,
+    // Why the first write that failed did.
+    failure: Option<Error>,
+}
+
+// Where the bytes go.
+#[derive(Drop)]
+enum Destination<F, O> {
+    // To a new file in the folder of the one that it will replace.
+    Beside(F, Beside),
+    // To the file itself.
+    InPlace(InPlace<F>),
+    // To standard output.
+    Output(Direct<O>),
+}
+
+// The path of the new file, and the target that it will replace.
+#[derive(Drop)]
+struct Beside {
+    leftover: String,
+    target: TargetPath,
+}
+
+// A file that is written directly. What it held is removed at the first write, or when it is kept.
+#[derive(Drop)]
+struct InPlace<F> {
+    file: Direct<F>,
+    holds_old: bool,
+}
+
+impl<F, O> DiskFile<F, O> {
+    // A file that is written directly. `holds_old` says that it still holds what it held before.
+    pub(crate) fn in_place(file: F, holds_old: bool) -> Self {
+        let file = Direct::new(file);
+        Self::to(Destination::InPlace(InPlace { file, holds_old }))
+    }
+
+    // A file that is written under another name, and then gets its own.
+    pub(crate) fn beside(file: F, leftover: String, target: TargetPath) -> Self {
+        Self::to(Destination::Beside(file, Beside { leftover, target }))
+    }
+
+    // Standard output.
+    pub(crate) fn output(output: O) -> Self {
+        Self::to(Destination::Output(Direct::new(output)))
+    }
+
+    fn to(destination: Destination<F, O>) -> Self {
+        DiskFile {
+            destination,
+            failure: None,
+        }
+    }
+}
+
+impl<F: Write + OpenFile + Drop, O: Write + Drop> DiskFile<F, O> {
+    // Gives the file its name once its bytes are on the device, or else removes what was written.
+    pub(crate) fn put_in_place<R: Files>(self, rt: &R) -> io::Result<()> {
+        let DiskFile {
+            destination,
+            failure,
+        } = self;
+        match destination {
+            Destination::Beside(file, beside) => beside.end(rt, &file, failure),
+            Destination::InPlace(mut stands) => stands.end(),
+            Destination::Output(mut output) => output.flush(),
+        }
+    }
+
+    // Gives the file its name if no other has it, or else removes what was written. Returns why a write failed.
+    pub(crate) fn give_up<R: Files>(self, rt: &R) -> Option<Error> {
+        let DiskFile {
+            destination,
+            failure,
+        } = self;
+        let _ = match destination {
+            Destination::Beside(file, beside) => {
+                let is_there = beside.target.is_there();
+                let old_stays = if is_there { Some(untaken()) } else { None };
+                beside.end(rt, &file, failure.or(old_stays))
+            }
+            Destination::InPlace(mut stands) => stands.file.flush(),
+            Destination::Output(mut output) => output.flush(),
+        };
+        failure
+    }
+}
+
+impl<F, O> DiskFile<F, O> {
+    // Remembers a write that took nothing of some bytes.
+    fn remember_count(&mut self, count: usize, buf: &[u8]) {
+        if count == 0 && !buf.is_empty() {
+            self.failure = self.failure.or(Some(untaken()));
+        }
+    }
+}
+
+// The error of a write that took nothing.
+fn untaken() -> Error {
+    Error::from(ErrorKind::WriteZero)
+}
+
+impl Beside {
+    // Puts what was written in the place of its target, or removes it if a write failed or it can't be put there.
+    fn end<R: Files>(
+        &self,
+        rt: &R,
+        file: &impl OpenFile,
+        failure: Option<Error>,
+    ) -> io::Result<()> {
+        let put = match failure {
+            Some(error) => Err(error),
+            None => self.replace(rt, file),
+        };
+        if put.is_err() {
+            let _ = fs::remove_file(rt, self.leftover.as_str());
+        }
+        put
+    }
+
+    // If the folder can be opened, the new name is on the device, too.
+    fn replace<R: Files>(&self, rt: &R, file: &impl OpenFile) -> io::Result<()> {
+        file.sync_data()?;
+        fs::rename(rt, self.leftover.as_str(), self.target.path())?;
+        if let Ok(folder) = fs::open(rt, self.target.folder()) {
+            let _ = folder.sync_all();
+        }
+        Ok(())
+    }
+}
+
+impl<F: Write + OpenFile> InPlace<F> {
+    // Removes what the file held before.
+    fn empty(&mut self) -> io::Result<()> {
+        if self.holds_old {
+            self.file.get_ref().set_len(0)?;
+            self.holds_old = false;
+        }
+        Ok(())
+    }
+
+    // Writes what was held back. A file to which nothing was written becomes empty.
+    fn end(&mut self) -> io::Result<()> {
+        self.empty()?;
+        self.file.flush()
+    }
+}
+
+impl<F: Write + OpenFile, O: Write> Destination<F, O> {
+    fn write(&mut self, buf: &[u8]) -> io::Result<usize>
+        ensures bound { WritesAtMost result buf.now }
+    {
+        match self {
+            Destination::Beside(file, _) => file.write(buf),
+            Destination::InPlace(stands) => {
+                stands.empty()?;
+                stands.file.write(buf)
+            }
+            Destination::Output(output) => output.write(buf),
+        }
+    }
+
+    fn flush(&mut self) -> io::Result<()> {
+        match self {
+            Destination::Beside(file, _) => file.flush(),
+            Destination::InPlace(stands) => stands.file.flush(),
+            Destination::Output(output) => output.flush(),
+        }
+    }
+}
+
+impl<F: Write + OpenFile, O: Write> Write for DiskFile<F, O> {
+    fn write(&mut self, buf: &[u8]) -> io::Result<usize> {
+        match self.destination.write(buf) {
+            Ok(count) => {
+                self.remember_count(count, buf);
+                Ok(count)
+            }
+            Err(error) => {
+                self.failure = self.failure.or(Some(error));
+                Err(error)
+            }
+        }
+    }
+
+    fn flush(&mut self) -> io::Result<()> {
+        self.destination.flush()
+    }
+}

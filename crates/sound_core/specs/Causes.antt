@@ -1,0 +1,71 @@
+-- What is known of the first fault of a file that holds no recording.
+use Rattle.std.specs.Prelude.{◌≡◌, ◌≢◌, ◌≤◌, ◌⊎◌, ℕ, ◌+◌, List, ◌++◌, length, take, Option, Result, Ok, Err, ⊤}
+use Rattle.chunk_core.specs.Inlets.{inlet_given}
+use Rattle.chunk_core.specs.declared.inlet.Inlet.{Inlet}
+use Rattle.dsdiff_core.specs.Cuts.{GoesPastForm}
+use Rattle.dsdiff_core.specs.Headers.{form_of}
+use Rattle.dsdiff_core.specs.Located.{EndsAtHead}
+use Rattle.form_core.specs.Opening.{opened_of}
+use Rattle.form_core.specs.declared.fault.ReadFault.{ReadFault}
+use Rattle.sound_core.specs.declared.cause.Cause.{Cause}
+use Rattle.sound_core.specs.declared.cause.Cause.TheVariants as causes
+use Rattle.sound_core.specs.declared.fault.StreamFault.{StreamFault}
+use Rattle.sound_core.specs.declared.fault.StreamFault.TheVariants.{FileRefused}
+use Rattle.sound_core.specs.declared.fault.Unread.{Unread}
+use Rattle.sound_core.specs.declared.fault.Unread.TheVariants as answers
+use Rattle.sound_core.specs.declared.reader.SoundReader.{SoundReader}
+use Rattle.sound_core.specs.Faults.{IsReadingFault}
+use Rattle.sound_core.specs.Files.{IsRefused}
+use Rattle.sound_core.specs.Naming.{NamesFault}
+use Rattle.sound_core.specs.Readers.{IsReading}
+use Rattle.sound_core.specs.Reads.{Reads}
+
+-- this is so of each file that begins with these bytes
+abbrev pub IsCauseIn : List ℕ → Cause → Type 0
+IsCauseIn prefix causes.Unknown = ⊥
+IsCauseIn prefix (causes.Fault e) = (rest : List ℕ) → opened_of (prefix ++ rest) ≡ Err e
+IsCauseIn prefix (causes.Unstated at) = (at + 12 ≤ length prefix) × EndsAtHead (take (at + 12) prefix)
+IsCauseIn prefix (causes.PastForm at) = (at + 12 ≤ length prefix) × GoesPastForm (take (at + 12) prefix)
+IsCauseIn prefix causes.NoSound = form_of prefix ≡ Ok tt
+
+-- the fault isn't known yet, but the prefix of the file is buffered, with which no file holds a recording
+abbrev pub HasFront : Cause → Type 0
+HasFront causes.Unknown = ⊥
+HasFront (causes.Fault e) = ⊥
+HasFront (causes.Unstated at) = ⊤
+HasFront (causes.PastForm at) = ⊤
+HasFront causes.NoSound = ⊤
+
+-- all that was read is buffered, and this is so of each file that begins with it: none holds a recording
+pub record IsUnsure {R : Type 0} (left : R → Option (List ℕ)) (first : Inlet R) (r : SoundReader R) (cause : Cause) : Type 0 where
+  pub reading : IsReading r
+  pub reads : Reads left first r.inlet.now r.ahead.now.items
+  pub given : inlet_given r.inlet.now ≡ r.given + length r.ahead.now.items
+  pub states : IsCauseIn r.ahead.now.items cause
+  pub refused : (rest : List ℕ) → IsRefused (r.ahead.now.items ++ rest)
+
+-- what a cause says; the first one, that this has happened
+abbrev pub IsCause : {R : Type 0} → Type 0 → (R → Option (List ℕ)) → Inlet R → SoundReader R → Cause → Type 0
+IsCause P left first r causes.Unknown = P
+IsCause P left first r (causes.Fault e) = NamesFault left first r.inlet.now e
+IsCause P left first r (causes.Unstated at) = IsUnsure left first r (causes.Unstated at)
+IsCause P left first r (causes.PastForm at) = IsUnsure left first r (causes.PastForm at)
+IsCause P left first r causes.NoSound = IsUnsure left first r causes.NoSound
+
+-- where a file is refused, its cause is so
+abbrev pub IsNamed : {R : Type 0} → Type 0 → (R → Option (List ℕ)) → Inlet R → SoundReader R → StreamFault → Type 0
+IsNamed P left first r f = f ≡ FileRefused → IsCause P left first r r.cause
+
+-- a fault that was told, or that of reading on for it
+abbrev pub unread_of : Result ReadFault StreamFault → Unread
+unread_of (Ok e) = answers.Refused e
+unread_of (Err f) = answers.Stream f
+
+-- what a refusal comes to, by its cause: the first fault, a fault of reading on for it, or nothing is known
+abbrev pub IsRefusedBy : Cause → Unread → Type 0
+IsRefusedBy cause (answers.Refused e) = ⊤
+IsRefusedBy cause (answers.Stream f) = (IsReadingFault f × HasFront cause) ⊎ ((f ≡ FileRefused) × (cause ≡ causes.Unknown))
+
+-- what a fault of reading comes to: itself, and nothing was read; or what its refusal comes to
+abbrev pub IsUnreadBy : {R : Type 0} → StreamFault → SoundReader R → SoundReader R → Unread → Type 0
+IsUnreadBy f old new u = ((f ≢ FileRefused) × (u ≡ answers.Stream f) × (new ≡ old)) ⊎ ((f ≡ FileRefused) × IsRefusedBy old.cause u)

@@ -1,0 +1,9 @@
+use Rattle.std.proofs.Common.{◌/◌, arith}
+use Rattle.player_core.specs.Groups.{part_size}
+use Rattle.transfer_commands.proofs.GapLaws.{before_all}
+use Rattle.transfer_commands.proofs.gaps.bytes_before.Goals as goal
+
+pub returns : goal.returns
+returns c = λ channel p later.
+    before_all c.neighbours-size.result (part_size c.args.sound.now.interleaving) c.args.sound.now.channels (c.args.bit / 8) c.saturating_mul-group.result c.saturating_mul.result c.neighbours-size.ensures.known.0 c.neighbours-size.ensures.size
+    (omega (arith, c.saturating_mul-group.ensures)) (omega (arith, c.saturating_mul.ensures)) channel p later

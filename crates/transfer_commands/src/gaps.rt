@@ -1,0 +1,75 @@
+//! Which bytes of a file's sound are not looked at.
+
+ghost use Rattle.std.specs.Prelude.{◌≡◌, ℕ, ◌-◌, ◌/◌, ◌<◌, ◌≤◌, ◌^◌, ◌⊎◌};
+ghost use Rattle.player_core.specs.Groups.{part_size, place_in};
+
+use dsd_bits::Sound;
+use folder_core::{Gap, Gaps};
+
+// A frame reads only bits from so many before its first on, up to as many behind its last: filters have at most 4096 taps.
+const REACH: u64 = 4096;
+
+// The bytes of a block of one channel.
+const BLOCK: u64 = 4096;
+
+/// All of a sound.
+pub(crate) fn sound_gap(sound: &Sound) -> Gaps {
+    let start = sound.start as u64;
+    let stop = start.saturating_add(sound.size as u64);
+    Gaps {
+        first: Gap { start, stop },
+        second: Gap { start: stop, stop },
+    }
+}
+
+/// What no frame from `start` to `stop - 1` reads of a sound, of which `factor` bits of each channel make a frame.
+pub(crate) fn gaps_around(sound: &Sound, factor: u32, start: usize, stop: usize) -> Gaps {
+    let factor = factor as u64;
+    let from = (start as u64).saturating_mul(factor).saturating_sub(REACH);
+    let to = (stop as u64).saturating_mul(factor).saturating_add(REACH);
+    let before = bytes_before(sound, from);
+    let up_to = bytes_up_to(sound, to);
+    let begin = sound.start as u64;
+    let end = begin.saturating_add(sound.size as u64);
+    Gaps {
+        first: Gap {
+            start: begin,
+            stop: begin.saturating_add(before).min(end),
+        },
+        second: Gap {
+            start: begin.saturating_add(up_to).min(end),
+            stop: end,
+        },
+    }
+}
+
+// How many of the first bytes of a sound hold no bit of any channel from this one on.
+fn bytes_before(sound: &Sound, bit: u64) -> u64
+    ensures { (c : ℕ) (p : ℕ) → bit / 8 ≤ p → result ≤ place_in sound.now.interleaving sound.now.channels c p }
+{
+    let size = neighbours(sound);
+    let group = size.saturating_mul(sound.channels as u64);
+    (bit / 8 / size).saturating_mul(group)
+}
+
+// How many of the first bytes of a sound hold all bits of each channel up to this one.
+fn bytes_up_to(sound: &Sound, bit: u64) -> u64
+    ensures { sound.now.channels ≤ 6 → (c : ℕ) (p : ℕ) → c < sound.now.channels → p ≤ bit / 8
+        → (place_in sound.now.interleaving sound.now.channels c p < result) ⊎ (2 ^ 64 - 1 ≤ result) }
+{
+    let size = neighbours(sound);
+    let group = size.saturating_mul(sound.channels as u64);
+    (bit / 8 / size + 1).saturating_mul(group)
+}
+
+// How many neighbouring bytes of a channel there are: one, or a block.
+fn neighbours(sound: &Sound) -> u64
+    ensures size { result ≡ part_size sound.now.interleaving }
+    ensures known { (1 ≤ result) × (result ≤ 4096) }
+{
+    if sound.interleaving.has_blocks() {
+        BLOCK
+    } else {
+        1
+    }
+}

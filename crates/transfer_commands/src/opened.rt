@@ -1,0 +1,125 @@
+//! A file of a folder whose prefix was read.
+
+ghost use Rattle.std.specs.Prelude.{◌≡◌, ℕ, List, IfErr, IfOk, IfSome};
+ghost use Rattle.std.specs.Io.KnownBytes.{prepend_known};
+ghost use Rattle.folder_core.specs.Files.{IsGiven};
+ghost use Rattle.sound_core.specs.Files.{LeadsToSound};
+ghost use Rattle.transfer_commands.specs.Outlining.{IsUnread, OutlinesRead};
+ghost use Rattle.transfer_commands.specs.Opening.{IsBeforeOutput, OutlinesLeft, left_of};
+
+use crate::fault::CommandFault;
+use crate::gaps::sound_gap;
+use chunk_core::Inlet;
+use dsd_bits::Sound;
+use folder_core::{Folder, GappedFile};
+use sound_core::{Front, Outline, StreamFault, Unread, read_outline, read_prefix};
+use std::alloc::Global;
+use std::io::{Cursor, Read};
+use transfer_core::Fault;
+
+/// A file that was opened, and of which the first bytes were read, those that describe its sound.
+#[derive(Drop)]
+pub(crate) struct OpenedFile<R> {
+    /// The sound.
+    pub(crate) sound: Sound,
+    /// The first bytes.
+    pub(crate) prefix: Vec<u8>,
+    /// The file, which has the others left.
+    pub(crate) file: R,
+}
+
+/// Opens a file, and reads it until its first bytes describe its sound.
+///
+/// Refusals: `ReadFailed` if it can't be opened, a read fails, or `2^40` reads don't reach the sound; the first fault
+/// of a file that holds no recording, or `FileRefused` where these bytes don't tell it; `Memory`.
+pub(crate) fn open_prefix<F: Folder>(
+    alloc: Global,
+    folder: &mut F,
+    name: &str,
+) -> Result<OpenedFile<F::In>, CommandFault>
+    ensures same { F.view folder.new ≡ F.view folder.old }
+    ensures states { IfOk result (λ o. LeadsToSound o.prefix.items o.sound) }
+    ensures given { IfOk result (λ o. IsGiven (F.view folder.old) name.now (left_of F.In.remaining o)) }
+    ensures fault { IfErr result IsBeforeOutput }
+{
+    let Ok(file) = folder.open(name) else {
+        return Err(CommandFault::ReadFailed);
+    };
+    let mut inlet = Inlet::new(file);
+    match read_prefix(alloc, &mut inlet) {
+        Ok(prefix) => Ok(opened_of(prefix, inlet.into_inner())),
+        Err(Unread::Refused(fault)) => Err(CommandFault::Call(Fault::from(fault))),
+        Err(Unread::Stream(StreamFault::ReadFailed)) => Err(CommandFault::ReadFailed),
+        Err(Unread::Stream(StreamFault::TurnLimit)) => Err(CommandFault::ReadFailed),
+        Err(Unread::Stream(fault)) => Err(CommandFault::Call(Fault::from(fault))),
+    }
+}
+
+// A file whose prefix was read.
+fn opened_of<R>(prefix: Front, file: R) -> OpenedFile<R>
+    ensures sound { result.sound ≡ prefix.sound }
+    ensures prefix { result.prefix.items ≡ prefix.bytes.items }
+    ensures file { result.file ≡ file }
+{
+    let Front { sound, bytes } = prefix;
+    OpenedFile {
+        sound,
+        prefix: bytes,
+        file,
+    }
+}
+
+/// What a file holds besides its sound, whose bytes the folder passes over if it can; None for a file that holds no
+/// recording, for whatever fault.
+///
+/// Refusals: `ReadFailed` if it can't be opened, a read fails, or it isn't at its end after `2^40` reads; `Memory`.
+pub(crate) fn outline_past_sound<F: Folder>(
+    alloc: Global,
+    folder: &mut F,
+    name: &str,
+) -> Result<Option<Outline>, CommandFault>
+    ensures same { F.view folder.new ≡ F.view folder.old }
+    ensures found { IfOk result (λ found. IfSome found (OutlinesRead name.now (F.view folder.old))) }
+    ensures fault { IfErr result IsUnread }
+{
+    match open_prefix(alloc, folder, name) {
+        Ok(opened) => outline_opened(alloc, folder, opened),
+        Err(CommandFault::Call(Fault::Memory)) => Err(CommandFault::Call(Fault::Memory)),
+        Err(CommandFault::ReadFailed) => Err(CommandFault::ReadFailed),
+        Err(_) => Ok(None),
+    }
+}
+
+// The same of a file whose prefix was read.
+fn outline_opened<F: Folder>(
+    alloc: Global,
+    folder: &F,
+    opened: OpenedFile<F::In>,
+) -> Result<Option<Outline>, CommandFault>
+    ensures found { IfOk result (λ found. IfSome found (OutlinesLeft (left_of F.In.remaining opened))) }
+    ensures fault { IfErr result IsUnread }
+{
+    let OpenedFile {
+        sound,
+        prefix,
+        file,
+    } = opened;
+    let place = prefix.len() as u64;
+    let rest = GappedFile::new(folder, file, place, sound_gap(&sound));
+    outline_reader(alloc, Cursor::new(prefix).chain(rest))
+}
+
+// The same of a reader's file.
+fn outline_reader<R: Read + Drop>(alloc: Global, reader: R) -> Result<Option<Outline>, CommandFault>
+    ensures found { IfOk result (λ found. IfSome found (OutlinesLeft (R.remaining reader))) }
+    ensures fault { IfErr result IsUnread }
+{
+    let mut inlet = Inlet::new(reader);
+    match read_outline(alloc, &mut inlet) {
+        Ok(outline) => Ok(Some(outline)),
+        Err(Unread::Refused(_)) => Ok(None),
+        Err(Unread::Stream(StreamFault::FileRefused)) => Ok(None),
+        Err(Unread::Stream(StreamFault::Memory)) => Err(CommandFault::Call(Fault::Memory)),
+        Err(Unread::Stream(_)) => Err(CommandFault::ReadFailed),
+    }
+}

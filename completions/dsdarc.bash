@@ -54,7 +54,7 @@ _dsdarc_words() {
 
 _dsdarc() {
     local cur=${COMP_WORDS[COMP_CWORD]} first=1
-    # The word that asks to explain stands before the command.
+    # The word that asks to explain comes before the command.
     if [ "${COMP_WORDS[1]-}" = --explain ] && [ "$COMP_CWORD" -gt 1 ]; then first=2; fi
     local command=${COMP_WORDS[first]-} place=$((COMP_CWORD - first + 1))
     COMPREPLY=()
@@ -64,7 +64,7 @@ _dsdarc() {
         if [ "$first" -eq 1 ]; then _dsdarc_words --explain --help --version; fi
         return
     fi
-    # The options of play stand before its names, and each takes a word of its own.
+    # The options of play come before its names, and each takes a word of its own.
     local next=$((first + 1))
     if [ "$command" = play ]; then
         while [ "$next" -lt "$COMP_CWORD" ]; do

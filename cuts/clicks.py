@@ -8,6 +8,7 @@ from collections.abc import Callable
 import numpy as np
 
 from bands import Band
+from crossfades import Sounds, above
 from hearing import Hearing
 from owing import sounds
 from projects import Project, Spot
@@ -80,8 +81,16 @@ def bridged(project: Project, reference: Reference, spot: Spot, first: int, stop
 
 def seamed(project: Project, reference: Reference, spot: Spot, first: int, stop: int) -> np.ndarray:
     """What a seam should be, from one place of the master to another."""
-    before, after = around(project, reference, spot, first, stop)
-    return project.record(spot.before + 1).crossfade.mixed(before, after, first - spot.place)
+    crossfade = project.record(spot.before + 1).crossfade
+    both, high = around(project, reference, spot, first, stop), None
+    if crossfade.slow:
+        high = around(project, above_split(project.rate, reference), spot, first, stop)
+    return crossfade.mixed(Sounds(*both, high), first - spot.place)
+
+
+def above_split(rate: int, reference: Reference) -> Reference:
+    """What of the takes' sounds goes over more slowly in some butts."""
+    return lambda take, first, stop: above(rate, lambda low, high: reference(take, low, high), first, stop)
 
 
 def linked(project: Project, roles: list[str], number: int) -> tuple[int, int]:

@@ -2,11 +2,16 @@
 
 Bits can't change whether their sum is odd or even. The sound of a crossfade can: if its middle moves, the sum of the
 sound changes by the difference of both takes for each bit that it moves."""
+from collections.abc import Callable
 from dataclasses import dataclass
 
 import numpy as np
 from scipy import signal
 
+from bands import BANDS
+from hearing import lowpass
+
+SPLIT = BANDS[0]  # Hz: what this low-pass passes may change faster than what is above
 STEPS = 3  # by which a middle between two bits is found
 SETTLED = 1e-3  # of a sum: what is left of it isn't heard
 
@@ -14,21 +19,18 @@ SETTLED = 1e-3  # of a sum: what is left of it isn't heard
 @dataclass(frozen=True)
 class Crossfade:
     """The sound goes over within `ramp` bits, whose middle lies at a place for each channel: just there if the ramp is
-    0. With `power` the sum of both takes' powers stays, else that of their levels."""
+    0. What of it is above `SPLIT` goes over within `slow` bits about the same middle, unless that is 0. With `power`
+    the sum of both takes' powers stays, else that of their levels."""
 
     ramp: float
     power: bool
     middles: list[float]
+    slow: float = 0.0
 
-    def parts(self, first: int, stop: int) -> tuple[np.ndarray, np.ndarray]:
-        """The parts of both takes from one place to another, a row for each channel."""
-        away = np.arange(first, stop) + 0.5 - np.array(self.middles, float)[:, None]
-        return shares(away, self.ramp, self.power)
-
-    def mixed(self, before: np.ndarray, after: np.ndarray, first: int = 0) -> np.ndarray:
-        """The sound from a place on, of those of both takes there."""
-        low, high = self.parts(first, first + before.shape[1])
-        return low * before + high * after
+    def mixed(self, sounds: "Sounds", first: int = 0) -> np.ndarray:
+        """The sound from a place on, of those of both takes there: a row for each channel."""
+        away = np.arange(first, first + sounds.before.shape[-1]) + 0.5 - np.array(self.middles, float)[:, None]
+        return np.sum([mix(away, ramp, self.power, *both) for ramp, *both in sounds.layers(self)], axis=0)
 
 
 def shares(away: np.ndarray, ramp: float, power: bool) -> tuple[np.ndarray, np.ndarray]:
@@ -39,6 +41,19 @@ def shares(away: np.ndarray, ramp: float, power: bool) -> tuple[np.ndarray, np.n
     return 1 - rising, rising
 
 
+def mix(away: np.ndarray, ramp: float, power: bool, before: np.ndarray, after: np.ndarray) -> np.ndarray:
+    low, high = shares(away, ramp, power)
+    return low * before + high * after
+
+
+def above(rate: int, sound: Callable[[int, int], np.ndarray], first: int, stop: int) -> np.ndarray:
+    """What of a sound is above `SPLIT`, from one place to another, a row for each channel."""
+    taps = lowpass(rate, *SPLIT)
+    reach = len(taps) // 2
+    wide = sound(first - reach, stop + reach)
+    return wide[:, reach : wide.shape[1] - reach] - signal.oaconvolve(wide, taps[None], mode="valid", axes=1)
+
+
 def wrapped(numbers: np.ndarray) -> np.ndarray:
     """Numbers less the nearest even ones."""
     return numbers - 2 * np.rint(numbers / 2)
@@ -46,30 +61,50 @@ def wrapped(numbers: np.ndarray) -> np.ndarray:
 
 @dataclass(frozen=True)
 class Sounds:
-    """The sounds of both takes in one channel, from the first bit that may be part of a crossfade to the last."""
+    """The sounds of both takes in one channel or in all of them, from the first bit that may be part of a crossfade to
+    the last; and what of them is above `SPLIT`, if that goes over by itself."""
 
     before: np.ndarray
     after: np.ndarray
+    above: tuple[np.ndarray, np.ndarray] | None = None
 
-    def sums(self, ramp: float, power: bool, middle: float, most: int) -> np.ndarray:
-        """The sum of the crossfade for each middle, up to `most` bits before and after one."""
-        length = len(self.before)
-        low, high = shares(np.arange(-most, length + most) + 0.5 - middle, ramp, power)
+    def channel(self, number: int) -> "Sounds":
+        """Those of one channel."""
+        return self.of_each(lambda rows: rows[number])
+
+    def part(self, first: int, stop: int) -> "Sounds":
+        """Those from one place to another."""
+        return self.of_each(lambda rows: rows[..., first:stop])
+
+    def of_each(self, change: Callable[[np.ndarray], np.ndarray]) -> "Sounds":
+        return Sounds(change(self.before), change(self.after), self.above and tuple(map(change, self.above)))
+
+    def layers(self, crossfade: Crossfade) -> list[tuple[float, np.ndarray, np.ndarray]]:
+        """What goes over by itself: within how many bits, and from what to what."""
+        if not crossfade.slow:
+            return [(crossfade.ramp, self.before, self.after)]
+        low, high = self.above
+        return [(crossfade.ramp, self.before - low, self.after - high), (crossfade.slow, low, high)]
+
+    def sums(self, crossfade: Crossfade, middle: float, most: int) -> np.ndarray:
+        """The sum of the crossfade of one channel for each middle, up to `most` bits before and after one."""
+        found = np.zeros(2 * most + 1)
+        for ramp, before, after in self.layers(crossfade):
+            low, high = shares(np.arange(-most, len(before) + most) + 0.5 - middle, ramp, crossfade.power)
+            found += signal.correlate(low, before, "valid") + signal.correlate(high, after, "valid")
         # Moved by `t` bits, a place `k` has the share of the place `k - t`: the last of the sums is the first moved.
-        both = signal.correlate(low, self.before, "valid") + signal.correlate(high, self.after, "valid")
-        return both[::-1]
+        return found[::-1]
 
-    def sum(self, ramp: float, power: bool, middle: float) -> float:
-        """The sum of one crossfade."""
-        low, high = shares(np.arange(len(self.before)) + 0.5 - middle, ramp, power)
-        return float(low @ self.before + high @ self.after)
+    def sum(self, crossfade: Crossfade, middle: float) -> float:
+        """The sum of one crossfade of one channel."""
+        away = np.arange(len(self.before)) + 0.5 - middle
+        return float(sum(mix(away, ramp, crossfade.power, *both).sum() for ramp, *both in self.layers(crossfade)))
 
 
 def even_middle(sounds: Sounds, crossfade: Crossfade, middle: float, most: int, wanted: float) -> tuple[float, float]:
     """The nearest middle, at most `most` bits away, at which the sum of the crossfade is `wanted` or differs from it by
     an even number; and what is missing there. If there is none, the middle at which least is missing."""
-    ramp, power = crossfade.ramp, crossfade.power
-    missing = wrapped(wanted - sounds.sums(ramp, power, middle, most))
+    missing = wrapped(wanted - sounds.sums(crossfade, middle, most))
     if abs(missing[most]) < SETTLED:
         return middle, float(missing[most])
     rises = np.diff(missing)
@@ -81,5 +116,5 @@ def even_middle(sounds: Sounds, crossfade: Crossfade, middle: float, most: int, 
     best = int(np.abs(moved).argmin())
     slope, found = rises[crossings[best]], middle + float(moved[best])
     for _ in range(STEPS):
-        found -= float(np.clip(wrapped(wanted - sounds.sum(ramp, power, found)) / slope, -1, 1))
-    return found, float(wrapped(wanted - sounds.sum(ramp, power, found)))
+        found -= float(np.clip(wrapped(wanted - sounds.sum(crossfade, found)) / slope, -1, 1))
+    return found, float(wrapped(wanted - sounds.sum(crossfade, found)))

@@ -14,7 +14,7 @@ LONGEST = 0.04  # seconds
 @dataclass(frozen=True)
 class Asked:
     """What is asked for: the name of the take of seams; how long the new bits are, how far what follows may move, and
-    within what time a butt changes the sound, in seconds: as fast as it isn't heard if that is None."""
+    within what time a butt changes all of the sound, in seconds: at once what is heard of it if that is None."""
 
     take: str = ""
     time: float = 10e-3
@@ -68,6 +68,8 @@ def fade(project: Project, program: Path, number: int, asked: Asked) -> fading.F
         kind, crossfade = "butt" if asked.is_butt else "fade", made.crossfade
         first, length = project.seams_as(asked.take).take.bits, made.signs.shape[1]
         places = stop - made.stop, made.start - start
-        seam = Seam(first, length, kind, *places, crossfade.ramp, crossfade.power, crossfade.middles)
+        seam = Seam(
+            first, length, kind, *places, crossfade.ramp, crossfade.power, crossfade.middles, slow=crossfade.slow
+        )
         project.insert_seam(spot.before, seam, made.signs)
     return made

@@ -17,7 +17,7 @@ import numpy as np
 import ramps
 from continuing import continued, past_of
 from crossfades import SETTLED as EVEN
-from crossfades import Crossfade, Sounds, even_middle, wrapped
+from crossfades import Crossfade, Sounds, above, even_middle, wrapped
 from hearing import hearing_of
 from material import modulators
 from meeting import Field
@@ -34,7 +34,7 @@ DOWN = 240  # dB: what a low-pass leaves of the sound in the errors adds to thei
 # How much of a fade the ramp takes, and how far its middle may move from the wished place: what is tried in turn.
 RAMPS = ((0.8, 0.1), (0.4, 0.3))
 MOVES = (0.1, 0.4)  # how far its middle may move
-MOST = 0.2  # of a butt that its ramp may take
+MOST = 0.2  # of a butt that a ramp may take
 
 
 class NotStable(Exception):
@@ -44,8 +44,9 @@ class NotStable(Exception):
 @dataclass(frozen=True)
 class Wish:
     """A cut in the middle of a fade: the places in both takes, an odd number of bits, and how many bits the second may
-    be moved. With `power` the sum of both takes' powers stays, else that of their levels; a butt changes the sound at
-    the cut, within `ramp` seconds, or as fast as it isn't heard if that is None."""
+    be moved. With `power` the sum of both takes' powers stays, else that of their levels. A butt changes the sound at
+    the cut, within `ramp` seconds; if that is None, within the usual time, and if need be it is split: it takes longer
+    for what is above the audio band."""
 
     stop: int
     start: int
@@ -54,6 +55,7 @@ class Wish:
     power: bool = False
     is_butt: bool = False
     ramp: float | None = None
+    is_split: bool = False
 
     @property
     def early(self) -> int:
@@ -64,6 +66,11 @@ class Wish:
     def ends(self) -> tuple[int, int]:
         """Where the first take stops and the second starts, if it isn't moved."""
         return self.stop - self.early, self.start + self.length - self.early
+
+    @property
+    def slow(self) -> float:
+        """In how many bits what is above the audio band changes, if that is by itself; else 0."""
+        return MOST * self.length if self.is_split else 0.0
 
     def ramps(self, rate: int) -> list[tuple[float, int]]:
         """How long the ramps are that are tried, and how far the middle of each may move."""
@@ -93,6 +100,11 @@ def sound_of(take: Signals, first: int, stop: int) -> np.ndarray:
     return sounds(take, first, stop, down=DOWN)
 
 
+def above_of(take: Signals, first: int, stop: int) -> np.ndarray:
+    """What of that may go over more slowly in a butt."""
+    return above(take.rate, lambda low, high: sound_of(take, low, high), first, stop)
+
+
 class Surroundings:
     """Both takes around a fade: their errors outside of it, let in from afar, and their sounds inside."""
 
@@ -105,8 +117,9 @@ class Surroundings:
         low, high = self.start - wish.most, self.start + wish.most
         self.after_errors = after.signs(low, high + reach) - sound_of(after, low, high + reach)
         self.reach = reach
-        self.sound_before = sound_of(before, self.stop, self.stop + wish.length)
-        self.sound_after = sound_of(after, low - wish.length, high)
+        spans = (before, self.stop, self.stop + wish.length), (after, low - wish.length, high)
+        self.whole = [sound_of(*it) for it in spans]
+        self.above = [above_of(*it) for it in spans] if wish.slow else None
 
     def after(self, moved: int) -> np.ndarray:
         """The errors of the second take, moved so many bits: from its first bit on."""
@@ -114,10 +127,12 @@ class Surroundings:
         part = self.after_errors[:, first : first + self.reach]
         return let_in(part[:, ::-1], self.rate)[:, ::-1]
 
-    def sounds(self, moved: int) -> tuple[np.ndarray, np.ndarray]:
+    def sounds(self, moved: int) -> Sounds:
         """Those of both takes in the fade."""
         first = self.wish.most + moved
-        return self.sound_before, self.sound_after[:, first : first + self.wish.length]
+        part = slice(first, first + self.wish.length)
+        both, high = ((it[0], it[1][:, part]) if it else None for it in (self.whole, self.above))
+        return Sounds(*both, high)
 
     def owed(self, moved: int) -> np.ndarray:
         """Sum and first moment, about the middle, that the sound of the fade is to have or to differ from by even
@@ -129,10 +144,10 @@ class Surroundings:
     def crossfade(self, moved: int, ramp: float, most: int) -> tuple[Crossfade, list[float]]:
         """The crossfade whose middles move by at most `most` bits, and what its sums miss."""
         wanted, both = self.owed(moved)[0], self.sounds(moved)
-        empty = Crossfade(ramp, self.wish.power, [])
+        empty = Crossfade(ramp, self.wish.power, [], self.wish.slow)
         middle = self.wish.early
-        found = [even_middle(Sounds(*it), empty, middle, most, number) for *it, number in zip(*both, wanted)]
-        return Crossfade(ramp, self.wish.power, [it for it, _ in found]), [it for _, it in found]
+        found = [even_middle(both.channel(it), empty, middle, most, number) for it, number in enumerate(wanted)]
+        return replace(empty, middles=[it for it, _ in found]), [it for _, it in found]
 
 
 @dataclass(frozen=True)
@@ -158,7 +173,8 @@ class Plan:
 def planned(before: Signals, after: Signals, wish: Wish) -> Plan:
     """The first plan that misses nothing, or the one that misses least; the second take moves only if it has to."""
     if wish.is_butt and wish.ramp is None:
-        wish = replace(wish, ramp=ramps.shortest(before, after, wish.stop, wish.start, wish.power))
+        is_whole = ramps.is_whole((before, after), (wish.stop, wish.start), wish.power)
+        wish = replace(wish, ramp=ramps.RAMP, is_split=not is_whole)
     around = Surroundings(before, after, wish, hearing_of(before.rate).size // 2)
     found = []
     for moved in sorted(range(-wish.most, wish.most + 1), key=lambda it: (abs(it), it)):
@@ -215,7 +231,7 @@ def made(program: Path, plan: Plan, seed: int) -> Fade:
     """The fade of a plan."""
     around, wish = plan.around, plan.around.wish
     later, bump, rows = around.after(plan.moved), bumps(wish.length)[0], []
-    sound = plan.crossfade.mixed(*around.sounds(plan.moved)) + np.array(plan.missing)[:, None] * bump
+    sound = plan.crossfade.mixed(around.sounds(plan.moved)) + np.array(plan.missing)[:, None] * bump
     moment = wrapped(around.owed(plan.moved) - moments(sound, -wish.early))[1]
     for channel, row in enumerate(sound):
         known = around.before[channel], row, later[channel]

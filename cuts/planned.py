@@ -6,6 +6,7 @@ import numpy as np
 
 import bridges
 import clicks
+from crossfades import SPLIT
 from hearing import Hearing, decibels, hearing_of
 from owing import known
 from projects import Project, Spot
@@ -100,6 +101,8 @@ def named(seen: Seen) -> str:
     """What a cut is."""
     if seen.seam:
         ramp = f" over {seen.seam.ramp / seen.rate * 1e6:.3g} us" if seen.seam.kind == "butt" else ""
+        if seen.seam.slow:
+            ramp += f" (above {SPLIT[0] // 1000} kHz over {seen.seam.slow / seen.rate * 1e6:.3g} us)"
         return f"{seen.seam.kind} of {seen.length} bits{ramp}"
     return {"plain": "cut plain", "link": f"link of {seen.length} bits"}.get(seen.spot.role, f"bridge of {seen.length}")
 
@@ -121,7 +124,8 @@ def ends(project: Project, spot: Spot) -> tuple[int, int]:
     if spot.role != "seam":
         return 0, spot.length
     seam = project.record(spot.before + 1)
-    return int(min(seam.middles) - seam.ramp / 2), int(max(seam.middles) + seam.ramp / 2)
+    half = max(seam.ramp, seam.slow) / 2
+    return int(min(seam.middles) - half), int(max(seam.middles) + half)
 
 
 def warn(project: Project, number: int) -> None:

@@ -26,7 +26,8 @@ class Seam:
     """The bits of the take of seams from `first` on. The wished place of the cut is `before` bits after the end of the
     cue before, and `after` bits before the start of the cue after. `middles` are counted from the first bit. A
     transition has a link near the middle of each channel: of the take before or after (0 or 1), its first bit there,
-    its length, and its own middle as a place in the seam."""
+    its length, and its own middle as a place in the seam. What is above 22 kHz changes within `slow` bits, unless that is
+    0."""
 
     first: int
     length: int
@@ -37,6 +38,7 @@ class Seam:
     power: bool
     middles: list[float]
     links: list[list[int]] = field(default_factory=list)
+    slow: float = 0.0
 
     @property
     def ends(self) -> tuple[int, int]:
@@ -45,7 +47,7 @@ class Seam:
 
     @property
     def crossfade(self) -> Crossfade:
-        return Crossfade(self.ramp, self.power, self.middles)
+        return Crossfade(self.ramp, self.power, self.middles, self.slow)
 
     @property
     def is_owned(self) -> bool:
@@ -55,7 +57,13 @@ class Seam:
 
 def text_of(seams: list[Seam]) -> bytes:
     """The comment about seams."""
-    return HEAD + tomlkit.dumps({"seam": [asdict(it) for it in seams]}).encode()
+    return HEAD + tomlkit.dumps({"seam": [row_of(it) for it in seams]}).encode()
+
+
+def row_of(seam: Seam) -> dict:
+    """The row that says a seam."""
+    row = asdict(seam)
+    return row if seam.slow else {key: it for key, it in row.items() if key != "slow"}
 
 
 def are_numbers(values: object, kinds: tuple[type, ...]) -> bool:
@@ -64,7 +72,7 @@ def are_numbers(values: object, kinds: tuple[type, ...]) -> bool:
 
 def is_seam(row: object, count: int) -> bool:
     """Whether a row of a comment is a seam of `count` channels."""
-    if not isinstance(row, dict) or set(row) != set(Seam.__dataclass_fields__):
+    if not isinstance(row, dict) or set(row) | {"slow"} != set(Seam.__dataclass_fields__):
         return False
     wholes = [row[it] for it in ("first", "length", "before", "after")]
     links = row["links"]
@@ -73,8 +81,7 @@ def is_seam(row: object, count: int) -> bool:
         are_numbers(wholes, (int,))
         and all(0 <= it < 1 << 40 for it in wholes)
         and row["kind"] in KINDS
-        and type(row["ramp"]) in (int, float)
-        and 0 <= row["ramp"] < 1 << 40
+        and all(are_numbers([it], (int, float)) and 0 <= it < 1 << 40 for it in (row["ramp"], row.get("slow", 0)))
         and type(row["power"]) is bool
         and are_numbers(row["middles"], (int, float))
         and len(row["middles"]) == count

@@ -229,7 +229,7 @@ def check(folder: Path, texts: dict[str, str]) -> bool:
 def main() -> int:
     words = argparse.ArgumentParser(description=__doc__.split("\n")[0])
     words.add_argument("folder", nargs="?", type=Path, default=Path(__file__).parent)
-    words.add_argument("--check", action="store_true", help="compare with the files that stand there, write nothing")
+    words.add_argument("--check", action="store_true", help="compare with the files that are there, write nothing")
     asked = words.parse_args()
     if not asked.folder.is_dir():
         raise outputs.Refused(f"{asked.folder} is no folder")

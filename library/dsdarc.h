@@ -2,7 +2,7 @@
  *
  * The caller reads the file and pushes its bytes; the library takes them and gives frames. It opens nothing, prints
  * nothing, starts no thread and never aborts. A player holds the bytes before the sound, at most one piece of 65,536
- * bytes of the sound as frames, and what its filter still reads; behind the sound it keeps what a DSDIFF form has there.
+ * bytes of the sound as frames, and what its filter still reads. It also keeps what a DSDIFF form has after the sound.
  *
  *     dsdarc_player *player;
  *     if (dsdarc_player_new(text, text_size, &player) != DSDARC_OK) ...
@@ -15,14 +15,14 @@
  *     if (dsdarc_player_end(player) != DSDARC_OK) ...
  *     dsdarc_player_drop(player);
  *
- * What was pulled is a front of the frames that `dsdarc play` writes, and all of them once the last byte of the sound
- * was pushed, however pushes and pulls are cut. After a seek it is a front of the frames from that one on.
+ * What was pulled is a prefix of the frames that `dsdarc play` writes, whatever the sizes of pushes and pulls. Once the
+ * last byte of the sound was pushed, all frames can be pulled. After a seek this holds of the frames from that one on.
  *
  * Ownership. A player is made by dsdarc_player_new and freed by dsdarc_player_drop. All other memory is the caller's,
  * and is read or written during the call alone. Buffers of one call must not overlap each other.
  * Threads. Each player belongs to one call at a time; different players are independent of each other.
- * Statuses. Each call answers one; after a fault (from DSDARC_FILE_REFUSED to DSDARC_TOO_LONG, or DSDARC_MEMORY) of a
- * push, an end or a seek the frames that wait can be pulled, and all else answers DSDARC_AFTER_FAULT.
+ * Statuses. Each call returns one. After a fault (from DSDARC_FILE_REFUSED to DSDARC_TOO_LONG, or DSDARC_MEMORY) of a
+ * push, an end or a seek, the frames that wait can be pulled, and all other calls return DSDARC_AFTER_FAULT.
  */
 #ifndef DSDARC_H
 #define DSDARC_H
@@ -47,14 +47,14 @@ extern "C" {
 /* A player; what it is made of is not for the caller. */
 typedef struct dsdarc_player dsdarc_player;
 
-/* What a call answers. The names of faults are those that the program prints. */
+/* What a call returns. The names of faults are those that the program prints. */
 typedef enum dsdarc_status {
     DSDARC_OK = 0,
     DSDARC_NULL = 1,             /* a pointer is null that may not be */
-    DSDARC_SIZE = 2,             /* a size or a format is none that there can be */
+    DSDARC_SIZE = 2,             /* a size or a format that can't be */
     DSDARC_MEMORY = 3,           /* out of memory */
     DSDARC_AFTER_FAULT = 4,      /* a call before this one was refused for the file */
-    DSDARC_NOT_YET = 5,          /* the pushed bytes don't tell of the sound yet */
+    DSDARC_NOT_YET = 5,          /* the pushed bytes don't describe the sound yet */
     DSDARC_BEHIND_END = 6,       /* there is no such frame */
     DSDARC_FILE_REFUSED = 7,     /* neither a DSDIFF 1.5 nor a DSF 1.01 file that holds a recording */
     DSDARC_RATE_NOT_DIVIDED = 8, /* the filter's factor doesn't divide the file's sample rate */
@@ -86,17 +86,17 @@ typedef struct dsdarc_info {
 } dsdarc_info;
 
 /* Makes a player by the filter of a project text (`size` bytes of TOML, as the files of filters/), before the first
- * byte of a file. *player is the caller's to drop; after another status than DSDARC_OK it is null. */
+ * byte of a file. *player is the caller's to drop; after any status but DSDARC_OK it is null. */
 DSDARC_API dsdarc_status dsdarc_player_new(const void *project, size_t size, dsdarc_player **player);
 
 /* Takes bytes of the file, from the next one on: *taken says how many, at most 65,536. None are taken while frames wait
- * to be pulled. Before the sound and behind it bytes are taken that give no frames. `bytes` may be null if size is 0. */
+ * to be pulled. Bytes before and after the sound are taken and give no frames. `bytes` may be null if size is 0. */
 DSDARC_API dsdarc_status dsdarc_player_push(dsdarc_player *player, const void *bytes, size_t size, size_t *taken);
 
-/* Tells what is played, once enough bytes were pushed; before that it answers DSDARC_NOT_YET. */
+/* Reports what is played, once enough bytes were pushed; before that it returns DSDARC_NOT_YET. */
 DSDARC_API dsdarc_status dsdarc_player_info(dsdarc_player *player, dsdarc_info *info);
 
-/* Gives at most `frames` frames that are due, interleaved: *given says how many, 0 if more bytes are wanted or all were
+/* Gives at most `frames` frames that are due, interleaved: *given says how many, 0 if more bytes are needed or all were
  * given. pcm has room for frames * channels samples. It may be null if frames is 0. */
 DSDARC_API dsdarc_status dsdarc_player_pull(dsdarc_player *player, void *pcm, size_t frames, dsdarc_format format,
                                             size_t *given);
@@ -113,7 +113,7 @@ DSDARC_API dsdarc_status dsdarc_player_seek(dsdarc_player *player, uint64_t fram
 /* Frees a player; null is left alone. */
 DSDARC_API void dsdarc_player_drop(dsdarc_player *player);
 
-/* The name of a status, as "FileRefused"; "Unknown" for a number that is none. It is never freed. */
+/* The name of a status, as "FileRefused"; "Unknown" for any other number. It is never freed. */
 DSDARC_API const char *dsdarc_status_text(dsdarc_status status);
 
 /* The version of the library, as "0.1.0". It is never freed. */

@@ -1,10 +1,11 @@
 #!/usr/bin/env python3
 """Makes an archive again from what the workflow made of it: restore.py OUT FOLDER.
 
-For each file that was converted OUT keeps all but its sound, as it stood: `.head` is what stands before the sound,
-`.id3` or `.tail` what stands behind it, and `.fill` the last blocks of a DSF file whose fill isn't zero. With the sound
-of the converted file that is the old file, byte for byte. This writes it into FOLDER under its old name, once its
-SHA-256 is the old one's; what stands there with that SHA-256 stays. It reads `results.json`, `converted/`, `kept/` and `renamed/`, and does without dsdarc.
+For each file that was converted, OUT has all but its sound, as it was: `.head` is what comes before the sound, `.id3`
+or `.tail` what follows it, and `.fill` the last blocks of a DSF file whose fill isn't zero. With the sound of the
+converted file this is the old file, byte for byte. It is written to FOLDER under its old name, once its SHA-256 is the
+old one's. A file that is there already with that SHA-256 stays. The script reads `results.json`, `converted/`, `kept/`
+and `renamed/`, and doesn't need dsdarc.
 """
 import dataclasses
 import hashlib

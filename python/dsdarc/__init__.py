@@ -9,13 +9,13 @@
         for block in sound.blocks(65536, dtype="int32"):
             ...
 
-A filter is a project text's path, the name of a ready filter as "dsd64-to-88200-24", or a wish as "88200/24", by which
-the ready filter of the file's rate is picked, as filters/pick does; of "88200/24,96000/24" the first that there is. A
-file is a path, or a binary file that seeks. What the library refuses raises Fault, with the name of the fault; what it
-isn't asked raises ValueError or TypeError, and what the system refuses OSError. Threads may share a sound: one reads at
-a time.
+A filter is the path of a project text, the name of a ready filter as "dsd64-to-88200-24", or a rate and width as
+"88200/24", for which the ready filter of the file's rate is taken, as filters/pick does. Of "88200/24,96000/24" it is
+the first that has one. A file is a path, or a binary file that seeks. Fault is raised if the library refuses the file,
+with the name of the fault; ValueError or TypeError if a call makes no sense; OSError if the system refuses. Threads may
+share a sound: one reads at a time.
 
-The library is libdsdarc.so, or what DSDARC_LIBRARY names; the filters stand in share/dsdarc beside it, or where
+The library is libdsdarc.so, or what DSDARC_LIBRARY names; the filters are in share/dsdarc beside it, or where
 DSDARC_FILTERS names."""
 import builtins
 import collections
@@ -76,7 +76,7 @@ class _Info(ctypes.Structure):
 
 
 def _places():
-    """Where the library may stand: as named, beside the package, in the prefix of an installation, in a clone."""
+    """Where the library may be: as named, beside the package, in the prefix of an installation, in a clone."""
     if os.environ.get("DSDARC_LIBRARY"):
         yield os.environ["DSDARC_LIBRARY"]
         return
@@ -183,7 +183,7 @@ _PLAIN = b"[decimate]\ntaps = [1]\nfactor = 8\ndelay = 0\nshift = 0\nwidth = 16\
 
 
 class Sound:
-    """A file that is played by a filter. Its frames are read from the place where it stands; `seek` moves that."""
+    """A file that is played by a filter. Frames are read from the current position; `seek` moves it."""
 
     def __init__(self, file, filter, closes=True):
         self._player, self._at, self._rest, self._ended = (

@@ -1,5 +1,6 @@
 """The program that scripts run: what DSDARC names, else that of the clone, or of the installation, that they stand in."""
 import os
+import shutil
 import subprocess
 
 from outputs import Refused
@@ -15,6 +16,18 @@ def found():
 
 
 PROGRAM = os.environ.get("DSDARC") or found()
+
+
+def unlaunched(program):
+    """The path of what the launcher of a clone or an installation runs, once it is built, or of any other program. All
+    that a launcher does besides is to remove, after a signal, what the program was writing."""
+    path = os.path.realpath(shutil.which(program) or program)
+    top = os.path.dirname(os.path.dirname(path))
+    if path == os.path.join(top, "bin", "dsdarc"):
+        for place in ("crates/dsdarc/out/dsdarc", "lib/dsdarc/dsdarc"):
+            if os.access(os.path.join(top, place), os.X_OK):
+                return os.path.join(top, place)
+    return path
 
 
 def finished(words, folder=None):

@@ -401,9 +401,13 @@ ODD_WORDS = (
         ["info", "-"],
         2,
         "FileUnread UnknownForm",
-        "the standard stream (FILE): a pipe cannot be looked at again, and what has 2 MiB or more is read "
-        "twice: write it "
-        "to a file first",
+        "the standard stream (FILE): a pipe cannot be looked at again: write it to a file first",
+    ),
+    (
+        ["convert", "dsf", "-", "out"],
+        2,
+        "FileUnread UnknownForm",
+        "the standard stream (IN): a pipe cannot be looked at again: write it to a file first",
     ),
 )
 

@@ -26,7 +26,7 @@ TABLES = 7 * MEGABYTE // TIMES
 MOST_BOUNDS = 20_000
 # No run may take more than this; where it should, it may say that memory was wanting.
 MOST = 1024 * MEGABYTE
-# A file of at least so many bytes is converted as a stream.
+# A long file has at least so many bytes of sound.
 LONG = 2 * MEGABYTE
 FORMS = ("dsdiff", "dsf", "dsf8")
 MEMORY = b"fault: Memory\n"
@@ -237,7 +237,7 @@ def recording_case(case):
 
 
 def a_long_recording(case):
-    """A recording of more bytes than are kept of a file that is converted."""
+    """A recording of some megabytes."""
     rng, count = case.rng, case.rng.randint(1, 6)
     frames = LONG // count + rng.randrange(LONG // 2 // count)
     if rng.random() < 0.5:

@@ -9,6 +9,7 @@ use Rattle.master_core.specs.Best.{IsBestMaster}
 use Rattle.archive_core.specs.declared.editing.Edited.{Edited}
 use Rattle.transfer_core.specs.declared.fault.Fault.{Fault}
 use Rattle.transfer_core.specs.declared.fault.Fault.TheVariants.{Memory}
+use Rattle.judge_core.specs.Accepting.{Accepts, CostsWindows}
 use Rattle.judge_core.specs.Cutting.{SaysCut}
 
 -- these bytes are the file of the master whose every bridge is the first least one, and this is its cost
@@ -36,3 +37,19 @@ pub record IsCertificate (project : List ℕ) (files : List (List ℕ)) (file ce
 abbrev pub AnswersEdited : Result Edited Fault → List ℕ → ℕ → Type 0
 AnswersEdited (Ok made) master cost = (made.master.items ≡ master) × (made.total ≡ cost)
 AnswersEdited (Err fault) master cost = fault ≡ Memory
+
+-- P holds of the master of a project and files as in `Edits`, and of its cost
+abbrev pub ForEdits : List ℕ → List (List ℕ) → Form → (List ℕ → ℕ → Type 0) → Type 0
+ForEdits project files form P = (master : List ℕ) (cost : ℕ) → Edits project files form master cost → P master cost
+
+-- the master that was returned is accepted with the certificate that was returned, at the returned total
+abbrev pub AcceptsEdited : List ℕ → List (List ℕ) → Edited → Type 0
+AcceptsEdited project files made = Accepts project files made.master.items made.cert.items made.total
+
+-- the certificate that was returned is that of the master that was returned
+abbrev pub CertifiesEdited : List ℕ → List (List ℕ) → Edited → Type 0
+CertifiesEdited project files made = IsCertificate project files made.master.items made.cert.items
+
+-- the returned total is the sum over all windows of the master that was returned
+abbrev pub SumsEdited : List ℕ → List (List ℕ) → Edited → Type 0
+SumsEdited project files made = CostsWindows project files made.master.items made.total

@@ -9,7 +9,9 @@ use Rattle.master_core.specs.Best.{AreBestChannels, master_of}
 use Rattle.master_core.specs.Writing.{IsRoomFor}
 use Rattle.transfer_core.specs.declared.fault.Fault.{Fault}
 use Rattle.transfer_core.specs.declared.fault.Fault.TheVariants.{Memory}
+use Rattle.cut_core.specs.Cuts.{CutContent}
 use Rattle.judge_core.specs.Accepting.{Accepts, CostsLeast, CostsWindows, IsMaster}
+use Rattle.judge_core.specs.Cutting.{SaysCut}
 use Rattle.archive_core.specs.Editing.{Edits, IsCertificate}
 use Rattle.archive_core.specs.declared.planning.PlannedMaster.{PlannedMaster}
 
@@ -18,6 +20,10 @@ pub record IsFileOf (planned : PlannedMaster) (file : List ℕ) : Type 0 where
   pub channels : List (List Bool)
   pub best : AreBestChannels planned.cut channels
   pub text : text_in planned.form (master_of planned.cut planned.form channels) ≡ Some file
+
+-- P holds of the file of a planned master
+abbrev pub ForFileOf : PlannedMaster → (List ℕ → Type 0) → Type 0
+ForFileOf planned P = (file : List ℕ) → IsFileOf planned file → P file
 
 -- the cost of the bridges of a planned master
 abbrev pub planned_total : PlannedMaster → ℕ
@@ -55,3 +61,7 @@ pub record Plans (project : List ℕ) (files : List (List ℕ)) (form : Form) (p
 abbrev pub AnswersPlanned : Result PlannedMaster Fault → List ℕ → ℕ → Type 0
 AnswersPlanned (Ok planned) master cost = IsFileOf planned master × (planned_total planned ≡ cost)
 AnswersPlanned (Err fault) master cost = fault ≡ Memory
+
+-- P holds of each project and files that the cut, for a file of the form, is of
+abbrev pub ForCut : Form → CutContent → (List ℕ → List (List ℕ) → Type 0) → Type 0
+ForCut form cut P = (project : List ℕ) (files : List (List ℕ)) → SaysCut project files (Some form) cut → P project files

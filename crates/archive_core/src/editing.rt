@@ -1,12 +1,11 @@
 //! Masters cut from takes by cue lists.
 
 ghost use Rattle.std.specs.Prelude.{◌≡◌, IfErr, IfOk, List, Some, ℕ};
-ghost use Rattle.judge_core.specs.Accepting.{Accepts, CostsLeast, CostsWindows, IsMaster};
-ghost use Rattle.archive_core.specs.Editing.{AnswersEdited, Edits, IsCertificate, IsEdited};
+ghost use Rattle.judge_core.specs.Accepting.{CostsLeast, IsMaster};
+ghost use Rattle.archive_core.specs.Editing.{AcceptsEdited, AnswersEdited, CertifiesEdited, ForEdits, IsEdited, SumsEdited};
 ghost use Rattle.archive_core.specs.Planning.{CertifiesPlanned, IsFileOf, IsPlanned, IsSamePlan};
-ghost use Rattle.judge_core.specs.Cutting.{said_cut};
+ghost use Rattle.judge_core.specs.Cutting.{IsFaultOfCut};
 ghost use Rattle.cut_core.specs.Opening.{file_bytes};
-ghost use Rattle.form_core.specs.Steps.{FailsUnless};
 
 use crate::planning::{PlannedMaster, plan_master};
 use chunk_core::Outlet;
@@ -46,22 +45,17 @@ pub fn edit(alloc: Global, project: &[u8], takes: &[Vec<u8>], form: Form) -> Res
     // The file is a master of the project and the takes.
     ensures master { IfOk result (λ made. IsMaster project.now (file_bytes takes.now) made.master.items) }
     // The certificate is a function of the project, the takes and the bits of the master.
-    ensures certificate { IfOk result (λ made. IsCertificate project.now
-        (file_bytes takes.now) made.master.items made.cert.items) }
+    ensures certificate { IfOk result (CertifiesEdited project.now (file_bytes takes.now)) }
     // The certificate shows each bridge of the master to be least, and the total is what they cost.
-    ensures accepted { IfOk result (λ made. Accepts project.now
-        (file_bytes takes.now) made.master.items made.cert.items made.total) }
+    ensures accepted { IfOk result (AcceptsEdited project.now (file_bytes takes.now)) }
     // No master of the project and the takes costs less.
     ensures joint { IfOk result (λ made. CostsLeast project.now (file_bytes takes.now) made.master.items made.total) }
     // It is the sum over all bridges of what their bits cost over their windows.
-    ensures windows { IfOk result (λ made. CostsWindows project.now
-        (file_bytes takes.now) made.master.items made.total) }
+    ensures windows { IfOk result (SumsEdited project.now (file_bytes takes.now)) }
     // The master of a project and takes is returned, unless memory runs out.
-    ensures only { (master : List ℕ) (cost : ℕ) → Edits project.now (file_bytes takes.now) form master cost
-        → AnswersEdited result master cost }
+    ensures only { ForEdits project.now (file_bytes takes.now) form (AnswersEdited result) }
     // Which fault it is: the first of the project, its splice and its cut.
-    ensures refused { IfErr result (λ fault. FailsUnless Fault.Memory fault
-        (said_cut project.now (file_bytes takes.now) (Some form))) }
+    ensures refused { IfErr result (IsFaultOfCut project.now (file_bytes takes.now) (Some form)) }
 {
     let cut = cut_files(alloc, project, takes, Some(form))?;
     let mut planned = plan_master(alloc, cut, form, &Unwatched {})?;

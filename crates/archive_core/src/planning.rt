@@ -1,11 +1,11 @@
 //! Masters that are planned: everything is chosen and all memory is reserved before a byte is written.
 
-ghost use Rattle.std.specs.Prelude.{◌≡◌, ◌+◌, ◌-◌, ◌<◌, ◌^◌, IfErr, IfOk, List, MatchResult, OnErr, OnOk, Some, ℕ};
-ghost use Rattle.judge_core.specs.Cutting.{SaysCut};
-ghost use Rattle.archive_core.specs.Editing.{Edits};
-ghost use Rattle.archive_core.specs.Planning.{AnswersPlanned, IsFileOf, IsPlanned, Plans};
-ghost use Rattle.chunk_core.specs.Outlets.{Puts, PutsPart, outlet_failures, outlet_writer};
+ghost use Rattle.std.specs.Prelude.{◌≡◌, ◌-◌, ◌<◌, ◌^◌, IfErr, IfOk, List, OnErr, OnOk, ℕ};
+ghost use Rattle.archive_core.specs.Editing.{ForEdits};
+ghost use Rattle.archive_core.specs.Planning.{AnswersPlanned, ForCut, ForFileOf, IsFileOf, IsPlanned, Plans};
+ghost use Rattle.chunk_core.specs.Outlets.{Puts, PutsPart, outlet_failures};
 ghost use Rattle.master_core.specs.Certifying.{AppendsCert, AppendsCertPrefix};
+ghost use Rattle.master_core.specs.Writing.{CountsFailure, OnBytes};
 
 use chunk_core::{Device, Outlet};
 use cut_core::Cut;
@@ -45,12 +45,9 @@ pub fn plan_master<W: Watch>(
     // It is the plan of a file.
     ensures file { IfOk result (λ planned. (file : List ℕ) × IsFileOf planned file) }
     // If it is the cut of a project and files, it is their master, and its certificate shows it to be least.
-    ensures found { (project : List ℕ) (files : List (List ℕ)) → SaysCut project files (Some form) cut
-        → IfOk result (Plans project files form) }
-    ensures only { (project : List ℕ) (files : List (List ℕ)) → SaysCut project files (Some form) cut
-        → (master : List ℕ) (cost : ℕ) → Edits project files form master cost → AnswersPlanned result master cost }
-    ensures refused { (project : List ℕ) (files : List (List ℕ)) → SaysCut project files (Some form) cut
-        → IfErr result (λ fault. fault ≡ Fault.Memory) }
+    ensures found { ForCut form cut (λ project files. IfOk result (Plans project files form)) }
+    ensures only { ForCut form cut (λ project files. ForEdits project files form (AnswersPlanned result)) }
+    ensures refused { ForCut form cut (λ project files. IfErr result (λ fault. fault ≡ Fault.Memory)) }
 {
     let Planned {
         bridges,
@@ -87,13 +84,9 @@ impl PlannedMaster {
         requires ready { outlet_failures outlet.old < 2 ^ 64 - 1 }
         ensures planned { IsPlanned self.new }
         ensures same { IsSamePlan self.old self.new }
-        ensures ok { (file : List ℕ) → IsFileOf self.old file
-            → OnOk result (Puts W.contents outlet.old outlet.new file) }
-        ensures err { (file : List ℕ) → IsFileOf self.old file
-            → OnErr result (PutsPart W.contents outlet.old outlet.new file) }
-        ensures failures { MatchResult result
-            (λ _. outlet_failures outlet.new ≡ outlet_failures outlet.old)
-            (λ _. outlet_failures outlet.new ≡ outlet_failures outlet.old + 1) }
+        ensures ok { ForFileOf self.old (λ file. OnOk result (Puts W.contents outlet.old outlet.new file)) }
+        ensures err { ForFileOf self.old (λ file. OnErr result (PutsPart W.contents outlet.old outlet.new file)) }
+        ensures failures { CountsFailure result outlet.old outlet.new }
     {
         let form = self.form;
         write_master(
@@ -124,13 +117,9 @@ impl PlannedMaster {
     ) -> (Result<(), Device>, Outlet<W>)
         requires planned { IsPlanned self }
         requires ready { outlet_failures outlet < 2 ^ 64 - 1 }
-        ensures ok { OnOk result.0 (AppendsCert self.cut self.bridges (W.contents (outlet_writer outlet))
-            (W.contents (outlet_writer result.1))) }
-        ensures err { OnErr result.0 (AppendsCertPrefix self.cut self.bridges (W.contents (outlet_writer outlet))
-            (W.contents (outlet_writer result.1))) }
-        ensures failures { MatchResult result.0
-            (λ _. outlet_failures result.1 ≡ outlet_failures outlet)
-            (λ _. outlet_failures result.1 ≡ outlet_failures outlet + 1) }
+        ensures ok { OnOk result.0 (OnBytes W.contents outlet result.1 (AppendsCert self.cut self.bridges)) }
+        ensures err { OnErr result.0 (OnBytes W.contents outlet result.1 (AppendsCertPrefix self.cut self.bridges)) }
+        ensures failures { CountsFailure result.0 outlet result.1 }
     {
         let PlannedMaster {
             cut,

@@ -2,10 +2,10 @@
 
 use archive_core::{Edited, Fault, Form, edit};
 use chunk_core::push_chunk;
-use fixtures::files::{
+use part_examples::fixtures::files::{
     FILE, MONO, RATE, RAW, dsf_of, file_of, marked, marked_with, stereo, with_sounds,
 };
-use fixtures::projects::SPLICE;
+use part_examples::fixtures::projects::SPLICE;
 use std::alloc::{AllocError, Global};
 use std::fmt::Write;
 

@@ -6,8 +6,8 @@ use crate::builders::ONES;
 use crate::outcomes::prints;
 use archive_core::{CutFault, Fault, Form, edit, play};
 use command_core::Outcome;
-use fixtures::files::{FILE, MONO, RATE, RAW, changed, dsf_of, file_of, noted};
-use fixtures::projects::{DECIMATE, SPLICE};
+use part_examples::fixtures::files::{FILE, MONO, RATE, RAW, changed, dsf_of, file_of, noted};
+use part_examples::fixtures::projects::{DECIMATE, SPLICE};
 use std::alloc::{AllocError, Global};
 
 // Whether `play` refuses a file with this line.

@@ -3,7 +3,7 @@
 
 use crate::builders::{CueNumbers, Sources, sources_of, splice};
 use archive_core::{Edited, Fault, Form, Verdict, check};
-use fixtures::files::mono;
+use part_examples::fixtures::files::mono;
 use std::alloc::{AllocError, Global};
 
 /// Whether what is cut is accepted at this cost.

@@ -7,9 +7,11 @@ ghost use Rattle.sound_core.specs.Outlines.{AreStated, around_of};
 use crate::long_sounds::{blocks, laced};
 use crate::streamed::{NEVER, Streamed, check_streamed, roomy};
 use chunk_core::{Inlet, Outlet};
-use fixtures::devices::{Dripping, Sipping, drip, sip};
-use fixtures::files::{FILE, ONES_FILE, STEREO, followed, mono, noted, one_bit, three, with_sound};
 use form_core::Form;
+use part_examples::fixtures::devices::{Dripping, Sipping, drip, sip};
+use part_examples::fixtures::files::{
+    FILE, ONES_FILE, STEREO, followed, mono, noted, one_bit, three, with_sound,
+};
 use sound_core::{Outline, StreamFault, Unread, read_outline};
 use std::alloc::{AllocError, Global};
 use std::process::Abort;

@@ -2,7 +2,7 @@
 //! command.
 
 use archive_core::read_any;
-use fixtures::files::one_bit;
+use part_examples::fixtures::files::one_bit;
 use std::alloc::{AllocError, Global};
 
 // Whether a file is refused with this fault.

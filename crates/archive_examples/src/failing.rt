@@ -3,10 +3,10 @@
 use crate::played::{ONES, play_from, two_groups};
 use crate::streamed::{NEVER, Streamed, is_named};
 use archive_core::{Fault, StreamFault, play};
-use fixtures::devices::{Sipping, drip, sip};
-use fixtures::files::ONES_FILE;
-use fixtures::projects;
-use fixtures::projects::DECIMATE;
+use part_examples::fixtures::devices::{Sipping, drip, sip};
+use part_examples::fixtures::files::ONES_FILE;
+use part_examples::fixtures::projects;
+use part_examples::fixtures::projects::DECIMATE;
 use std::alloc::Global;
 use std::process::Abort;
 

@@ -3,8 +3,8 @@
 use crate::folders::{asks, comes_to_watched, folder_of, holds};
 use crate::watched_folder::{Asked, NOTHING, WatchedFolder};
 use command_core::{MemoryFolder, Task};
-use fixtures::files::{FILE, WAVE};
-use fixtures::projects::DECIMATE;
+use part_examples::fixtures::files::{FILE, WAVE};
+use part_examples::fixtures::projects::DECIMATE;
 use std::alloc::{AllocError, Global};
 
 // A folder with a file and a project.

@@ -15,10 +15,10 @@ use archive_core::{
 };
 use chunk_core::{Inlet, Outlet};
 use command_core::{Folder, FolderFault, MemoryFolder, Outcome, read_files, read_whole};
-use fixtures::compared::equal;
-use fixtures::files::{FILE, WAVE, dsf_of, stereo};
-use fixtures::projects::{DECIMATE, SPLICE};
-use fixtures::waves::TWO_CHANNELS;
+use part_examples::fixtures::compared::equal;
+use part_examples::fixtures::files::{FILE, WAVE, dsf_of, stereo};
+use part_examples::fixtures::projects::{DECIMATE, SPLICE};
+use part_examples::fixtures::waves::TWO_CHANNELS;
 use std::alloc::{AllocError, Global};
 use std::io;
 use std::io::{ErrorKind, Read, Write};
@@ -51,6 +51,8 @@ impl Write for Awaited<'_> {
 #[derive(Drop)]
 struct Shelf<'a> {
     files: &'a [(&'a str, &'a [u8])],
+    // Whether a file can be opened again.
+    reopens: bool,
     // How many files were written whole.
     written: usize,
 }
@@ -78,6 +80,10 @@ impl<'a> Folder for Shelf<'a> {
         self.bytes(name)
     }
 
+    fn reopens(&self, _name: &str) -> bool {
+        self.reopens
+    }
+
     fn create(&mut self, name: &str) -> Result<Awaited<'a>, FolderFault> {
         let left = self.bytes(name)?;
         Ok(Awaited { left })
@@ -96,7 +102,11 @@ impl<'a> Folder for Shelf<'a> {
 
 // A folder of these files, before any is written.
 fn shelf_of<'a>(files: &'a [(&'a str, &'a [u8])]) -> Shelf<'a> {
-    Shelf { files, written: 0 }
+    Shelf {
+        files,
+        reopens: true,
+        written: 0,
+    }
 }
 
 // The fault of a command that was refused.
@@ -238,11 +248,12 @@ fn a_line_is_made(rt: HostRuntime) -> Result<(), Fail> {
     Ok(())
 }
 
-// Whether a file is converted to this one in blocks, without its mark and its kept chunk.
-fn converts_in_blocks(alloc: Global, file: &[u8], made: &[u8]) -> Result<bool, Fault> {
+// Whether a file is converted to this one, without its mark and its kept chunk. It can be opened again, or not.
+fn converts_named(alloc: Global, file: &[u8], made: &[u8], reopens: bool) -> Result<bool, Fault> {
     let files: [(&str, &[u8]); 2] = [("in", file), ("out", made)];
     let mut shelf = shelf_of(&files);
-    match convert_file(alloc, &mut shelf, Form::Dsf, "in", "out", 0) {
+    shelf.reopens = reopens;
+    match convert_file(alloc, &mut shelf, Form::Dsf, "in", "out") {
         Ok(dropped) => Ok(dropped == 2 && shelf.written == 1),
         Err(fault) => Err(fault_of(Outcome::from(fault))),
     }
@@ -252,7 +263,15 @@ fn converts_in_blocks(alloc: Global, file: &[u8], made: &[u8]) -> Result<bool, F
 fn a_file_is_converted_in_blocks(rt: HostRuntime) -> Result<(), Fail> {
     let alloc = rt.alloc();
     let made = file_in(alloc, Form::Dsf)?;
-    assert!(rt; converts_in_blocks(alloc, &commented(alloc)?, &made)?);
+    assert!(rt; converts_named(alloc, &commented(alloc)?, &made, true)?);
+    Ok(())
+}
+
+#[test]
+fn a_pipe_is_held_and_converted(rt: HostRuntime) -> Result<(), Fail> {
+    let alloc = rt.alloc();
+    let made = file_in(alloc, Form::Dsf)?;
+    assert!(rt; converts_named(alloc, &commented(alloc)?, &made, false)?);
     Ok(())
 }
 

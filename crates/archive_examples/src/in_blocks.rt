@@ -1,27 +1,17 @@
-//! `convert` and `info` when they don't hold the file: here every file is treated as a large one.
+//! `convert` and `info` of files that can be opened again, and of pipes.
 
 use crate::builders::{CUT_OFF, commented, file_in, tagged};
 use crate::folders::folder_of;
-use crate::watched_folder::{Failure, NOTHING, WatchedFolder};
+use crate::watched_folder::{Failure, NOTHING, PIPES, WatchedFolder};
 use archive_core::Form;
 use command_core::{Folder, MemoryFolder, Outcome, outcome_line};
-use fixtures::files::{FILE, dsf_of, stereo};
+use part_examples::fixtures::files::{FILE, dsf_of, stereo};
 use std::alloc::{AllocError, Global};
 use transfer_commands::{convert_file, open_file};
 
-// Files of fewer bytes are held whole: all of these, or none.
-const ALL: usize = 1 << 16;
-
-const NONE: usize = 0;
-
 // The outcome of converting `in` to `out` in a folder, as it is printed.
-fn converted<F: Folder>(
-    alloc: Global,
-    folder: &mut F,
-    form: Form,
-    most: usize,
-) -> Result<String, AllocError> {
-    let outcome = match convert_file(alloc, folder, form, "in", "out", most) {
+fn converted<F: Folder>(alloc: Global, folder: &mut F, form: Form) -> Result<String, AllocError> {
+    let outcome = match convert_file(alloc, folder, form, "in", "out") {
         Ok(dropped) => Outcome::Converted(dropped),
         Err(fault) => Outcome::from(fault),
     };
@@ -37,15 +27,14 @@ fn reported<F: Folder>(alloc: Global, folder: &mut F) -> Result<String, AllocErr
     outcome_line(alloc, &outcome)
 }
 
-// What is reported of `in` in a folder in memory, or, with a form, the outcome of converting it.
+// What is reported of `in` in a folder, or, with a form, the outcome of converting it.
 fn said(
     alloc: Global,
-    folder: &mut MemoryFolder,
+    folder: &mut WatchedFolder,
     form: Option<Form>,
-    most: usize,
 ) -> Result<String, AllocError> {
     match form {
-        Some(form) => converted(alloc, folder, form, most),
+        Some(form) => converted(alloc, folder, form),
         None => reported(alloc, folder),
     }
 }
@@ -59,19 +48,20 @@ fn are_alike(first: &MemoryFolder, second: &MemoryFolder) -> bool {
     }
 }
 
-// Whether the result is the same if the file is held and if it isn't. The file is reported, or converted to a form.
+// Whether the result is the same if the file can be opened again and if it is a pipe. It is reported, or converted to a
+// form.
 fn is_done_alike(alloc: Global, file: &[u8], form: Option<Form>) -> Result<bool, AllocError> {
-    let mut held = folder_of(alloc, &[("in", file)])?;
-    let mut read = folder_of(alloc, &[("in", file)])?;
-    let line = said(alloc, &mut held, form, ALL)?;
-    let again = said(alloc, &mut read, form, NONE)?;
-    Ok(again == line && are_alike(&held, &read))
+    let mut held = WatchedFolder::over(alloc, folder_of(alloc, &[("in", file)])?, PIPES);
+    let mut read = WatchedFolder::over(alloc, folder_of(alloc, &[("in", file)])?, NOTHING);
+    let line = said(alloc, &mut held, form)?;
+    let again = said(alloc, &mut read, form)?;
+    Ok(again == line && are_alike(&held.files, &read.files))
 }
 
 // What is done with a file: it is reported, and converted to each form.
 const DONE: [Option<Form>; 4] = [None, Some(Form::Dsdiff), Some(Form::Dsf), Some(Form::Dsf8)];
 
-// Whether each of these has the same result if the file is held and if it isn't.
+// Whether each of these has the same result if the file can be opened again and if it is a pipe.
 fn is_alike(alloc: Global, file: &[u8]) -> Result<bool, AllocError> {
     for form in &DONE {
         if !is_done_alike(alloc, file, *form)? {
@@ -114,27 +104,32 @@ fn refuses_alike(rt: HostRuntime) {
 
 // What fails, what is printed, and exactly what the folder is asked for. What was created is kept, or given up after a
 // fault.
-const CALLS: [(Failure, &str, &str); 5] = [
+const CALLS: [(Failure, &str, &str); 6] = [
     (
         NOTHING,
         "converted dropped 0",
-        "open in\nopen in\nopen in\ncreate out\nkeep out\n",
+        "open in\nopen in\ncreate out\nkeep out\n",
     ),
-    (("read", "in", 0), "fault: ReadFailed", "open in\nopen in\n"),
+    (
+        PIPES,
+        "converted dropped 0",
+        "open in\ncreate out\nkeep out\n",
+    ),
+    (("read", "in", 0), "fault: ReadFailed", "open in\n"),
     (
         ("create", "out", 0),
         "fault: WriteFailed",
-        "open in\nopen in\nopen in\ncreate out\n",
+        "open in\nopen in\ncreate out\n",
     ),
     (
         ("write", "out", 9),
         "fault: WriteFailed",
-        "open in\nopen in\nopen in\ncreate out\ngive up out\n",
+        "open in\nopen in\ncreate out\ngive up out\n",
     ),
     (
         ("keep", "out", 0),
         "fault: WriteFailed",
-        "open in\nopen in\nopen in\ncreate out\nkeep out\n",
+        "open in\nopen in\ncreate out\nkeep out\n",
     ),
 ];
 
@@ -145,7 +140,7 @@ fn asks(
     (failure, line, calls): &(Failure, &str, &str),
 ) -> Result<bool, AllocError> {
     let mut folder = WatchedFolder::over(alloc, files?, *failure);
-    let said = converted(alloc, &mut folder, Form::Dsf, NONE)?;
+    let said = converted(alloc, &mut folder, Form::Dsf)?;
     Ok(said.as_str() == *line && folder.calls.as_str() == *calls)
 }
 
@@ -167,7 +162,20 @@ fn converts_changed(
 ) -> Result<bool, AllocError> {
     let files = folder_of(alloc, &[("in", &FILE), ("changed", &changed?)])?;
     let mut folder = WatchedFolder::over(alloc, files, ("change", "", often));
-    Ok(converted(alloc, &mut folder, Form::Dsf, NONE)?.as_str() == line)
+    Ok(converted(alloc, &mut folder, Form::Dsf)?.as_str() == line)
+}
+
+// A pipe that is refused is opened once, and nothing is created.
+#[test]
+fn asks_for_a_refused_pipe_once(rt: HostRuntime) {
+    let alloc = rt.alloc();
+    let case = (PIPES, "fault: FileUnread UnknownForm", "open in\n");
+    let asked = asks(
+        alloc,
+        folder_of(alloc, &[("in", b"RIFF....WAVEfmt ")]),
+        &case,
+    );
+    assert!(rt; asked.unwrap_or(false));
 }
 
 // A change in the number of channels is noticed at the last reading. A file that changes before that is converted as
@@ -177,9 +185,9 @@ fn refuses_a_file_that_changes(rt: HostRuntime) {
     let alloc = rt.alloc();
     let done = "converted dropped 0";
     let changed = stereo(alloc, &[1, 2]);
-    assert!(rt; converts_changed(alloc, 2, changed, "fault: ReadFailed").unwrap_or(false));
+    assert!(rt; converts_changed(alloc, 1, changed, "fault: ReadFailed").unwrap_or(false));
     let changed = stereo(alloc, &[1, 2]);
-    assert!(rt; converts_changed(alloc, 1, changed, done).unwrap_or(false));
+    assert!(rt; converts_changed(alloc, 0, changed, done).unwrap_or(false));
     let same = file_in(alloc, Form::Dsdiff);
-    assert!(rt; converts_changed(alloc, 2, same, done).unwrap_or(false));
+    assert!(rt; converts_changed(alloc, 1, same, done).unwrap_or(false));
 }

@@ -6,11 +6,11 @@ use crate::streamed::NEVER;
 use chunk_core::Inlet;
 use dsd_bits::{BitRange, Bits};
 use dsdiff_core::DsdiffFault;
-use fixtures::compared::equal;
-use fixtures::devices::drip;
-use fixtures::files::{FILE, STEREO, mono, noted, one_bit, stereo};
 use form_core::{ReadFault, read_any};
-use sound_core::{Kept, StreamFault, Unread, read_stretches};
+use part_examples::fixtures::compared::equal;
+use part_examples::fixtures::devices::drip;
+use part_examples::fixtures::files::{FILE, STEREO, mono, noted, one_bit, stereo};
+use sound_core::{Keeper, Kept, StreamFault, Unread, read_named, read_stretches};
 use std::alloc::{AllocError, Global};
 use std::test::Fail;
 
@@ -201,6 +201,24 @@ fn keeps_what_stands_across_groups(rt: HostRuntime) {
     }
     let frames = is_same(alloc, laced(alloc, &STEREO, 150_000), &seams);
     assert!(rt; frames, "frames");
+}
+
+// Whether a keeper of these ranges that is fed by `read_named` has exactly the bits of the channels that are read in
+// memory.
+fn is_fed(alloc: Global, file: &[u8], ranges: &[BitRange]) -> bool {
+    let Ok(opened) = read_any(alloc, file) else {
+        return false;
+    };
+    let mut keeper = Keeper::new(alloc, ranges);
+    match read_named(alloc, &mut Inlet::new(drip(file, 7, NEVER)), &mut keeper) {
+        Ok(_) => are_stretches(&keeper.stretches, opened.recording.channels(), ranges),
+        Err(_) => false,
+    }
+}
+
+#[test]
+fn feeds_a_sink(rt: HostRuntime) {
+    assert!(rt; is_fed(rt.alloc(), &FILE, &[range(3, 5), range(0, 16)]));
 }
 
 // How many bytes of `FILE` there are, which read of a reader that gives one byte at a time fails, the fault, how many

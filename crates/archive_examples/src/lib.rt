@@ -1,7 +1,7 @@
 //! Worked examples of whole files, as tests: calls over them, streams from a reader to a writer, and commands over
 //! folders.
 //!
-//! What they share is in `fixtures`. The parts of which files and masters are made are in `part_examples`.
+//! The parts of which files and masters are made are in `part_examples`, with what both share: its `fixtures`.
 #![tactic(auto)]
 
 #[cfg(test)]

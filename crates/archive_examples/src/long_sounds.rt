@@ -3,9 +3,9 @@
 use crate::played::{play_by, play_from, plays};
 use crate::streamed::NEVER;
 use archive_core::play;
-use fixtures::devices::{drip, sip};
-use fixtures::files::{MONO, RATE, RAW, STEREO, dsf_of, file_of, mono};
-use fixtures::projects::{DECIMATE, Numbers, project, with_ones};
+use part_examples::fixtures::devices::{drip, sip};
+use part_examples::fixtures::files::{MONO, RATE, RAW, STEREO, dsf_of, file_of, mono};
+use part_examples::fixtures::projects::{DECIMATE, Numbers, project, with_ones};
 use std::alloc::{AllocError, Global};
 
 /// `size` bytes in no order.

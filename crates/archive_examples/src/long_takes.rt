@@ -9,8 +9,8 @@ use crate::master_commands::{CHECK, CUT};
 use crate::watched_folder::{Failure, NOTHING, WatchedFolder};
 use archive_core::{Edited, Fault, Form};
 use command_core::{MemoryFolder, Outcome, Task, outcome_line, status};
-use fixtures::files::{changed, dsf_of, stereo};
-use fixtures::projects::SPLICE;
+use part_examples::fixtures::files::{changed, dsf_of, stereo};
+use part_examples::fixtures::projects::SPLICE;
 use std::alloc::{AllocError, Global};
 use transfer_commands::{CommandFault, Sources as Excerpts, source_excerpts};
 

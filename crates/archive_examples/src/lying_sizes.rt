@@ -3,11 +3,11 @@
 use crate::played::play_by;
 use crate::refused::{is_no_file, one_bit_with};
 use archive_core::StreamFault;
-use fixtures::files::{
+use part_examples::fixtures::files::{
     FILE, MONO, RATE, RAW, WAVE, changed, file_of, filled, marked_with, one_bit,
 };
-use fixtures::projects::DECIMATE;
-use fixtures::waves::sample;
+use part_examples::fixtures::projects::DECIMATE;
+use part_examples::fixtures::waves::sample;
 use std::alloc::{AllocError, Global};
 
 // Whether a file is refused if it is cut at any length below `end`, and read by 4096 bytes. If it is shorter than

@@ -5,8 +5,8 @@ use crate::folders::{asks, comes_to_watched, folder_of, holds};
 use crate::watched_folder::{Asked, NOTHING, WatchedFolder};
 use archive_core::Form;
 use command_core::{MemoryFolder, Task};
-use fixtures::files::with_sounds;
-use fixtures::projects::SPLICE;
+use part_examples::fixtures::files::with_sounds;
+use part_examples::fixtures::projects::SPLICE;
 use std::alloc::{AllocError, Global};
 
 /// The task that cuts the master of `e.toml` to `m.dff` and `c.cert`.

@@ -6,10 +6,10 @@ ghost use Rattle.chunk_core.specs.Inlets.{inlet_failures, inlet_given, inlet_rea
 use crate::streamed::{NEVER, Streamed, check_streamed, roomy};
 use archive_core::{play, play_stream};
 use chunk_core::{Inlet, Outlet};
-use fixtures::compared::equal;
-use fixtures::devices::{Dripping, Sipping, drip, sip};
-use fixtures::files::dsf_of;
-use fixtures::projects::DECIMATE;
+use part_examples::fixtures::compared::equal;
+use part_examples::fixtures::devices::{Dripping, Sipping, drip, sip};
+use part_examples::fixtures::files::dsf_of;
+use part_examples::fixtures::projects::DECIMATE;
 use std::alloc::{AllocError, Global};
 use std::process::Abort;
 use std::test::Fail;

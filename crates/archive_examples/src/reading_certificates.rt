@@ -5,7 +5,7 @@ use crate::builders::{CERT, CUES};
 use crate::folders::comes_to_watched;
 use crate::master_commands::{CHECK, folder_by};
 use crate::watched_folder::WatchedFolder;
-use fixtures::files::{changed, with_sounds};
+use part_examples::fixtures::files::{changed, with_sounds};
 use std::alloc::{AllocError, Global};
 
 // What is unusual, the master's sound, the byte of the certificate that is changed, how many of its 46 bytes come

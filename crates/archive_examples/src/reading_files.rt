@@ -3,8 +3,8 @@
 use crate::folders::folder_of;
 use crate::watched_folder::{NOTHING, WatchedFolder};
 use command_core::{read_files, read_whole};
-use fixtures::compared::equal;
 use folder_core::FileFault;
+use part_examples::fixtures::compared::equal;
 use std::alloc::{AllocError, Global};
 use std::io;
 use std::io::Read;

@@ -3,9 +3,11 @@
 use crate::played::{play_by, plays_built};
 use crate::streamed::is_named;
 use archive_core::StreamFault;
-use fixtures::files::{DSF_HEADER, FILE, MONO, RATE, RAW, WAVE, changed, file_of, one_bit};
-use fixtures::projects::{DECIMATE, Numbers, SPLICE, project};
-use fixtures::waves::sample;
+use part_examples::fixtures::files::{
+    DSF_HEADER, FILE, MONO, RATE, RAW, WAVE, changed, file_of, one_bit,
+};
+use part_examples::fixtures::projects::{DECIMATE, Numbers, SPLICE, project};
+use part_examples::fixtures::waves::sample;
 use std::alloc::{AllocError, Global};
 
 // Whether a project is refused with this fault, and nothing was read or written.

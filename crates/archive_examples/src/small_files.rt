@@ -5,15 +5,15 @@ use crate::played::{ONES, check_played, play_on, plays, plays_built, two_groups}
 use crate::streamed::NEVER;
 use archive_core::play;
 use chunk_core::Inlet;
-use fixtures::compared::equal;
-use fixtures::devices::{drip, sip};
-use fixtures::files::{
+use part_examples::fixtures::compared::equal;
+use part_examples::fixtures::devices::{drip, sip};
+use part_examples::fixtures::files::{
     FILE, ONES_FILE, RATE, RAW, STEREO, THREE, WAVE, file_of, followed, mono, noted, one_bit,
     with_sound,
 };
-use fixtures::projects;
-use fixtures::projects::{DECIMATE, Numbers, project};
-use fixtures::waves::{SAMPLES, THREE_CHANNELS, TWO_CHANNELS, WIDE, sample};
+use part_examples::fixtures::projects;
+use part_examples::fixtures::projects::{DECIMATE, Numbers, project};
+use part_examples::fixtures::waves::{SAMPLES, THREE_CHANNELS, TWO_CHANNELS, WIDE, sample};
 use std::alloc::{AllocError, Global};
 use std::test::Fail;
 

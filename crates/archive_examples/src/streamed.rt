@@ -1,7 +1,7 @@
 //! The result of playing or converting a reader's file to a writer.
 
 use archive_core::{Fault, StreamFault};
-use fixtures::devices::{Sipping, sip};
+use part_examples::fixtures::devices::{Sipping, sip};
 use std::alloc::{AllocError, Global};
 use std::process::Abort;
 use std::test::Fail;

@@ -7,7 +7,7 @@ use crate::folders::asks;
 use crate::master_commands::CHECK;
 use crate::watched_folder::{Asked, NOTHING};
 use command_core::MemoryFolder;
-use fixtures::files::with_sounds;
+use part_examples::fixtures::files::with_sounds;
 use std::alloc::{AllocError, Global};
 
 // A folder of a project, its takes, a master and a certificate.

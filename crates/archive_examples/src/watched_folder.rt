@@ -10,7 +10,8 @@ use std::io::{Cursor, ErrorKind, Read, Write};
 
 /// What fails: to `open`, `create` or `keep` the file with a name, or to `read` or `write` it after a number of bytes.
 /// If reading fails, files give seven bytes per read. Or what is unusual: files `drip`, one byte per read; or they
-/// `change`, each to the one that is named `changed`, after files were opened a number of times.
+/// `change`, each to the one that is named `changed`, after files were opened a number of times; or each is a `pipe`,
+/// which can't be opened again.
 pub(crate) type Failure = (&'static str, &'static str, usize);
 
 /// What fails, in words and as a failure, what is printed then, and exactly what the folder is asked for.
@@ -18,6 +19,9 @@ pub(crate) type Asked = (&'static str, Failure, &'static str, &'static str);
 
 /// Nothing fails.
 pub(crate) const NOTHING: Failure = ("", "", 0);
+
+/// Nothing fails, but no file can be opened again.
+pub(crate) const PIPES: Failure = ("pipe", "", 0);
 
 /// Files in memory, of whose bytes nothing is known.
 #[derive(Drop)]
@@ -140,6 +144,11 @@ impl Folder for WatchedFolder {
         self.steady = self.steady.saturating_sub(1);
         let bytes = self.files.open(name)?;
         Ok(WatchedInput { bytes, most, left })
+    }
+
+    fn reopens(&self, _name: &str) -> bool {
+        let (failing, _, _) = self.failure;
+        failing != "pipe"
     }
 
     fn create(&mut self, name: &str) -> Result<WatchedOutput, FolderFault> {

@@ -1,7 +1,9 @@
 -- What contracts see of a reader of certificates and of its results.
-use Rattle.std.specs.Prelude.{◌≡◌, ◌<◌, ℕ, Bool, List, length, Option, None, Some, Result, Ok, Err, ⊤, IfSome}
-use Rattle.chunk_core.specs.Inlets.{inlet_failures, inlet_reader}
+use Rattle.std.specs.Prelude.{◌≡◌, ◌<◌, ℕ, Bool, List, ◌++◌, length, Option, None, Some, Result, Ok, Err, ⊤, IfSome}
+use Rattle.chunk_core.specs.Inlets.{PullsBytes, inlet_failures, inlet_reader}
 use Rattle.chunk_core.specs.declared.inlet.Inlet.{Inlet}
+use Rattle.cost_core.specs.Bridges.{Bridging, bridge_cost}
+use Rattle.cost_core.specs.StateCosts.{trellis_of}
 use Rattle.cert_core.specs.declared.reader.CertReader.{CertReader}
 use Rattle.cert_core.specs.declared.verdict.CertReason.{CertReason}
 use Rattle.cert_core.specs.declared.verdict.CertReason.TheVariants.{Extra}
@@ -9,7 +11,10 @@ use Rattle.cert_core.specs.declared.verdict.CertVerdict.{CertVerdict}
 use Rattle.cert_core.specs.declared.verdict.CertVerdict.TheVariants.{Accepted, Rejected}
 use Rattle.cert_core.specs.declared.verdict.CheckFault.{CheckFault}
 use Rattle.cert_core.specs.declared.verdict.CheckFault.TheVariants.{Device, Memory}
+use Rattle.cert_core.specs.Entries.{BeginsValid, ReadsEntry}
 use Rattle.cert_core.specs.Reasons.{HeadReason}
+use Rattle.cert_core.specs.Stops.{InEntry}
+use Rattle.cert_core.specs.Text.{cert_head}
 use Rattle.cert_core.specs.declared.version.Version.{Version}
 
 -- the inlet itself
@@ -67,3 +72,23 @@ InHead weights entries known reason = IfSome known (λ bytes. HeadReason weights
 -- the reason is that bytes are left, if they are known
 abbrev pub InRest : Option (List ℕ) → CertReason → Type 0
 InRest known reason = (reason ≡ Extra) × IfSome known (λ bytes. 0 < length bytes)
+
+-- the head of a certificate for these numbers of weights and of entries was read, of the reader's version now
+abbrev pub ReadsHead : {R : Type 0} → (R → Option (List ℕ)) → CertReader R → CertReader R → ℕ → ℕ → Type 0
+ReadsHead left old new weights entries = PullsBytes left (cert_inlet old) (cert_inlet new) (cert_head (read_version new) weights entries)
+
+-- the bytes begin with such a head of no version
+abbrev pub HasNoHead : ℕ → ℕ → List ℕ → Type 0
+HasNoHead weights entries bytes = (v : Version) → (rest : List ℕ) → bytes ≡ cert_head v weights entries ++ rest → ⊥
+
+-- an entry of the reader's version was read, for a cue and a channel, with a table that is valid for a bridge's bits
+abbrev pub ReadsNext : {R : Type 0} → (R → Option (List ℕ)) → CertReader R → CertReader R → Bridging → ℕ → ℕ → List Bool → Type 0
+ReadsNext left old new d cue channel bits = ReadsEntry (read_version old) (trellis_of d) cue channel bits (left (inlet_reader (cert_inlet old))) (left (inlet_reader (cert_inlet new)))
+
+-- this is the first reason against such an entry in the bytes that are left, if they are known
+abbrev pub IsNextReason : {R : Type 0} → (R → Option (List ℕ)) → CertReader R → Bridging → ℕ → ℕ → List Bool → CertReason → Type 0
+IsNextReason left reader d cue channel bits reason = InEntry (read_version reader) (trellis_of d) cue channel (bridge_cost d bits) (left (inlet_reader (cert_inlet reader))) reason
+
+-- the bytes that are left, if they are known, don't begin with such an entry
+abbrev pub HasNoNext : {R : Type 0} → (R → Option (List ℕ)) → CertReader R → Bridging → ℕ → ℕ → List Bool → Type 0
+HasNoNext left reader d cue channel bits = IfLeft left reader (λ bytes. BeginsValid (read_version reader) (trellis_of d) cue channel bits bytes → ⊥)

@@ -1,5 +1,5 @@
 -- The first reason why bytes don't begin with an entry that shows bits to be least.
-use Rattle.std.specs.Prelude.{◌≡◌, ◌≢◌, ℕ, ◌+◌, ◌-◌, ◌^◌, ◌<◌, ◌≤◌, ◌⊎◌, Bool, List, ◌++◌, length, flat_map, slice_index_or}
+use Rattle.std.specs.Prelude.{◌≡◌, ◌≢◌, ℕ, ◌+◌, ◌-◌, ◌^◌, ◌<◌, ◌≤◌, ◌⊎◌, Bool, List, ◌++◌, length, flat_map, slice_index_or, Option, MatchOption}
 use Rattle.std.specs.Int.{w64, to_be_bytes}
 use Rattle.cost_core.specs.Trellis.{Trellis, states, next}
 use Rattle.cert_core.specs.declared.verdict.CertReason.{CertReason}
@@ -58,6 +58,10 @@ RowReason t level previous row (Row l) = ⊥
 RowReason t level previous row (End q) = ⊥
 RowReason t level previous row Cost = ⊥
 RowReason t level previous row Extra = ⊥
+
+-- what is wrong first with the row of a level, or none if nothing is
+abbrev pub FindsRowReason : Trellis → ℕ → List ℕ → List ℕ → Option CertReason → Type 0
+FindsRowReason t level previous row found = MatchOption found (RowClean t level previous row) (RowReason t level previous row)
 
 -- rows of the first levels, in which nothing is wrong
 pub record AreClean (t : Trellis) (rows : List (List ℕ)) : Type 0 where

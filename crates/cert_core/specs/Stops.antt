@@ -1,9 +1,12 @@
 -- Why the private steps of a reader stop before their end.
-use Rattle.std.specs.Prelude.{◌≡◌, ◌≢◌, ℕ, ◌+◌, ◌^◌, ◌<◌, ◌⊎◌, List, length, map, flat_map, slice_index_or, Option, Result, Ok, Err, ⊤, IfSome}
+use Rattle.std.specs.Prelude.{◌≡◌, ◌≢◌, ℕ, ◌+◌, ◌^◌, ◌<◌, ◌≤◌, ◌⊎◌, Bool, List, length, map, flat_map, slice_index_or, Option, Result, Ok, Err, ⊤, IfSome}
 use Rattle.std.specs.Io.KnownBytes.{Consumes}
 use Rattle.chunk_core.specs.Inlets.{inlet_reader}
 use Rattle.chunk_core.specs.declared.inlet.Inlet.{Inlet}
-use Rattle.cost_core.specs.Trellis.{Trellis}
+use Rattle.cost_core.specs.Bridges.{Bridging}
+use Rattle.cost_core.specs.StateCosts.{trellis_of}
+use Rattle.cost_core.specs.Trellis.{Trellis, cost, states}
+use Rattle.cert_core.specs.declared.entry.Place.{Place}
 use Rattle.cert_core.specs.declared.verdict.CertReason.{CertReason}
 use Rattle.cert_core.specs.declared.verdict.CertReason.TheVariants.{Cut, Bound, Row}
 use Rattle.cert_core.specs.declared.stop.Stop.{Stop}
@@ -12,6 +15,7 @@ use Rattle.cost_core.specs.Tables.{row_in}
 use Rattle.cert_core.specs.Spelling.{row_text, byte_width, floor, peak, IsTooWide}
 use Rattle.cert_core.specs.declared.version.Version.{Version}
 use Rattle.cert_core.specs.declared.version.Version.TheVariants.{Two}
+use Rattle.cert_core.specs.Entries.{ReadsEntry}
 use Rattle.cert_core.specs.Reasons.{StartReason, FirstReason, EndReason, AreClean, Bounded, ReasonInRow, SpellingReason}
 
 -- P holds of the reason, if there is one
@@ -68,3 +72,19 @@ InEntry v t cue channel found known reason = IfSome known (λ bytes. FirstReason
 -- clean rows of all levels were read, the last of which is `last`
 abbrev pub ReadsRows : Version → Trellis → Option (List ℕ) → Option (List ℕ) → List ℕ → Type 0
 ReadsRows v t old new last = (rows : List (List ℕ)) × Consumes old new (flat_map (row_text v) rows) × AreClean t rows × (length rows ≡ t.levels + 1) × (last ≡ row_in rows t.levels)
+
+-- an inlet returned such rows of a bridge
+abbrev pub PullsRows : {R : Type 0} → (R → Option (List ℕ)) → Inlet R → Inlet R → Version → Bridging → List ℕ → Type 0
+PullsRows left old new v d last = ReadsRows v (trellis_of d) (left (inlet_reader old)) (left (inlet_reader new)) last
+
+-- no value of the last row is below the cost, with the cost of ending there
+abbrev pub ReachesEnds : Trellis → List ℕ → ℕ → Type 0
+ReachesEnds t last cost = (q : ℕ) → q < states t → cost ≤ slice_index_or last q 0 + t.tail q
+
+-- an inlet returned the entry of a place, with a table that is valid for a bridge's bits
+abbrev pub PullsEntry : {R : Type 0} → (R → Option (List ℕ)) → Inlet R → Inlet R → Version → Bridging → Place → List Bool → Type 0
+PullsEntry left old new v d place bits = ReadsEntry v (trellis_of d) place.cue place.channel bits (left (inlet_reader old)) (left (inlet_reader new))
+
+-- known bytes have this reason first against such an entry
+abbrev pub AgainstEntry : Version → Bridging → Place → List Bool → Option (List ℕ) → CertReason → Type 0
+AgainstEntry v d place bits known reason = InEntry v (trellis_of d) place.cue place.channel (cost (trellis_of d) bits) known reason

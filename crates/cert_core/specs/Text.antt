@@ -1,5 +1,5 @@
 -- The text of a certificate, in bytes (`docs/CERTIFICATES.md`). Each number has its highest byte first.
-use Rattle.std.specs.Prelude.{ℕ, List, [], ◌∷◌, ◌++◌, length, flat_map}
+use Rattle.std.specs.Prelude.{◌≡◌, ◌≢◌, ℕ, List, [], ◌∷◌, ◌++◌, length, flat_map, Option, MatchOption}
 use Rattle.std.specs.Int.{w16, w32, w64, to_be_bytes}
 use Rattle.cert_core.specs.declared.version.Version.{Version}
 use Rattle.cert_core.specs.Spelling.{row_text, version_number}
@@ -27,3 +27,7 @@ cert_head v weights entries = (68 ∷ 83 ∷ 80 ∷ 67 ∷ []) ++ (to_be_bytes w
 -- a certificate: the head, and then its entries
 abbrev pub cert_text : Version → ℕ → List Entry → List ℕ
 cert_text v weights entries = cert_head v weights (length entries) ++ flat_map (cert_entry v) entries
+
+-- the version of the head that these bytes are, or none if they are that of no version
+abbrev pub FindsVersion : ℕ → ℕ → List ℕ → Option Version → Type 0
+FindsVersion weights entries bytes found = MatchOption found ((v : Version) → bytes ≢ cert_head v weights entries) (λ version. bytes ≡ cert_head version weights entries)

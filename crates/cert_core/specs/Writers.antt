@@ -1,9 +1,12 @@
 -- What contracts see of a writer of certificates, and in which order its calls come while it hasn't failed.
-use Rattle.std.specs.Prelude.{ℕ, ◌-◌, ◌^◌, Bool, true, false, List, Option, if◌then◌else◌}
+use Rattle.std.specs.Prelude.{ℕ, ◌-◌, ◌^◌, Bool, true, false, List, Option, Result, IsErrOf, if◌then◌else◌}
 use Rattle.chunk_core.specs.declared.outlet.Outlet.{Outlet}
-use Rattle.chunk_core.specs.Outlets.{Puts, PutsPart, outlet_failures}
+use Rattle.chunk_core.specs.Outlets.{Puts, PutsPart, PutsPrefix, outlet_failures}
+use Rattle.chunk_core.specs.declared.fused_outlet.FusedFault.{FusedFault}
+use Rattle.chunk_core.specs.declared.fused_outlet.FusedFault.TheVariants.{Device}
 use Rattle.cert_core.specs.declared.writer.CertWriter.{CertWriter}
 use Rattle.chunk_core.specs.FusedOutlets.{fused_outlet, fused_failed}
+use Rattle.cert_core.specs.Spelling.{row_text}
 use Rattle.cert_core.specs.Text.{cert_head}
 use Rattle.cert_core.specs.declared.version.Version.{Version}
 
@@ -18,6 +21,14 @@ Writes contents old new bytes = Puts contents (cert_outlet old) (cert_outlet new
 -- a prefix of these was written, and not all of them
 abbrev pub WritesSome : {W : Type 0} → (W → Option (List ℕ)) → CertWriter W → CertWriter W → List ℕ → Type 0
 WritesSome contents old new bytes = PutsPart contents (cert_outlet old) (cert_outlet new) bytes
+
+-- a prefix of these was written, perhaps all of them
+abbrev pub WritesUpTo : {W : Type 0} → (W → Option (List ℕ)) → CertWriter W → CertWriter W → List ℕ → Type 0
+WritesUpTo contents old new bytes = PutsPrefix contents (cert_outlet old) (cert_outlet new) bytes
+
+-- P holds if a write failed in this call
+abbrev pub OnDevice : {T : Type 0} → Result T FusedFault → Type 0 → Type 0
+OnDevice result P = IsErrOf result Device → P
 
 -- the number of writes that failed
 abbrev pub cert_failures : {W : Type 0} → CertWriter W → ℕ
@@ -89,3 +100,7 @@ is_open writer = writer.is_open
 -- the head of its certificate, with a number of entries
 abbrev pub writer_head : {W : Type 0} → CertWriter W → ℕ → List ℕ
 writer_head writer entries = cert_head (cert_version writer) (cert_weights writer) entries
+
+-- a row as its certificate has it
+abbrev pub writer_row : {W : Type 0} → CertWriter W → List ℕ → List ℕ
+writer_row writer row = row_text (cert_version writer) row

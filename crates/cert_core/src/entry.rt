@@ -7,9 +7,8 @@ ghost use Rattle.cost_core.specs.Trellis.{states, cost, IsBounded};
 ghost use Rattle.cost_core.specs.StateCosts.{trellis_of};
 ghost use Rattle.cost_core.specs.Limits.{IsBridging};
 ghost use Rattle.cert_core.specs.Text.{entry_start};
-ghost use Rattle.cert_core.specs.Entries.{ReadsEntry};
 ghost use Rattle.cert_core.specs.Reasons.{RowBounded};
-ghost use Rattle.cert_core.specs.Stops.{OnLeft, OnReason, failed_stops, CutBelow, InStart, InRows, InEnd, InEntry, ReadsRows};
+ghost use Rattle.cert_core.specs.Stops.{OnLeft, OnReason, failed_stops, AgainstEntry, CutBelow, InStart, InRows, InEnd, PullsEntry, PullsRows, ReachesEnds};
 
 use crate::filling::fill;
 use crate::numbers::{make_buffer, number_in, start_numbers};
@@ -79,8 +78,7 @@ fn read_rows<R: Read>(
     requires ready { inlet_failures inlet.old < 2 ^ 64 - 1 }
     requires steps { length steps.old ≡ 2 * states (trellis_of window.now) }
     ensures steps { length steps.new ≡ length steps.old }
-    ensures ok { IfOk result (λ last. ReadsRows version (trellis_of window.now) (R.remaining (inlet_reader inlet.old))
-        (R.remaining (inlet_reader inlet.new)) last.items) }
+    ensures ok { IfOk result (λ last. PullsRows R.remaining inlet.old inlet.new version window.now last.items) }
     ensures reason { OnLeft R.remaining inlet.old result (InRows version (trellis_of window.now)) }
     ensures failures { inlet_failures inlet.new ≡ inlet_failures inlet.old + failed_stops result }
 {
@@ -114,8 +112,7 @@ fn read_end<R: Read>(
     requires tails { length tails.old ≡ states (trellis_of window.now) }
     ensures ok { IfOk result (λ cost. PullsBytes R.remaining inlet.old inlet.new (to_be_bytes w64 cost)) }
     ensures cost { IfOk result (λ cost. cost ≡ found) }
-    ensures ends { IfOk result (λ cost. (q : ℕ) → q < states (trellis_of window.now)
-        → cost ≤ slice_index_or last.now q 0 + (trellis_of window.now).tail q) }
+    ensures ends { IfOk result (ReachesEnds (trellis_of window.now) last.now) }
     ensures reason { OnLeft R.remaining inlet.old result (InEnd (trellis_of window.now) last.now found) }
     ensures failures { inlet_failures inlet.new ≡ inlet_failures inlet.old + failed_stops result }
 {
@@ -148,10 +145,9 @@ pub(crate) fn read_entry<R: Read>(
     requires ready { inlet_failures inlet.old < 2 ^ 64 - 1 }
     requires bits { length bits.now ≡ window.now.levels }
     ensures limits { IsBridging window.now }
-    ensures entry { IfOk result (λ cost. ReadsEntry version (trellis_of window.now) place.cue place.channel bits.now
-        (R.remaining (inlet_reader inlet.old)) (R.remaining (inlet_reader inlet.new))) }
+    ensures entry { IfOk result (λ _. PullsEntry R.remaining inlet.old inlet.new version window.now place bits.now) }
     ensures cost { IfOk result (λ found. found ≡ cost (trellis_of window.now) bits.now) }
-    ensures reason { OnLeft R.remaining inlet.old result (InEntry version (trellis_of window.now) place.cue place.channel (cost (trellis_of window.now) bits.now)) }
+    ensures reason { OnLeft R.remaining inlet.old result (AgainstEntry version window.now place bits.now) }
     ensures failures { inlet_failures inlet.new ≡ inlet_failures inlet.old + failed_stops result }
 {
     read_start(inlet, place.cue, place.channel, window.length())?;

@@ -3,7 +3,7 @@
 ghost use Rattle.std.specs.Prelude.{◌≡◌, ◌≢◌, ◌*◌, ◌≤◌, length, IfOk, MatchOption};
 ghost use Rattle.std.specs.Int.{w32, w64, to_be_bytes};
 ghost use Rattle.cert_core.specs.Spelling.{row_text, version_number};
-ghost use Rattle.cert_core.specs.Text.{entry_start, cert_head};
+ghost use Rattle.cert_core.specs.Text.{FindsVersion, entry_start, cert_head};
 
 use crate::version::Version;
 use std::alloc::{AllocError, Global};
@@ -35,9 +35,7 @@ pub(crate) fn head_bytes(version: Version, weights: usize, entries: u32) -> [u8;
 /// The version whose header these twelve bytes are, if there is one.
 pub(crate) fn version_in(bytes: &[u8; 12], weights: usize, entries: u32) -> Option<Version>
     requires { weights ≤ 12 }
-    ensures { MatchOption result
-        ((v : Version) → bytes.now ≢ cert_head v weights entries)
-        (λ version. bytes.now ≡ cert_head version weights entries) }
+    ensures { FindsVersion weights entries bytes.now result }
 {
     if *bytes == head_bytes(Version::One, weights, entries) {
         return Some(Version::One);

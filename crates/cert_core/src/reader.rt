@@ -2,12 +2,8 @@
 
 ghost use Rattle.std.specs.Prelude.{◌≡◌, ◌+◌, ◌-◌, ◌^◌, ◌<◌, ◌≤◌, ◌++◌, List, ℕ, length, true, false, IfSome, IsErrOf};
 ghost use Rattle.std.specs.Io.KnownBytes.{IsAtEnd};
-ghost use Rattle.chunk_core.specs.Inlets.{PullsBytes, inlet_failures, inlet_reader};
-ghost use Rattle.cost_core.specs.StateCosts.{trellis_of};
+ghost use Rattle.chunk_core.specs.Inlets.{inlet_failures, inlet_reader};
 ghost use Rattle.cost_core.specs.Bridges.{bridge_cost, IsLeastBridge};
-ghost use Rattle.cert_core.specs.Text.{cert_head};
-ghost use Rattle.cert_core.specs.Entries.{BeginsValid, ReadsEntry};
-ghost use Rattle.cert_core.specs.Stops.{InEntry};
 
 use crate::entry::{Place, read_entry};
 use crate::numbers::version_in;
@@ -31,7 +27,7 @@ pub struct CertReader<R> {
 }
 
 impl<R: Read> CertReader<R> {
-    ghost use Rattle.cert_core.specs.Readers.{IfLeft, cert_inlet, check_failures, has_read_head, read_version, IfAccepted, IfRejected, failed_checks, IsWell, IfReason, InHead, InRest};
+    ghost use Rattle.cert_core.specs.Readers.{IfLeft, cert_inlet, check_failures, has_read_head, read_version, IfAccepted, IfRejected, failed_checks, IsWell, IfReason, InHead, InRest, ReadsHead, HasNoHead, ReadsNext, IsNextReason, HasNoNext};
 
     /// A reader that starts where the inlet is.
     pub fn new(inlet: Inlet<R>) -> CertReader<R>
@@ -69,13 +65,12 @@ impl<R: Read> CertReader<R> {
     ) -> Result<Option<CertReason>, CheckFault>
         requires ready { check_failures self.old < 2 ^ 64 - 1 }
         requires weights { weights ≤ 12 }
-        ensures none { IsWell result → PullsBytes R.remaining (cert_inlet self.old) (cert_inlet self.new) (cert_head (read_version self.new) weights entries) }
+        ensures none { IsWell result → ReadsHead R.remaining self.old self.new weights entries }
         ensures read { IsWell result → has_read_head self.new ≡ true }
 
         // If the bytes are known, this is their first reason, and they don't begin with the header.
         ensures reason { IfReason result (InHead weights entries (R.remaining (inlet_reader (cert_inlet self.old)))) }
-        ensures only { IfReason result (λ _. IfLeft R.remaining self.old
-            (λ bytes. (v : Version) → (rest : List ℕ) → bytes ≡ cert_head v weights entries ++ rest → ⊥)) }
+        ensures only { IfReason result (λ _. IfLeft R.remaining self.old (HasNoHead weights entries)) }
 
         // The answer is `Device` exactly if a read failed, and never `Memory`.
         ensures failures { check_failures self.new
@@ -126,17 +121,13 @@ impl<R: Read> CertReader<R> {
         requires bits { length bits.now ≡ window.now.levels }
 
         // Exactly one entry was read, whose table is valid for the bits.
-        ensures entry { IfAccepted result (λ _. ReadsEntry (read_version self.old)
-            (trellis_of window.now) cue channel bits.now (R.remaining (inlet_reader (cert_inlet self.old)))
-            (R.remaining (inlet_reader (cert_inlet self.new)))) }
+        ensures entry { IfAccepted result (λ _. ReadsNext R.remaining self.old self.new window.now cue channel bits.now) }
         ensures cost { IfAccepted result (λ cost. cost ≡ bridge_cost window.now bits.now) }
         ensures least { IfAccepted result (λ _. IsLeastBridge window.now bits.now) }
 
         // If the bytes are known, this is their first reason, and they begin with no such entry.
-        ensures reason { IfRejected result (InEntry (read_version self.old) (trellis_of window.now) cue channel
-            (bridge_cost window.now bits.now) (R.remaining (inlet_reader (cert_inlet self.old)))) }
-        ensures only { IfRejected result (λ _. IfLeft R.remaining self.old
-            (λ bytes. BeginsValid (read_version self.old) (trellis_of window.now) cue channel bits.now bytes → ⊥)) }
+        ensures reason { IfRejected result (IsNextReason R.remaining self.old window.now cue channel bits.now) }
+        ensures only { IfRejected result (λ _. HasNoNext R.remaining self.old window.now cue channel bits.now) }
 
         // The answer is `Device` exactly if a read failed.
         ensures failures { check_failures self.new

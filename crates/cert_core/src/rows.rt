@@ -6,7 +6,7 @@ ghost use Rattle.cost_core.specs.Trellis.{states, IsBounded};
 ghost use Rattle.cost_core.specs.StateCosts.{trellis_of};
 ghost use Rattle.cert_core.specs.TwoRows.{AllReach, ExceedsAt, IsLowEnd, WithinWays, reached_by, states_of};
 ghost use Rattle.cert_core.specs.Within.{IsFirstBelow};
-ghost use Rattle.cert_core.specs.Reasons.{RowBounded, RowClean, RowReason};
+ghost use Rattle.cert_core.specs.Reasons.{FindsRowReason, RowBounded};
 
 use crate::two_rows::TwoRows;
 use crate::verdict::CertReason;
@@ -142,9 +142,7 @@ pub(crate) fn row_reason(
     requires limit { 0 < level → RowBounded (trellis_of window.now) previous.now }
     requires steps { length steps.old ≡ 2 * states (trellis_of window.now) }
     ensures steps { length steps.new ≡ length steps.old }
-    ensures reason { MatchOption result
-        (RowClean (trellis_of window.now) level previous.now row.now)
-        (RowReason (trellis_of window.now) level previous.now row.now) }
+    ensures reason { FindsRowReason (trellis_of window.now) level previous.now row.now result }
 {
     if level == 0 {
         return if row[window.start()] == 0 {

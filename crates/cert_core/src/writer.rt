@@ -6,7 +6,6 @@ ghost use Rattle.chunk_core.specs.FusedOutlets.{failed_parts};
 ghost use Rattle.chunk_core.specs.Outlets.{outlet_failures};
 ghost use Rattle.cert_core.specs.Counting.{IsCounted};
 ghost use Rattle.cert_core.specs.Rooms.{room_weights};
-ghost use Rattle.cert_core.specs.Spelling.{row_text};
 ghost use Rattle.cert_core.specs.Text.{entry_start, cert_head};
 
 use crate::CertFault;
@@ -43,7 +42,7 @@ pub struct CertWriter<W> {
 }
 
 impl<W: Write> CertWriter<W> {
-    ghost use Rattle.cert_core.specs.Writers.{Stage, Writes, WritesSome, before_head, cert_failures, cert_outlet, entry_begun, writer_head, has_failed, cert_version, cert_weights, row_length, rows_left, stage, has_head, entries_left, is_open};
+    ghost use Rattle.cert_core.specs.Writers.{Stage, OnDevice, Writes, WritesSome, before_head, cert_failures, cert_outlet, entry_begun, writer_head, writer_row, has_failed, cert_version, cert_weights, row_length, rows_left, stage, has_head, entries_left, is_open};
 
     /// A writer of this version for bridges by `weights` weights, which has written nothing. Err is out of memory, and
     /// gives the outlet back.
@@ -73,15 +72,7 @@ impl<W: Write> CertWriter<W> {
         requires ready { outlet_failures outlet < 2 ^ 64 - 1 }
         ensures outlet { cert_outlet result ≡ outlet }
         ensures failed { has_failed result ≡ false }
-        ensures stage { stage result ≡ record {
-          version = version;
-          weights = room_weights
-              room;
-          has_head = false;
-          entries_left = 0;
-          is_open = false;
-          failures = outlet_failures outlet;
-        } }
+        ensures stage { stage result ≡ before_head version (room_weights room) (outlet_failures outlet) }
         ensures rows { rows_left result ≡ 0 }
     {
         let failures = outlet.failures();
@@ -108,9 +99,7 @@ impl<W: Write> CertWriter<W> {
         requires head { has_failed self.old ≡ false → has_head self.old ≡ false }
         ensures ok { OnOk result (Writes W.contents self.old self.new
             (writer_head self.old entries)) }
-        ensures device { IsErrOf result CertFault.Device
-            → WritesSome W.contents self.old self.new
-            (writer_head self.old entries) }
+        ensures device { OnDevice result (WritesSome W.contents self.old self.new (writer_head self.old entries)) }
         ensures failed { IsErrOf result CertFault.Failed ↔ (has_failed self.old ≡ true) }
         ensures unchanged { IsErrOf result CertFault.Failed → self.new ≡ self.old }
         ensures failures { cert_failures self.new
@@ -135,8 +124,7 @@ impl<W: Write> CertWriter<W> {
         requires entries { has_failed self.old ≡ false → 0 < entries_left self.old }
         requires open { has_failed self.old ≡ false → is_open self.old ≡ false }
         ensures ok { OnOk result (Writes W.contents self.old self.new (entry_start cue channel length)) }
-        ensures device { IsErrOf result CertFault.Device
-            → WritesSome W.contents self.old self.new (entry_start cue channel length) }
+        ensures device { OnDevice result (WritesSome W.contents self.old self.new (entry_start cue channel length)) }
         ensures failed { IsErrOf result CertFault.Failed ↔ (has_failed self.old ≡ true) }
         ensures unchanged { IsErrOf result CertFault.Failed → self.new ≡ self.old }
         ensures failures { cert_failures self.new
@@ -159,9 +147,8 @@ impl<W: Write> CertWriter<W> {
     pub fn level(&mut self, row: &[u64]) -> Result<(), CertFault>
         requires rows { has_failed self.old ≡ false → 0 < rows_left self.old }
         requires row { length row.now ≡ row_length self.old }
-        ensures ok { OnOk result (Writes W.contents self.old self.new (row_text (cert_version self.old) row.now)) }
-        ensures device { IsErrOf result CertFault.Device
-            → WritesSome W.contents self.old self.new (row_text (cert_version self.old) row.now) }
+        ensures ok { OnOk result (Writes W.contents self.old self.new (writer_row self.old row.now)) }
+        ensures device { OnDevice result (WritesSome W.contents self.old self.new (writer_row self.old row.now)) }
         ensures failed { IsErrOf result CertFault.Failed ↔ (has_failed self.old ≡ true) }
         ensures unchanged { IsErrOf result CertFault.Failed → self.new ≡ self.old }
         ensures failures { cert_failures self.new
@@ -185,8 +172,7 @@ impl<W: Write> CertWriter<W> {
         requires open { has_failed self.old ≡ false → is_open self.old ≡ true }
         requires rows { has_failed self.old ≡ false → rows_left self.old ≡ 0 }
         ensures ok { OnOk result (Writes W.contents self.old self.new (to_be_bytes w64 cost)) }
-        ensures device { IsErrOf result CertFault.Device
-            → WritesSome W.contents self.old self.new (to_be_bytes w64 cost) }
+        ensures device { OnDevice result (WritesSome W.contents self.old self.new (to_be_bytes w64 cost)) }
         ensures failed { IsErrOf result CertFault.Failed ↔ (has_failed self.old ≡ true) }
         ensures unchanged { IsErrOf result CertFault.Failed → self.new ≡ self.old }
         ensures failures { cert_failures self.new

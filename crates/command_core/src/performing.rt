@@ -16,32 +16,32 @@ use archive_core::{Form, Verdict};
 use folder_core::Folder;
 use std::alloc::Global;
 use transfer_commands::{
-    CommandFault, MOST_KEPT, Reported, convert_file, open_file, play_file, play_part_file,
-    source_excerpts,
+    CommandFault, Reported, convert_file, open_file, play_file, play_part_file, source_excerpts,
 };
 use words_core::Task;
 
 /// Does a command over the files of a folder, and returns its outcome: the first fault, if there is one.
 ///
 /// Files are opened in the order in which the command names them, and a project's takes after it by their numbers. Each
-/// is read whole before the next is opened, and a file is created only once the call has an answer, except as follows:
+/// is read to its end before the next is opened, and a file is created only once the call has an answer, except as
+/// follows:
 ///
 /// - `Edit`: The master is made while it is written. All memory that this needs is reserved before the master is
 ///   created. Its certificate is created once the master is complete.
 /// - `Play`: The recording is opened and the WAVE file created. Then the one is read and the other written, piece by
 ///   piece.
 /// - `PlayPart`: The recording is read through as for `Info`, to find the part. Then it is played as by `Play`, and
-///   what lies before the part is dropped.
-/// - `Check`, and recordings and takes of 2 MiB or more: see below.
+///   what lies before the part is dropped. One that can't be opened again is played in the same opening.
+/// - `Convert` and `Check`: see below.
 ///
 /// `Check` reads a master once, and its certificate while the master is judged. Both are read to their ends, whatever
 /// the verdict is. Of the master only a few blocks and the bits of its bridges are held, of the certificate two rows
 /// and a block.
 ///
-/// A recording for `Convert` or `Info`, and a take, is read whole only if it has fewer than 2 MiB. A larger one is
-/// opened again and read in one pass without its sound; of a take the bits that cues and bridges read are kept. If it
-/// holds no recording, it is opened a third time and read whole, so that the fault can be named. To convert it, it is
-/// opened once more, the other file is created, and the one is read and the other written block by block.
+/// A recording for `Convert` or `Info`, and a take, is read in one pass without its sound, and refused for its first
+/// fault; of a take the bits that cues and bridges read are kept. To convert it, it is opened once more, the other file
+/// is created, and the one is read and the other written block by block. A recording for `Convert` that can't be opened
+/// again, as a pipe, is held whole instead.
 ///
 /// After a fault of playing, or of such a conversion, the file that was created may hold a prefix of what was due. It
 /// never replaces an old file if the folder keeps old files.
@@ -65,7 +65,7 @@ pub fn perform<F: Folder>(alloc: Global, task: Task, folder: &mut F) -> Outcome
             form,
             input,
             output,
-        } => converted(convert_file(alloc, folder, form, input, output, MOST_KEPT)),
+        } => converted(convert_file(alloc, folder, form, input, output)),
         Task::Edit {
             form,
             project,

@@ -1,5 +1,5 @@
 -- The room that a bridge needs, and which part of it is missing first.
-use Rattle.std.specs.Prelude.{ℕ, ◌+◌, ◌^◌, ◌≤◌, Bool, List, length, Option, Some, None, nat_lt, if◌then◌else◌}
+use Rattle.std.specs.Prelude.{◌≡◌, ℕ, ◌+◌, ◌^◌, ◌≤◌, Bool, List, length, Option, Some, None, Result, MatchResult, nat_lt, if◌then◌else◌}
 use Rattle.splice_core.specs.Splices.{SpliceContent}
 use Rattle.cost_core.specs.declared.fault.RoomFault.{RoomFault}
 use Rattle.cost_core.specs.declared.fault.RoomFault.TheVariants as rooms
@@ -40,3 +40,7 @@ abbrev pub named_room : WindowFault → Option RoomFault
 named_room NoRoomBefore = Some rooms.NoRoomBefore
 named_room NoRoomAfter = Some rooms.NoRoomAfter
 named_room Memory = None
+
+-- nothing is missing if a call succeeded, and otherwise what its fault names
+abbrev pub NamesMissing : {T E : Type 0} → (E → Option RoomFault) → Result T E → Option RoomFault → Type 0
+NamesMissing named result missing = MatchResult result (λ _. missing ≡ None) (λ fault. missing ≡ named fault)

@@ -3,6 +3,7 @@ use Rattle.std.specs.Prelude.{ℕ, ◌+◌, ◌-◌, Bool, List, length, slice_r
 use Rattle.splice_core.specs.Cues.{CueContent}
 use Rattle.splice_core.specs.Splices.{SpliceContent}
 use Rattle.splice_core.specs.declared.cue.Target.TheVariants as targets
+use Rattle.cost_core.specs.declared.seam.Seam.{Seam}
 use Rattle.cost_core.specs.Bridges.{Bridging}
 use Rattle.cost_core.specs.Targets.{targets_of}
 
@@ -27,6 +28,10 @@ bridging_at splice i a stop b start =
       following = slice_range b start (start + width);
       targets = targets_of cue.target splice.weights a stop b start cue.bridge;
     }
+
+-- the bridge after cue i over a seam
+abbrev pub bridging_over : SpliceContent → ℕ → Seam → Bridging
+bridging_over splice i seam = bridging_at splice i seam.own.now seam.stop seam.next.now seam.start
 
 -- the bridge after cue i by that cue's target, from its take a to the take b of the next cue
 abbrev pub bridging : SpliceContent → ℕ → List Bool → List Bool → Bridging

@@ -2,7 +2,7 @@
 
 ghost use Rattle.std.specs.Prelude.{◌≡◌, ◌+◌, ◌*◌, ◌-◌, ◌<◌, ◌≤◌, length, pos, ◌+ℤ◌, ◌*ℤ◌, unsigned_abs, IfOk};
 ghost use Rattle.cost_core.specs.Limits.{CanFade};
-ghost use Rattle.cost_core.specs.Fade as fades;
+ghost use Rattle.cost_core.specs.Fade.{fade_over, targets_over};
 
 use crate::seam::Seam;
 use crate::sums::{blend, scale, weighted_at};
@@ -13,8 +13,7 @@ fn fade_at(weights: &[i32], seam: Seam<'_>, levels: usize, i: usize) -> i32
     requires room { CanFade weights.now seam.own.now seam.stop seam.next.now seam.start levels }
     requires first { 1 ≤ i }
     requires last { i < levels + length weights.now }
-    ensures { result ≡ fades.fade weights.now seam.entry.own.now seam.entry.stop seam.entry.next.now seam.entry.start
-        levels i }
+    ensures { result ≡ fade_over weights.now seam.entry levels i }
 {
     let Seam {
         own,
@@ -42,8 +41,7 @@ pub(crate) fn fade_targets(
     levels: usize,
 ) -> Result<Vec<i32>, AllocError>
     requires { CanFade weights.now seam.own.now seam.stop seam.next.now seam.start levels }
-    ensures { IfOk result (λ made. made.items ≡ fades.fade_targets weights.now seam.entry.own.now seam.entry.stop
-        seam.entry.next.now seam.entry.start levels) }
+    ensures { IfOk result (λ made. made.items ≡ targets_over weights.now seam.entry levels) }
 {
     (1..levels + weights.len())
         .map(|i| fade_at(weights, seam, levels, i))

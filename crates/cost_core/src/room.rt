@@ -1,8 +1,8 @@
 //! The room that a bridge needs in the takes.
 
-ghost use Rattle.std.specs.Prelude.{◌≡◌, ◌+◌, ◌<◌, ◌≤◌, length, IsOk, MatchResult, None, OnOk, Some};
+ghost use Rattle.std.specs.Prelude.{◌≡◌, ◌+◌, ◌<◌, ◌≤◌, length, IsOk, OnOk, Some};
 ghost use Rattle.splice_core.specs.Splices.{splice_content};
-ghost use Rattle.cost_core.specs.Faults.{HasRoom, missing_room, reach_at};
+ghost use Rattle.cost_core.specs.Faults.{HasRoom, NamesMissing, missing_room, reach_at};
 ghost use Rattle.cost_core.specs.Targets.{reach_of};
 
 use crate::fault::RoomFault;
@@ -21,8 +21,7 @@ pub fn has_room(splice: &Splice, cue: usize, count: usize) -> Result<(), RoomFau
     ensures only { HasRoom (splice_content splice.now) cue count → IsOk result }
 
     // Which fault it is: the first room that is lacking.
-    ensures order { MatchResult result (λ _. missing_room (splice_content splice.now) cue count ≡ None)
-        (λ fault. missing_room (splice_content splice.now) cue count ≡ Some fault) }
+    ensures order { NamesMissing (λ fault. Some fault) result (missing_room (splice_content splice.now) cue count) }
 {
     let here = &splice.cues[cue];
     let (before, after) = reach_at(splice, cue);

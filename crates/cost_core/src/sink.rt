@@ -1,8 +1,8 @@
 //! A sink for the rows of a table of bounds, one level at a time.
 
-ghost use Rattle.std.specs.Prelude.{◌≡◌, ℕ, ◌+◌, ◌<◌, Bool, true, false, Option, List, length, IsSome, OnOk, OnErr, MatchResult};
+ghost use Rattle.std.specs.Prelude.{◌≡◌, ℕ, ◌+◌, ◌<◌, Bool, true, false, Option, List, length, IsSome, OnOk, OnErr};
 ghost use Rattle.std.specs.Io.KnownBytes.{Appends};
-ghost use Rattle.cost_core.specs.Sinks.{GrowsByPrefix};
+ghost use Rattle.cost_core.specs.Sinks.{GrowsByPrefix, IsErrFlag};
 
 use thiserror::Error;
 
@@ -48,8 +48,7 @@ pub trait LevelSink {
         ensures telling { IsSome (text self.old) → IsSome (text self.new) }
         ensures ok { OnOk result (Appends (text self.old) (text self.new) (spelling (kind self.old) row.now)) }
         ensures err { OnErr result (GrowsByPrefix (text self.old) (text self.new) (spelling (kind self.old) row.now)) }
-        ensures refused { has_refused self.old ≡ false
-            → MatchResult result (λ _. has_refused self.new ≡ false) (λ _. has_refused self.new ≡ true) };
+        ensures refused { has_refused self.old ≡ false → IsErrFlag result (has_refused self.new) };
 
     /// Whether a row was refused.
     fn refused(&self) -> bool

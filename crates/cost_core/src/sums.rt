@@ -6,7 +6,7 @@ ghost use Rattle.dsd_bits.specs.Sums.{sign};
 ghost use Rattle.splice_core.specs.Cues.{AreWeights};
 ghost use Rattle.cost_core.specs.Limits.{greatest_step, greatest_sum};
 ghost use Rattle.cost_core.specs.Trellis.{state_after};
-ghost use Rattle.cost_core.specs.Weighted.{weighted, weighted_code, square};
+ghost use Rattle.cost_core.specs.Weighted.{AddsSquares, AreSquares, scaled_table, square, weighted, weighted_code};
 
 use dsd_bits::Bits;
 use std::alloc::{AllocError, Global};
@@ -85,8 +85,7 @@ pub(crate) fn squared_differences(sums: &[i32], other: i32, squares: &mut [u64])
     requires sums { (k : ℕ) → k < length sums.now → unsigned_abs (slice_index_or sums.now k (pos 0)) ≤ greatest_sum }
     requires other { unsigned_abs other ≤ greatest_sum }
     requires as_many { length squares.old ≡ length sums.now }
-    ensures { (k : ℕ) → k < length sums.now
-        → slice_index squares.new k ≡ square (slice_index_or sums.now k (pos 0) -ℤ other) }
+    ensures { AreSquares sums.now other squares.new }
 {
     for i in 0..squares.len() {
         squares[i] = squared_difference(sums[i], other);
@@ -109,9 +108,7 @@ pub(crate) fn add_squared_differences(
     requires other { unsigned_abs other ≤ greatest_sum }
     requires short { length row.old ≤ 2048 }
     requires row { (k : ℕ) → k < length row.old → slice_index row.old k ≤ 2 ^ 62 }
-    ensures { (k : ℕ) → k < length row.old
-        → slice_index row.new k ≡ slice_index row.old k
-        + square (slice_index_or sums.now ((k * 2 ^ shift + first) % length sums.now) (pos 0) -ℤ other) }
+    ensures { AddsSquares sums.now first shift other row.old row.new }
 {
     let last = sums.len() - 1;
     for k in 0..row.len() {
@@ -127,9 +124,7 @@ pub(crate) fn scaled_sums(
 ) -> Result<Vec<i32>, AllocError>
     requires weights { AreWeights weights.now }
     requires levels { levels ≤ 4096 }
-    ensures { IfOk result (λ made. made.items
-        ≡ map (λ code. pos (levels + 1) *ℤ weighted_code weights.now code)
-        (range_with_len 0 (2 ^ length weights.now))) }
+    ensures { IfOk result (λ made. made.items ≡ scaled_table weights.now levels) }
 {
     (0..1 << weights.len())
         .map(|code| scale(levels, weigh(weights, code)))

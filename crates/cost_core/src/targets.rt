@@ -3,7 +3,7 @@
 ghost use Rattle.std.specs.Prelude.{◌≡◌, ◌+◌, ◌<◌, length, IfOk};
 ghost use Rattle.splice_core.specs.Splices.{splice_content};
 ghost use Rattle.cost_core.specs.Faults.{CanBridge};
-ghost use Rattle.cost_core.specs.Windows.{bridging_at};
+ghost use Rattle.cost_core.specs.Windows.{bridging_over};
 
 use crate::fading::fade_targets;
 use crate::line::line_targets;
@@ -20,9 +20,7 @@ pub(crate) fn targets_after(
 ) -> Result<Vec<i32>, AllocError>
     requires cues { cue + 1 < length (splice_content splice.now).cues }
     requires room { CanBridge (splice_content splice.now) cue seam.own.now seam.stop seam.next.now seam.start }
-    ensures { IfOk result (λ made. made.items
-        ≡ (bridging_at (splice_content splice.now) cue seam.entry.own.now seam.entry.stop seam.entry.next.now
-        seam.entry.start).targets) }
+    ensures { IfOk result (λ made. made.items ≡ (bridging_over (splice_content splice.now) cue seam.entry).targets) }
 {
     let weights = splice.weights.as_slice();
     let levels = splice.cues[cue].bridge;

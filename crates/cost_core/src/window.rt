@@ -1,13 +1,13 @@
 //! The window of a bridge.
 
-ghost use Rattle.std.specs.Prelude.{◌≡◌, ◌+◌, ◌*◌, ◌^◌, ◌<◌, ◌≤◌, length, IfOk, OnOk, IsOkUnless, MatchResult, None};
+ghost use Rattle.std.specs.Prelude.{◌≡◌, ◌+◌, ◌*◌, ◌^◌, ◌<◌, ◌≤◌, length, IfOk, OnOk, IsOkUnless};
 ghost use Rattle.splice_core.specs.Splices.{splice_content};
 ghost use Rattle.cost_core.specs.Trellis.{states, cost, IsBounded};
 ghost use Rattle.cost_core.specs.Bridges.{bridge_cost};
 ghost use Rattle.cost_core.specs.StateCosts.{step_of, step_row, tail_row, trellis_of};
-ghost use Rattle.cost_core.specs.Windows.{bridging, bridging_at, splice_cue};
+ghost use Rattle.cost_core.specs.Windows.{bridging, bridging_over, splice_cue};
 ghost use Rattle.cost_core.specs.Limits.{IsBridging, greatest_step};
-ghost use Rattle.cost_core.specs.Faults.{HasRoom, CanBridge, missing_room, named_room};
+ghost use Rattle.cost_core.specs.Faults.{HasRoom, CanBridge, NamesMissing, missing_room, named_room};
 
 use crate::fault::WindowFault;
 use crate::room::has_room;
@@ -71,8 +71,7 @@ impl Window {
         ensures only { HasRoom (splice_content splice.now) cue (length own.now) → IsOkUnless result WindowFault.Memory }
 
         // Which fault it is: the first room that is lacking.
-        ensures order { MatchResult result (λ _. missing_room (splice_content splice.now) cue (length own.now) ≡ None)
-            (λ fault. missing_room (splice_content splice.now) cue (length own.now) ≡ named_room fault) }
+        ensures order { NamesMissing named_room result (missing_room (splice_content splice.now) cue (length own.now)) }
     {
         has_room(splice, cue, own.len())?;
         let stop = splice.cues[cue].stop;
@@ -95,9 +94,7 @@ impl Window {
     ) -> Result<Window, AllocError>
         requires cues { cue + 1 < length (splice_content splice.now).cues }
         requires room { CanBridge (splice_content splice.now) cue seam.own.now seam.stop seam.next.now seam.start }
-        ensures { IfOk result (λ window. window
-            ≡ bridging_at (splice_content splice.now) cue seam.entry.own.now seam.entry.stop seam.entry.next.now
-            seam.entry.start) }
+        ensures { IfOk result (λ window. window ≡ bridging_over (splice_content splice.now) cue seam.entry) }
     {
         let Seam {
             own,

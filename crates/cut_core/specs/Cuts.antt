@@ -4,7 +4,7 @@ use Rattle.std.specs.List.{range_with_len, sum_by}
 use Rattle.dsd_bits.specs.Channels.{count_of}
 use Rattle.dsd_bits.specs.Contents.{Content}
 use Rattle.dsd_bits.specs.Stretches.{silent}
-use Rattle.splice_core.specs.Cues.{CueContent}
+use Rattle.splice_core.specs.Cues.{CueContent, IsCueWithin}
 use Rattle.splice_core.specs.Splices.{SpliceContent}
 use Rattle.cost_core.specs.Bridges.{Bridging}
 use Rattle.cost_core.specs.Windows as fades
@@ -44,6 +44,14 @@ cut_with splice takes =
 -- cue i; past the last one an empty cue
 abbrev pub cue_at : CutContent → ℕ → CueContent
 cue_at cut i = fades.splice_cue cut.splice i
+
+-- the number of bits of cue i
+abbrev pub cue_length : CutContent → ℕ → ℕ
+cue_length cut i = (cue_at cut i).stop - (cue_at cut i).start
+
+-- a cue is within the limits of a splice
+abbrev pub IsCueOf : SpliceContent → CueContent → Type 0
+IsCueOf splice cue = IsCueWithin (length splice.weights) (length splice.takes) cue
 
 -- the number of channels of the takes, and so of the master
 abbrev pub take_channels : CutContent → ℕ

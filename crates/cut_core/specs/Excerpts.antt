@@ -103,6 +103,14 @@ stop_in splice i = (splice_cue splice i).stop - excerpt_start splice i
 abbrev pub excerpts_at : List ExcerptsContent → ℕ → ExcerptsContent
 excerpts_at hs i = slice_index_or hs i (record { recording = take_at [] 0; count = 0; stretches = [] })
 
+-- what was read of the take of cue i
+abbrev pub excerpts_of_cue : SpliceContent → List Excerpts → ℕ → ExcerptsContent
+excerpts_of_cue splice hs i = excerpts_at (map excerpts_content hs) (splice_cue splice i).take
+
+-- the shape of the take of cue i
+abbrev pub cue_shape : SpliceContent → List Excerpts → ℕ → TakeShape
+cue_shape splice hs i = shape_of_cue splice (excerpts_shapes hs) i
+
 -- what was read for cue i, by channel
 abbrev pub stretches_at : SpliceContent → List ExcerptsContent → ℕ → List (List Bool)
 stretches_at splice hs i = slice_index_or (excerpts_at hs (splice_cue splice i).take).stretches i []

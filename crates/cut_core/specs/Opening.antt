@@ -1,6 +1,6 @@
 -- The takes of a splice, opened: what is required of their files, and the reading in order, to the cut or the first
 -- fault.
-use Rattle.std.specs.Prelude.{◌≡◌, ℕ, zero, suc, ◌-◌, ◌%◌, ◌^◌, ◌==◌, ◌&&◌, Bool, true, false, List, [], ◌∷◌, ◌++◌, Result, Ok, Err, Option, Some, Vec, length, map, nat_le, slice_index_or, ⊤}
+use Rattle.std.specs.Prelude.{◌≡◌, ℕ, zero, suc, ◌-◌, ◌%◌, ◌^◌, ◌==◌, ◌&&◌, Bool, true, false, List, [], ◌∷◌, ◌++◌, ◌+◌, Result, Ok, Err, Option, Some, Vec, length, map, nat_le, slice_index_or, ⊤}
 use Rattle.std.specs.declared.alloc.Global.{Global}
 use Rattle.std.specs.List.{AllZip}
 use Rattle.chunk_core.specs.Steps.{◌>>=◌}
@@ -9,7 +9,7 @@ use Rattle.dsd_bits.specs.Shape.{HasShape}
 use Rattle.splice_core.specs.Splices.{SpliceContent}
 use Rattle.form_core.specs.Forms.{HoldsSome}
 use Rattle.form_core.specs.Opening.{opened_of}
-use Rattle.form_core.specs.Steps.{FailsUnless, map_err}
+use Rattle.form_core.specs.Steps.{FailsUnless, GivesUnless, map_err}
 use Rattle.form_core.specs.declared.fault.ReadFault.{ReadFault}
 use Rattle.form_core.specs.declared.fault.ReadFault.TheVariants as reads
 use Rattle.form_core.specs.declared.form.Form.{Form}
@@ -88,6 +88,14 @@ alike_at shapes i = required ((shape_at shapes i).rate == (shape_at shapes 0).ra
 abbrev pub inside_at : SpliceContent → List TakeShape → ℕ → Result ⊤ CutFault
 inside_at splice shapes i = required (nat_le (splice_cue splice i).stop (shape_of_cue splice shapes i).count) (CueOutside i)
 
+-- each cue ends within its take, or the first that doesn't
+abbrev pub all_inside : SpliceContent → List TakeShape → Result ⊤ CutFault
+all_inside splice shapes = each_before (length splice.cues) (inside_at splice shapes)
+
+-- each bridge has room, or the first room that is missing
+abbrev pub all_have_room : SpliceContent → List TakeShape → Result ⊤ CutFault
+all_have_room splice shapes = each_before (length splice.cues - 1) (room_at splice shapes)
+
 -- the channels of a file of the form, if one is given, end with a whole byte
 abbrev pub whole_in : Option Form → SpliceContent → Bool
 whole_in (Some Dsdiff) splice = master_length splice.cues % 8 == 0
@@ -140,3 +148,28 @@ IsOfTakes splice n (Err fault) = ⊤
 abbrev pub ReturnsAllExcerpts : SpliceContent → Result (Vec Excerpts Global) CutFault → Result (List Content) CutFault → Type 0
 ReturnsAllExcerpts splice (Ok hs) steps = (takes : List Content) × (steps ≡ Ok takes) × AreExcerpts splice takes hs.items
 ReturnsAllExcerpts splice (Err fault) steps = FailsUnless Memory fault steps
+
+-- a call read what the splice reads of the takes that files hold, or returned their first fault, unless memory ran out
+abbrev pub ReturnsTakes : SpliceContent → List (List ℕ) → Result (Vec Excerpts Global) CutFault → Type 0
+ReturnsTakes splice files result = ReturnsAllExcerpts splice result (takes_of splice files)
+
+-- the cut that the steps return was returned, or their fault, unless memory ran out
+abbrev pub GivesCut : Result CutContent CutFault → Result CutContent CutFault → Type 0
+GivesCut result steps = GivesUnless Memory (λ cut. cut) result steps
+
+-- the cut of each list of takes of which this was read was returned, or its first fault, unless memory ran out
+abbrev pub GivesCutOf : Option Form → SpliceContent → List Excerpts → Result CutContent CutFault → Type 0
+GivesCutOf form splice hs result = (whole : List Content) → AreExcerpts splice whole hs → GivesCut result (cut_from form splice whole)
+
+-- if something was read of the takes of some files, and something of the file after them, both together are what was
+-- read of all, up to the first fault
+abbrev pub AddsExcerpts : Result (Vec Excerpts Global) CutFault → Result Excerpts CutFault → Result (Vec Excerpts Global) CutFault → Type 0
+AddsExcerpts takes next result = (splice : SpliceContent) (files : List (List ℕ)) (file : List ℕ)
+    → ReturnsAllExcerpts splice takes (takes_before files (length files))
+    → ReturnsExcerpts splice (length files) next (take_in (length files) file)
+    → ReturnsAllExcerpts splice result (takes_before (files ++ file ∷ []) (length files + 1))
+
+-- if something was read of the first n takes, and something of the take of number n, both together are of the first
+-- n + 1 takes
+abbrev pub AddsTake : Result (Vec Excerpts Global) CutFault → Result Excerpts CutFault → Result (Vec Excerpts Global) CutFault → Type 0
+AddsTake takes next result = (splice : SpliceContent) (n : ℕ) → IsOfTakes splice n takes → IsOfTake splice n next → IsOfTakes splice (n + 1) result

@@ -1,11 +1,11 @@
 //! The cues of a splice, and the bits that were read for them from their takes.
 
 ghost use Rattle.std.specs.Prelude.{◌≡◌, ◌+◌, ◌^◌, ◌<◌, ◌≤◌, length, map};
-ghost use Rattle.splice_core.specs.Cues.{IsCueWithin, cue_content};
+ghost use Rattle.splice_core.specs.Cues.{cue_content};
 ghost use Rattle.splice_core.specs.Splices.{splice_content};
 ghost use Rattle.cost_core.specs.Windows as fades;
-ghost use Rattle.cut_core.specs.Cuts.{span};
-ghost use Rattle.cut_core.specs.Excerpts.{HasStretch, excerpts_at, excerpts_content, excerpts_shape, excerpts_shapes, shape_of_cue, stretch_at};
+ghost use Rattle.cut_core.specs.Cuts.{IsCueOf, span};
+ghost use Rattle.cut_core.specs.Excerpts.{HasStretch, cue_shape, excerpts_content, excerpts_of_cue, excerpts_shape, stretch_at};
 
 use crate::excerpts::Excerpts;
 use dsd_bits::Bits;
@@ -24,8 +24,7 @@ pub(crate) fn cue_number(splice: &Splice) -> usize
 pub(crate) fn cue_at(splice: &Splice, number: usize) -> &Cue
     requires { number < length (splice_content splice.now).cues }
     ensures value { cue_content result.now ≡ fades.splice_cue (splice_content splice.now) number }
-    ensures fits { IsCueWithin (length (splice_content splice.now).weights) (length (splice_content splice.now).takes)
-        (cue_content result.now) }
+    ensures fits { IsCueOf (splice_content splice.now) (cue_content result.now) }
 {
     &splice.cues[number]
 }
@@ -44,10 +43,8 @@ pub(crate) fn span_at(splice: &Splice, number: usize) -> usize
 pub(crate) fn take_of<'a>(splice: &Splice, takes: &'a [Excerpts], cue: usize) -> &'a Excerpts
     requires cue { cue < length (splice_content splice.now).cues }
     requires takes { length takes.now ≡ length (splice_content splice.now).takes }
-    ensures excerpts { excerpts_content result.now
-        ≡ excerpts_at (map excerpts_content takes.now) (fades.splice_cue (splice_content splice.now) cue).take }
-    ensures shape { excerpts_shape (excerpts_content result.now)
-        ≡ shape_of_cue (splice_content splice.now) (excerpts_shapes takes.now) cue }
+    ensures excerpts { excerpts_content result.now ≡ excerpts_of_cue (splice_content splice.now) takes.now cue }
+    ensures shape { excerpts_shape (excerpts_content result.now) ≡ cue_shape (splice_content splice.now) takes.now cue }
 {
     &takes[cue_at(splice, cue).take]
 }

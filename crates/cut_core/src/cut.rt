@@ -1,17 +1,16 @@
 //! A splice with its takes.
 
-ghost use Rattle.std.specs.Prelude.{◌≡◌, ◌+◌, ◌-◌, ◌^◌, ◌<◌, ◌≤◌, ◌++◌, All, IfOk, List, OnOk, length, map, slice_range};
+ghost use Rattle.std.specs.Prelude.{◌≡◌, ◌+◌, ◌-◌, ◌^◌, ◌<◌, ◌≤◌, All, IfOk, List, length, map, slice_range};
 ghost use Rattle.dsd_bits.specs.Contents.{Content, mark_content};
-ghost use Rattle.splice_core.specs.Cues.{IsCueWithin, cue_content};
+ghost use Rattle.splice_core.specs.Cues.{cue_content};
 ghost use Rattle.splice_core.specs.Splices.{splice_content};
-ghost use Rattle.form_core.specs.Steps.{GivesUnless};
 ghost use Rattle.cut_core.specs.Bridges as places;
 ghost use Rattle.cut_core.specs.Bridges.{IsPlace};
 ghost use Rattle.cut_core.specs.Cuts as cuts;
-ghost use Rattle.cut_core.specs.Cuts.{cue_at, cue_bits, master_length, span};
+ghost use Rattle.cut_core.specs.Cuts.{IsCueOf, cue_at, cue_bits, cue_length, master_length, span};
 ghost use Rattle.cut_core.specs.Keeping.{CanCut};
-ghost use Rattle.cut_core.specs.Excerpts.{AreExcerpts, AreOfTakes};
-ghost use Rattle.cut_core.specs.Opening.{OpensCut, cut_from, cut_of, file_bytes};
+ghost use Rattle.cut_core.specs.Excerpts.{AreOfTakes};
+ghost use Rattle.cut_core.specs.Opening.{GivesCut, GivesCutOf, OpensCut, cut_of, file_bytes};
 ghost use Rattle.cut_core.specs.Titles.{titles_of};
 
 use crate::bridges::{BridgePlace, bridge_places};
@@ -78,8 +77,7 @@ impl Cut {
         // What is returned is the cut of takes that the files hold, and can be cut.
         ensures found { IfOk result (OpensCut (splice_content splice) (file_bytes files.now) form) }
         // The result or refusal is that of reading in order, unless memory runs out.
-        ensures exact { GivesUnless CutFault.Memory (λ cut. cut) result
-            (cut_of (splice_content splice) (file_bytes files.now) form) }
+        ensures exact { GivesCut result (cut_of (splice_content splice) (file_bytes files.now) form) }
     {
         let takes = excerpts_of_files(alloc, &splice, files)?;
         Cut::of(splice, takes, form)
@@ -92,8 +90,7 @@ impl Cut {
     pub fn of(splice: Splice, takes: Vec<Excerpts>, form: Option<Form>) -> Result<Cut, CutFault>
         requires { AreOfTakes (splice_content splice) takes.items }
         // Whichever takes it was read from, the result or refusal is that of reading them in order.
-        ensures exact { (whole : List Content) → AreExcerpts (splice_content splice) whole takes.items
-            → GivesUnless CutFault.Memory (λ cut. cut) result (cut_from form (splice_content splice) whole) }
+        ensures exact { GivesCutOf form (splice_content splice) takes.items result }
     {
         fits(&splice, &takes, form)?;
         Ok(Cut { splice, takes })
@@ -120,8 +117,7 @@ impl Cut {
     pub fn cue(&self, number: usize) -> &Cue
         requires { number < length self.now.splice.cues }
         ensures value { cue_content result.now ≡ cue_at self.now number }
-        ensures fits { IsCueWithin (length self.now.splice.weights) (length self.now.splice.takes)
-            (cue_content result.now) }
+        ensures fits { IsCueOf self.now.splice (cue_content result.now) }
     {
         cues::cue_at(&self.splice, number)
     }
@@ -174,7 +170,7 @@ impl Cut {
         ensures bits { slice_range result.bits.now result.start result.stop ≡ cue_bits self.now channel cue }
         ensures in_order { result.start ≤ result.stop }
         ensures inside { result.stop ≤ length result.bits.now }
-        ensures long { result.stop - result.start ≡ (cue_at self.now cue).stop - (cue_at self.now cue).start }
+        ensures long { result.stop - result.start ≡ cue_length self.now cue }
     {
         let from = excerpt_start(&self.splice, cue);
         let here = cues::cue_at(&self.splice, cue);
@@ -184,19 +180,6 @@ impl Cut {
             start: here.start - from,
             stop: here.stop - from,
         }
-    }
-
-    /// Appends the bits of a cue in a channel. Err is out of memory.
-    pub fn push_cue(&self, out: &mut Bits, channel: usize, cue: usize) -> Result<(), AllocError>
-        requires channel { channel < cuts.take_channels self.now }
-        requires cue { cue < length self.now.splice.cues }
-        requires in_limit { length out.old + ((cue_at self.now cue).stop - (cue_at self.now cue).start) ≤ 2 ^ 36 }
-        ensures appended { OnOk result (out.new ≡ out.old ++ cue_bits self.now channel cue) }
-        ensures long { OnOk result (length out.new
-            ≡ length out.old + ((cue_at self.now cue).stop - (cue_at self.now cue).start)) }
-    {
-        let here = self.cued(channel, cue);
-        out.push_range(here.bits, here.start, here.stop)
     }
 
     /// The places of all bridges, by rising cue and then by rising channel. A plain cut is not a bridge. Err is out of

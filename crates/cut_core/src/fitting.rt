@@ -6,7 +6,7 @@ ghost use Rattle.cut_core.specs.Cuts as cuts;
 ghost use Rattle.cut_core.specs.Cuts.{AreAlike};
 ghost use Rattle.cut_core.specs.Excerpts.{excerpts_shapes};
 ghost use Rattle.cut_core.specs.Opening as specs;
-ghost use Rattle.cut_core.specs.Opening.{each_before, fitting, whole_in};
+ghost use Rattle.cut_core.specs.Opening.{all_have_room, all_inside, each_before, fitting, whole_in};
 ghost use Rattle.cut_core.specs.Rooms.{room_at};
 
 use crate::cues::{cue_at, cue_number, span_at, take_of};
@@ -71,8 +71,7 @@ pub fn differ(first: &Recording, take: &Recording) -> bool
 // Whether each cue ends within its take.
 fn are_inside(splice: &Splice, takes: &[Excerpts]) -> Result<(), CutFault>
     requires { length takes.now ≡ length (splice_content splice.now).takes }
-    ensures { result ≡ each_before (length (splice_content splice.now).cues)
-        (specs.inside_at (splice_content splice.now) (excerpts_shapes takes.now)) }
+    ensures { result ≡ all_inside (splice_content splice.now) (excerpts_shapes takes.now) }
 {
     for i in 0..cue_number(splice) {
         inside_at(splice, takes, i)?;
@@ -116,8 +115,7 @@ fn is_whole(splice: &Splice, form: Option<Form>) -> bool
 // Whether each bridge has room in the takes.
 fn have_room(splice: &Splice, takes: &[Excerpts]) -> Result<(), CutFault>
     requires { length takes.now ≡ length (splice_content splice.now).takes }
-    ensures { result ≡ each_before (length (splice_content splice.now).cues - 1)
-        (room_at (splice_content splice.now) (excerpts_shapes takes.now)) }
+    ensures { result ≡ all_have_room (splice_content splice.now) (excerpts_shapes takes.now) }
 {
     for i in 0..cue_number(splice) - 1 {
         has_room_at(splice, takes, i)?;

@@ -5,7 +5,7 @@ ghost use Rattle.dsd_bits.specs.Shape.{HasShape};
 ghost use Rattle.splice_core.specs.Splices.{SpliceContent, splice_content};
 ghost use Rattle.form_core.specs.Steps.{GivesUnless};
 ghost use Rattle.cut_core.specs.Opening as specs;
-ghost use Rattle.cut_core.specs.Opening.{ReturnsExcerpts, ReturnsAllExcerpts, IsOfTake, IsOfTakes, fault_of_take, file_bytes, take_from, take_in, takes_before};
+ghost use Rattle.cut_core.specs.Opening.{AddsExcerpts, AddsTake, ReturnsAllExcerpts, ReturnsExcerpts, ReturnsTakes, IsOfTake, fault_of_take, file_bytes, take_from, take_in, takes_before};
 
 use crate::excerpts::{Excerpts, take_excerpts};
 use crate::fault::CutFault;
@@ -24,8 +24,7 @@ pub fn excerpts_of_files(
     splice: &Splice,
     files: &[Vec<u8>],
 ) -> Result<Vec<Excerpts>, CutFault>
-    ensures { ReturnsAllExcerpts (splice_content splice.now) result
-        (specs.takes_of (splice_content splice.now) (file_bytes files.now)) }
+    ensures { ReturnsTakes (splice_content splice.now) (file_bytes files.now) result }
 {
     if files.len() != splice.takes.len() {
         return Err(CutFault::TakeNumber);
@@ -79,12 +78,8 @@ pub fn push_excerpts(
     takes: Result<Vec<Excerpts>, CutFault>,
     next: Result<Excerpts, CutFault>,
 ) -> Result<Vec<Excerpts>, CutFault>
-    ensures excerpts { (splice : SpliceContent) (files : List (List ℕ)) (file : List ℕ)
-        → ReturnsAllExcerpts splice takes (takes_before files (length files))
-        → ReturnsExcerpts splice (length files) next (take_in (length files) file)
-        → ReturnsAllExcerpts splice result (takes_before (files ++ file ∷ []) (length files + 1)) }
-    ensures of { (splice : SpliceContent) (n : ℕ) → IsOfTakes splice n takes → IsOfTake splice n next
-        → IsOfTakes splice (n + 1) result }
+    ensures excerpts { AddsExcerpts takes next result }
+    ensures of { AddsTake takes next result }
 {
     let mut takes = takes?;
     match takes.push(next?) {

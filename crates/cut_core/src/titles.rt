@@ -5,7 +5,7 @@ ghost use Rattle.dsd_bits.specs.Contents.{mark_content};
 ghost use Rattle.splice_core.specs.Cues.{cue_content};
 ghost use Rattle.splice_core.specs.Splices.{splice_content};
 ghost use Rattle.cut_core.specs.Cuts.{master_length};
-ghost use Rattle.cut_core.specs.Titles.{mark_of_title, titles};
+ghost use Rattle.cut_core.specs.Titles.{AddsTitle, titles};
 
 use crate::cues::{cue_at, cue_number, span_at};
 use dsd_bits::Mark;
@@ -42,8 +42,7 @@ fn push_title(
 ) -> Result<(), AllocError>
     requires rate { (1000000 ≤ rate) × (rate ≤ 50000000) }
     requires place { place ≤ 2 ^ 36 }
-    ensures { OnOk result (map mark_content out.new.items
-        ≡ map mark_content out.old.items ++ mark_of_title rate place (cue_content cue.now).title) }
+    ensures { OnOk result (AddsTitle rate place (cue_content cue.now) out.old.items out.new.items) }
 {
     if let Some(title) = &cue.title {
         out.push(mark_at(alloc, place, rate, title.as_bytes())?)?;

@@ -85,18 +85,6 @@ mark_content m = record {
 abbrev pub other_content : Other → OtherContent
 other_content o = record { place = o.place; id = o.id; bytes = o.bytes.items }
 
--- what the parts of a recording in memory hold
-abbrev pub content_of : ℕ → List (List Bool) → List (List ℕ) → ℕ → List Mark → List Other → List ℕ → Content
-content_of rate channels ids layout marks others tag = record {
-  rate = rate;
-  channels = channels;
-  ids = ids;
-  layout = layout;
-  marks = map mark_content marks;
-  others = map other_content others;
-  tag = tag;
-}
-
 -- what the parts of a description in memory say
 abbrev pub described_of : ℕ → ℕ → List (List ℕ) → ℕ → List Mark → List Other → List ℕ → Described
 described_of rate count ids layout marks others tag = record {

@@ -2,13 +2,13 @@
 
 ghost use Rattle.std.specs.Prelude.{◌≡◌, ◌≤◌, [], IfOk, length, map, replicate};
 ghost use Rattle.dsd_bits.specs.Channels.{count_of};
-ghost use Rattle.dsd_bits.specs.Contents.{content_of, described, mark_content, other_content, with_channels};
+ghost use Rattle.dsd_bits.specs.Contents.{described, mark_content, other_content, with_channels};
 ghost use Rattle.dsd_bits.specs.Limits.{IsRate, most_bits};
 ghost use Rattle.dsd_bits.specs.Shape.{AreDescribed, HasShape};
 ghost use Rattle.dsd_bits.specs.Stretches.{silent};
 
 use crate::bits::Bits;
-use crate::description::{Description, Metadata};
+use crate::description::Description;
 use crate::marks::{Mark, Other};
 use crate::stretches::silent_channels;
 use std::alloc::{AllocError, Global};
@@ -34,36 +34,10 @@ impl Model for Recording {
 }
 
 impl Recording {
-    /// The recording of these parts, which are moved into it. It takes no memory.
-    ///
-    /// The rate is in hertz, 1,000,000 to 50,000,000. There are one to six channels of equal length, at
-    /// most `2^36` bits, an ID for each, and a layout of DSF 1.01 (`specs/Layouts.antt`) for that many. The
-    /// others are in the order of [`crate::Place`], and none is a chunk that has a part of its own here.
-    /// A mark's text has fewer than `2^32` bytes.
-    pub fn new(
-        rate: u32,
-        channels: Vec<Bits>,
-        ids: Vec<[u8; 4]>,
-        layout: u32,
-        marks: Vec<Mark>,
-        others: Vec<Other>,
-        tag: Vec<u8>,
-    ) -> Recording
-        requires shape { HasShape (content_of rate channels.items ids.items layout
-            marks.items others.items tag.items) }
-        ensures { result ≡ content_of rate channels.items ids.items layout
-            marks.items others.items tag.items }
-    {
-        let metadata = Metadata { marks, others, tag };
-        let description = Description::new(rate, channels[0].len(), ids, layout, metadata);
-        Recording {
-            description,
-            channels,
-        }
-    }
-
     /// The recording of this description with these channels, which are moved into it. It takes no memory.
-    pub fn of(description: Description, channels: Vec<Bits>) -> Recording
+    ///
+    /// There are as many channels as the description has IDs, and each has as many bits as it says.
+    pub fn new(description: Description, channels: Vec<Bits>) -> Recording
         requires { AreDescribed description channels.items }
         ensures { result ≡ with_channels description channels.items }
     {

@@ -62,7 +62,7 @@ first_sound from [] s ss none is = rw is refl
 first_sound from (c ∷ cs) s ss none is = let p = none_first c cs none in rw p.0 (first_sound (from + width c) cs s ss p.1 is)
 
 -- what was found after others
-after_ok : (prefix : List Span) (found : Result (List Span) ChunkFault) (top : List Span) → after prefix found ≡ Ok top → (ss : List Span) × (found ≡ Ok ss) × (top ≡ prefix ++ ss)
+pub after_ok : (prefix : List Span) (found : Result (List Span) ChunkFault) (top : List Span) → after prefix found ≡ Ok top → (ss : List Span) × (found ≡ Ok ss) × (top ≡ prefix ++ ss)
 after_ok prefix (Ok ss) top e = (ss, refl, cc (e))
 after_ok prefix (Err d) top e = absurd cc
 

@@ -48,7 +48,7 @@ data_cut : (at : ℕ) (bytes : List ℕ) → 12 ≤ length bytes → length byte
 unfolding first_of
 data_cut at bytes head short = rw (le-ltb (length bytes) 12 head, lt-ltb (length bytes - 12) (size_of bytes) short) refl
 
-spans_cut : (file : List ℕ) (at stop : ℕ) → at + 12 ≤ stop → stop ≤ length file → stop < at + 12 + size_at file at → spans_in file at stop ≡ Err (DataCut at)
+pub spans_cut : (file : List ℕ) (at stop : ℕ) → at + 12 ≤ stop → stop ≤ length file → stop < at + 12 + size_at file at → spans_in file at stop ≡ Err (DataCut at)
 unfolding spans_in
 spans_cut file at stop head inside short =
     let bytes : List ℕ = slice_range file at stop in
@@ -57,7 +57,7 @@ spans_cut file at stop head inside short =
     sym (big_from-take 0 8 8 (drop 4 bytes) (omega arith)) ∙ ap (big_number 8) (range_inner file at stop 4 8 (omega arith)) ∙ big_from-take 0 8 8 (drop (at + 4) file) (omega arith) in
     rw (walk_step at bytes (omega (arith, long, head)), data_cut at bytes (omega (arith, long, head)) (omega (arith, long, size, short))) refl
 
-top_fails : (file : List ℕ) (e : ChunkFault) (stop : ℕ) → form_end_in file ≡ Ok stop → spans_in file 16 stop ≡ Err e → recording_of file ≡ (walked (Err e) >>= λ (u : Unit {0}). Err faults.Memory)
+pub top_fails : (file : List ℕ) (e : ChunkFault) (stop : ℕ) → form_end_in file ≡ Ok stop → spans_in file 16 stop ≡ Err e → recording_of file ≡ (walked (Err e) >>= λ (u : Unit {0}). Err faults.Memory)
 unfolding recording_of top_of
 top_fails file e stop end spans = rw (end, spans) refl
 

@@ -11,6 +11,8 @@ pub mod HeadLaws
 pub mod LocatedLaws
 pub mod PastLaws
 pub mod CutLaws
+pub mod FaultyLaws
+pub mod FaultyPlaces
 pub mod HeldLaws
 pub mod DescribedLaws
 pub mod ClosingLaws

@@ -36,7 +36,7 @@ after_both prefix ss (Ok rest) = ap (λ (l : List Span). Ok l) (sym (append_asso
 after_both prefix ss (Err e) = refl
 
 -- over a chunk at a place
-walk_on : (bytes : List ℕ) (at stop : ℕ) (c : Chunk) → At bytes at stop c → spans_in bytes at stop ≡ after (place at c ∷ []) (spans_in bytes (at + width c) stop)
+pub walk_on : (bytes : List ℕ) (at stop : ℕ) (c : Chunk) → At bytes at stop c → spans_in bytes at stop ≡ after (place at c ∷ []) (spans_in bytes (at + width c) stop)
 unfolding spans_in
 walk_on bytes at stop c a =
     let first : First (slice_range bytes at stop) c = at_first bytes at stop c a in

@@ -29,7 +29,7 @@ last_size prefix = size_at prefix (length prefix - 12)
 abbrev pub GoesPastForm : List ℕ → Type 0
 GoesPastForm prefix = EndsAtChunk prefix × (12 + form_size prefix < length prefix + last_size prefix)
 
--- the fault of a file of so many bytes that begins with this prefix, and ends before the data of its last chunk do
+-- the fault of a file of `total` bytes with this prefix, if the form or the file ends within the data of its last chunk
 abbrev pub cut_fault : List ℕ → ℕ → DsdiffFault
 cut_fault prefix total = if nat_lt (total + 1) (12 + form_size prefix) then FormCut else ChunkFails (DataCut (length prefix - 12))
 

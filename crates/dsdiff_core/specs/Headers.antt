@@ -150,8 +150,7 @@ abbrev pub sound_from : List ℕ → Option ℕ → Result (Option Sound) Dsdiff
 sound_from prefix None = Ok None
 sound_from prefix (Some at) = sound_with_head prefix at >>= λ s. Ok (Some s)
 
--- the same from the first byte on, in the order of reading: the form begins, the header of the sound is found, the
--- chunks before it say what it is
+-- the sound of files that begin with this prefix; none if more bytes are needed, a fault if no such file is accepted
 unfoldable pub sound_in : List ℕ → Result (Option Sound) DsdiffFault
 sound_in prefix = do
   place ← sound_head_place prefix

@@ -22,3 +22,4 @@ pub mod Laws
 pub mod Located
 pub mod SoundBytes
 pub mod Cuts
+pub mod Faulty

@@ -70,8 +70,8 @@ fn form_end(file: Held) -> Result<usize, DsdiffFault>
     Ok((form.size as usize).min(size - 12) + 12)
 }
 
-// Refuses a first chunk that is not a version 1.
-fn require_version(file: Held, top: &[Span]) -> Result<(), DsdiffFault>
+/// Refuses a first chunk that is not a version 1.
+pub(crate) fn require_version(file: Held, top: &[Span]) -> Result<(), DsdiffFault>
     requires { All (MayBeInMemory file) top.now }
     ensures { Gives (λ _. tt) result (known_version (map (span_chunk (held file.entry)) top.now)) }
 {

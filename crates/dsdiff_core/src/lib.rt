@@ -19,6 +19,10 @@
 //! before the sound and behind it, and [`write_head`] and [`write_tail`] give what the file of a recording has around
 //! its sound.
 //!
+//! Where the chunks before a long one tell that no file that begins so is accepted, its data need not be held:
+//! [`faulty_start`] gives what they tell, [`next_chunk`] what each later chunk adds by its first bytes, and
+//! [`fault_after`] the first fault of the file.
+//!
 //! The words of its contracts:
 //! - `IsDsdiff file r` (`specs/Files.antt`): the file holds the recording `r`. It is stated in lists of chunks, part by
 //!   part, without walking through the file.
@@ -34,6 +38,8 @@
 //! - `head_text r size`, `tail_text r size` (`specs/Writing.antt`): the bytes before and after a sound of `size` bytes.
 //!   They don't depend on the channels.
 //! - `StatesOutline prefix s back` (`specs/Outlines.antt`): what the bytes around a sound say about a file.
+//! - `IsFaulty file s` (`specs/Faulty.antt`): the first chunks of the file's form tell that it holds no recording, and
+//!   where they end, `next_place s`.
 //! - `mark_bytes m` (`specs/MarkBytes.antt`): the bytes of a mark.
 //! - `place_of m rate` (`specs/MarkPlaces.antt`): the place of a mark, a whole number that may be below zero.
 //!   `title_mark place rate text` is the mark of a title, and `IsAt m rate place` says where a mark is.
@@ -58,6 +64,7 @@
 mod closing;
 mod describing;
 mod fault;
+mod faulty;
 mod fields;
 mod form;
 mod header;
@@ -80,6 +87,7 @@ mod writing_laws;
 pub use closing::{bytes_after_sound, closes, cut_fault, outline};
 pub use describing::describe;
 pub use fault::DsdiffFault;
+pub use faulty::{FaultyStart, NextChunk, fault_after, faulty_start, next_chunk};
 pub use fields::fields_fit;
 pub use laws::{
     accepted_files_have_a_head, accepted_files_state_their_sound,

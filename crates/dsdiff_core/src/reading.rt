@@ -59,7 +59,7 @@ fn read_in_order(alloc: Global, file: &[u8]) -> Result<Recording, DsdiffFault>
     let description = describe_held(alloc, held)?;
     let number = description.ids().len();
     let channels = channels_of(alloc, sound, number)?;
-    Ok(Recording::of(description, channels))
+    Ok(Recording::new(description, channels))
 }
 
 // The file around its sound, and the bytes of that. If no sound is found, the whole file is kept, and it is refused.

@@ -57,7 +57,7 @@ fn read_in_order(alloc: Global, file: &[u8]) -> Result<(Recording, BitOrder), Ds
     let description = description_of(alloc, &prefix, tag)?;
     let (_, sound) = file.split_at(prefix.sound.start);
     let channels = channels_in(alloc, &prefix, sound)?;
-    Ok((Recording::of(description, channels), prefix.order))
+    Ok((Recording::new(description, channels), prefix.order))
 }
 
 // The bytes from a place on; none for 0.

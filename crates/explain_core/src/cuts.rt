@@ -11,17 +11,17 @@ pub(crate) fn explain_cut<R: Files>(line: &mut Line, rt: &R, cutting: &Cutting, 
     match fault {
         CutFault::TakeUnread(number, why) => {
             cutting.say_take(line, number);
-            line.say(": ", &[]);
+            line.push(": ");
             explain_file(line, rt, cutting.take(number), why);
         }
         CutFault::TakeMismatch(number) => {
             explain_take(line, rt, cutting, 0);
-            line.say(", and ", &[]);
+            line.push(", and ");
             explain_take(line, rt, cutting, number);
-            line.say(": all takes have to be alike", &[]);
+            line.push(": all takes have to be alike");
         }
         CutFault::CueOutside(number) => explain_outside(line, rt, cutting, number),
-        CutFault::MasterTooLong => line.say(LONG, &[Part::Count(cutting.bits())]),
+        CutFault::MasterTooLong => line.say_one(LONG, Part::Count(cutting.bits())),
         CutFault::NotWholeBytes => explain_parts(line, cutting.bits()),
         CutFault::NoRoomBefore(number) => explain_before(line, cutting, number),
         CutFault::NoRoomAfter(number) => explain_after(line, rt, cutting, number),
@@ -33,7 +33,7 @@ pub(crate) fn explain_cut<R: Files>(line: &mut Line, rt: &R, cutting: &Cutting, 
 fn explain_take<R: Files>(line: &mut Line, rt: &R, cutting: &Cutting, number: usize) {
     cutting.say_take(line, number);
     if let Some(shape) = shape_of(rt, cutting.take(number)) {
-        line.say(" has ", &[]);
+        line.push(" has ");
         say_shape(line, shape);
     }
 }
@@ -43,11 +43,11 @@ fn explain_outside<R: Files>(line: &mut Line, rt: &R, cutting: &Cutting, number:
         return;
     };
     cutting.say_cue(line, number);
-    line.say(" stops at {0}", &[Part::Count(cue.stop as u64)]);
+    line.say_one(" stops at {0}", Part::Count(cue.stop as u64));
     if let Some(shape) = shape_of(rt, cutting.take(cue.take)) {
-        line.say("; ", &[]);
+        line.push("; ");
         cutting.say_take(line, cue.take);
-        line.say(" has {0} samples", &[Part::Count(shape.bits)]);
+        line.say_one(" has {0} samples", Part::Count(shape.bits));
     }
 }
 
@@ -88,7 +88,7 @@ fn explain_after<R: Files>(line: &mut Line, rt: &R, cutting: &Cutting, number: u
         &[stop, read],
     );
     if let Some(shape) = shape_of(rt, cutting.take(cue.take)) {
-        line.say(", and ", &[]);
+        line.push(", and ");
         cutting.say_take(line, cue.take);
         let last = Part::Count(shape.bits.saturating_sub(bridge));
         line.say(AFTER, &[Part::Count(shape.bits), last]);

@@ -2,7 +2,7 @@
 
 use crate::files::{Chunk, HEAD, Look};
 use crate::line::{Line, Part};
-use crate::seen::{CHANNELS, EARLY, LONG, RATE, Shape, is_bad_number, is_bad_rate};
+use crate::seen::{CHANNELS, EARLY, LONG, RATE, Shape, first_of, is_bad_number, is_bad_rate};
 use chunk_core::{ChunkFault, Order};
 use dsdiff_core::DsdiffFault;
 use std::io::{Read, Seek};
@@ -192,27 +192,48 @@ impl Dsdiff {
 
     /// The first fault that the file is seen to have.
     pub(crate) fn first_fault(&self) -> Option<DsdiffFault> {
+        self.form_fault()
+            .or(self.chunk_fault())
+            .or(self.field_fault())
+            .or(self.sound_fault())
+    }
+
+    fn form_fault(&self) -> Option<DsdiffFault> {
+        if self.form < 4 || self.form_end() > self.length.saturating_add(1) {
+            Some(DsdiffFault::FormCut)
+        } else {
+            None
+        }
+    }
+
+    // The first fault of the version and the fields of the property.
+    fn field_fault(&self) -> Option<DsdiffFault> {
         let [version, _, _, _] = self.version.unwrap_or([0; 4]);
         let kind = self.compression.unwrap_or([0; 4]);
-        Some(match self.channels.unwrap_or(0) {
-            _ if self.form < 4 => DsdiffFault::FormCut,
-            _ if self.form_end() > self.length.saturating_add(1) => DsdiffFault::FormCut,
-            _ if self.cut.is_some() => return self.chunk_fault(),
-            _ if self.version.is_none() => DsdiffFault::NoVersion,
-            _ if version != 1 => DsdiffFault::BadVersion,
-            _ if self.property.is_none() => DsdiffFault::NoProperty,
-            _ if self.rate.is_none() => DsdiffFault::NoRate,
-            _ if self.channels.is_none() => DsdiffFault::NoChannels,
-            _ if self.compression.is_none() => DsdiffFault::NoCompression,
-            _ if kind != *b"DSD " => DsdiffFault::Compressed,
-            _ if is_bad_rate(self.rate.unwrap_or(0)) => DsdiffFault::BadRate,
-            number if is_bad_number(number) => DsdiffFault::BadChannelNumber,
-            _ if self.sound.is_none() => DsdiffFault::NoSound,
-            _ if place_of(self.sound) < place_of(self.property) => DsdiffFault::SoundBeforeProperty,
-            _ if self.rest() > 0 => DsdiffFault::PartFrame,
-            _ if self.bits() > 1 << 36 => DsdiffFault::TooLong,
-            _ => return None,
-        })
+        first_of(&[
+            (self.version.is_none(), DsdiffFault::NoVersion),
+            (version != 1, DsdiffFault::BadVersion),
+            (self.property.is_none(), DsdiffFault::NoProperty),
+            (self.rate.is_none(), DsdiffFault::NoRate),
+            (self.channels.is_none(), DsdiffFault::NoChannels),
+            (self.compression.is_none(), DsdiffFault::NoCompression),
+            (kind != *b"DSD ", DsdiffFault::Compressed),
+            (is_bad_rate(self.rate.unwrap_or(0)), DsdiffFault::BadRate),
+            (
+                is_bad_number(self.channels.unwrap_or(0)),
+                DsdiffFault::BadChannelNumber,
+            ),
+        ])
+    }
+
+    fn sound_fault(&self) -> Option<DsdiffFault> {
+        let is_before = place_of(self.sound) < place_of(self.property);
+        first_of(&[
+            (self.sound.is_none(), DsdiffFault::NoSound),
+            (is_before, DsdiffFault::SoundBeforeProperty),
+            (self.rest() > 0, DsdiffFault::PartFrame),
+            (self.bits() > 1 << 36, DsdiffFault::TooLong),
+        ])
     }
 
     // The fault of the chunk that isn't whole.
@@ -227,18 +248,23 @@ impl Dsdiff {
 
     /// Adds what was seen of a fault.
     pub(crate) fn explain(&self, line: &mut Line, fault: DsdiffFault) {
-        let template = match fault {
+        match fault {
+            DsdiffFault::Chunk(fault) => self.explain_chunk(line, fault),
+            DsdiffFault::NoVersion | DsdiffFault::BadVersion => self.explain_version(line),
+            _ => self.explain_numbers(line, fault),
+        }
+    }
+
+    // What is said of a fault.
+    fn template(&self, fault: DsdiffFault) -> &'static str {
+        match fault {
             DsdiffFault::FormCut if self.form < 4 => "its form has {5} by its size, so no chunk",
             DsdiffFault::FormCut => EARLY,
-            DsdiffFault::Chunk(fault) => return self.explain_chunk(line, fault),
-            DsdiffFault::NoVersion | DsdiffFault::BadVersion => return self.explain_version(line),
-            DsdiffFault::Twice(id) => {
-                return line.say("it has the chunk {0} twice", &[Part::Id(id)]);
-            }
-            DsdiffFault::NoProperty => return line.say(MISSING, &[Part::Id(*b"PROP")]),
-            DsdiffFault::NoRate => return line.say(MISSING, &[Part::Id(*b"FS  ")]),
-            DsdiffFault::NoChannels => return line.say(MISSING, &[Part::Id(*b"CHNL")]),
-            DsdiffFault::NoCompression => return line.say(MISSING, &[Part::Id(*b"CMPR")]),
+            DsdiffFault::Twice(_) => "it has the chunk {6} twice",
+            DsdiffFault::NoProperty
+            | DsdiffFault::NoRate
+            | DsdiffFault::NoChannels
+            | DsdiffFault::NoCompression => MISSING,
             DsdiffFault::Compressed => COMPRESSED,
             DsdiffFault::BadRate => RATE,
             DsdiffFault::BadChannelNumber => CHANNELS,
@@ -248,12 +274,24 @@ impl Dsdiff {
             DsdiffFault::SoundBeforeProperty => BEFORE,
             DsdiffFault::PartFrame => PART,
             DsdiffFault::TooLong => LONG,
-            DsdiffFault::NotDsdiff | DsdiffFault::Memory => "",
-        };
-        let kind = match self.compression {
-            Some(kind) if kind != *b"DSD " => kind,
+            _ => "",
+        }
+    }
+
+    // The chunk of which a fault is, or how the sound is compressed.
+    fn id(&self, fault: DsdiffFault) -> [u8; 4] {
+        match (fault, self.compression) {
+            (DsdiffFault::Twice(id), _) => id,
+            (DsdiffFault::NoProperty, _) => *b"PROP",
+            (DsdiffFault::NoRate, _) => *b"FS  ",
+            (DsdiffFault::NoChannels, _) => *b"CHNL",
+            (DsdiffFault::NoCompression, _) => *b"CMPR",
+            (_, Some(kind)) if kind != *b"DSD " => kind,
             _ => *b"DST ",
-        };
+        }
+    }
+
+    fn explain_numbers(&self, line: &mut Line, fault: DsdiffFault) {
         let parts = [
             Part::Bytes(self.form_end().saturating_sub(self.length)),
             Part::Count(self.length),
@@ -261,12 +299,12 @@ impl Dsdiff {
             Part::Count(u64::from(self.rate.unwrap_or(0))),
             Part::Count(self.bits()),
             Part::Bytes(self.form),
-            Part::Id(kind),
+            Part::Id(self.id(fault)),
             Part::Count(place_of(self.sound)),
             Part::Bytes(size_of(self.sound)),
             Part::Bytes(self.rest()),
         ];
-        line.say(template, &parts);
+        line.say(self.template(fault), &parts);
     }
 
     fn explain_chunk(&self, line: &mut Line, fault: ChunkFault) {
@@ -281,7 +319,7 @@ impl Dsdiff {
                 let (id, end) = (Part::Id(chunk.id), Part::Count(cut.end));
                 line.say(LACKS, &[id, Part::Count(place), missing, end]);
             }
-            _ => line.say(template, &[Part::Count(place)]),
+            _ => line.say_one(template, Part::Count(place)),
         }
     }
 
@@ -315,7 +353,7 @@ const BEFORE: &str = "its sound is at byte {7}, before the chunk \"PROP\": write
 
 const PART: &str = "its sound has {8} for {2} channels, which leaves {9}: fetch it again";
 
-const MISSING: &str = "it has no whole chunk {0}: write it anew with the tool that it comes from";
+const MISSING: &str = "it has no whole chunk {6}: write it anew with the tool that it comes from";
 
 const DATA_CUT: &str = "the chunk at byte {0} goes past the end of what holds it: fetch it again";
 

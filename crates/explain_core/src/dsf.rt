@@ -2,7 +2,7 @@
 
 use crate::files::{Chunk, HEAD, Look};
 use crate::line::{Line, Part};
-use crate::seen::{CHANNELS, EARLY, LONG, RATE, Shape, is_bad_number, is_bad_rate};
+use crate::seen::{CHANNELS, EARLY, LONG, RATE, Shape, first_of, is_bad_number, is_bad_rate};
 use chunk_core::{Order, id_at, u32_at, u64_at};
 use dsf_core::DsfFault;
 use std::io::{Read, Seek};
@@ -119,40 +119,43 @@ impl Dsf {
 
     /// The first fault that the file is seen to have.
     pub(crate) fn first_fault(&self) -> Option<DsfFault> {
-        Some(match self.per_sample {
-            _ if self.is_cut => DsfFault::HeadCut,
-            _ if !self.has_format() => DsfFault::BadFormat,
-            _ if self.data.is_none() => DsfFault::HeadCut,
-            _ if !self.has_data() => DsfFault::BadFormat,
-            _ if self.version != 1 => DsfFault::BadVersion,
-            _ if is_bad_number(self.channels) => DsfFault::BadChannelNumber,
-            _ if is_bad_rate(self.rate) => DsfFault::BadRate,
-            bits if bits != 1 && bits != 8 => DsfFault::BadBits,
-            _ if u64::from(self.block) != BLOCK => DsfFault::BadBlock,
-            _ if self.bits > 1 << 36 => DsfFault::TooLong,
-            _ if self.missing() > 0 => DsfFault::DataCut,
-            _ if self.tag != 0 && self.tag < self.end() => DsfFault::BadPointer,
-            _ if self.tag > self.length => DsfFault::BadPointer,
-            _ => return None,
-        })
+        first_of(&[
+            (self.is_cut, DsfFault::HeadCut),
+            (!self.has_format(), DsfFault::BadFormat),
+            (self.data.is_none(), DsfFault::HeadCut),
+            (!self.has_data(), DsfFault::BadFormat),
+            (self.version != 1, DsfFault::BadVersion),
+            (is_bad_number(self.channels), DsfFault::BadChannelNumber),
+            (is_bad_rate(self.rate), DsfFault::BadRate),
+            (!self.has_bits(), DsfFault::BadBits),
+            (u64::from(self.block) != BLOCK, DsfFault::BadBlock),
+            (self.bits > 1 << 36, DsfFault::TooLong),
+            (self.missing() > 0, DsfFault::DataCut),
+            (!self.has_pointer(), DsfFault::BadPointer),
+        ])
+    }
+
+    // Whether it has a number of bits per sample that is known.
+    fn has_bits(&self) -> bool {
+        self.per_sample == 1 || self.per_sample == 8
+    }
+
+    // Whether it has no tag, or one behind its sound and not behind its end.
+    fn has_pointer(&self) -> bool {
+        self.tag == 0 || (self.end() <= self.tag && self.tag <= self.length)
     }
 
     /// Adds what was seen of a fault.
     pub(crate) fn explain(&self, line: &mut Line, fault: DsfFault) {
-        let template = match fault {
-            DsfFault::HeadCut => CUT,
-            _ if self.is_cut => CUT,
-            DsfFault::BadFormat => return self.explain_format(line),
-            DsfFault::BadVersion => "its version is {5}, and only 1 is known: write it anew",
-            DsfFault::BadChannelNumber => CHANNELS,
-            DsfFault::BadRate => RATE,
-            DsfFault::BadBits => "it has {6} bits per sample, and 1 and 8 are known",
-            DsfFault::BadBlock => "its blocks have {7} bytes, and 4096 are usual",
-            DsfFault::TooLong => LONG,
-            DsfFault::DataCut => return self.explain_sound(line),
-            DsfFault::BadPointer => POINTER,
-            DsfFault::NotDsf | DsfFault::Memory => "",
-        };
+        match fault {
+            _ if self.is_cut => self.explain_numbers(line, CUT),
+            DsfFault::BadFormat => self.explain_format(line),
+            DsfFault::DataCut => self.explain_sound(line),
+            _ => self.explain_numbers(line, template_of(fault)),
+        }
+    }
+
+    fn explain_numbers(&self, line: &mut Line, template: &str) {
         let parts = [
             Part::Bytes(self.end().saturating_sub(self.length)),
             Part::Count(self.length),
@@ -193,6 +196,21 @@ impl Dsf {
         let (length, missing) = (Part::Count(self.length), Part::Bytes(self.missing()));
         let (held, needed) = (Part::Bytes(self.held()), Part::Bytes(self.needed()));
         line.say(template, &[early, length, missing, held, needed]);
+    }
+}
+
+// What is said of a fault.
+fn template_of(fault: DsfFault) -> &'static str {
+    match fault {
+        DsfFault::HeadCut => CUT,
+        DsfFault::BadVersion => "its version is {5}, and only 1 is known: write it anew",
+        DsfFault::BadChannelNumber => CHANNELS,
+        DsfFault::BadRate => RATE,
+        DsfFault::BadBits => "it has {6} bits per sample, and 1 and 8 are known",
+        DsfFault::BadBlock => "its blocks have {7} bytes, and 4096 are usual",
+        DsfFault::TooLong => LONG,
+        DsfFault::BadPointer => POINTER,
+        _ => "",
     }
 }
 

@@ -17,6 +17,7 @@ use crate::verdicts::explain_verdict;
 use crate::words::{explain_form, explain_no_text, explain_words};
 use cut_core::CutFault;
 use folder_core::Failure;
+use form_core::ReadFault;
 use judge_core::Reason;
 use project_core::ProjectFault;
 use sound_core::StreamFault;
@@ -78,7 +79,7 @@ fn explain_ended<R: Files + Env + AllocGlobal>(
         Ended::NoText => return explain_no_text(line, rt),
         Ended::UnknownFormName => return explain_form(line, words),
         Ended::Untold(error) => {
-            line.say("standard output did not take the answer: ", &[]);
+            line.push("standard output did not take the answer: ");
             return explain_error(line, &error);
         }
         _ => {}
@@ -89,45 +90,84 @@ fn explain_ended<R: Files + Env + AllocGlobal>(
 }
 
 fn explain_task<R: Files + Env + AllocGlobal>(line: &mut Line, rt: &R, task: Task, ended: Ended) {
-    match (ended, task) {
-        (Ended::Fault(fault), _) => explain_fault(line, rt, task, fault),
-        (Ended::NoPart(fault), Task::PlayPart { project, input, .. }) => {
-            explain_span(line, rt, (project, input), fault)
-        }
-        (Ended::ReadFailed, _) => explain_unread(line, rt, task),
-        (Ended::WriteFailed(Some(failure)), _) => {
-            if let Some(file) = output_of(task, failure.step) {
-                explain_unwritten(line, rt, file, &failure.error);
-            }
-        }
-        (
-            Ended::Rejected(reason),
-            Task::Check {
-                project,
-                master,
-                cert,
-            },
-        ) => { explain_verdict(line, rt, [project, master, cert], reason) }
+    match ended {
+        Ended::Fault(fault) => explain_fault(line, rt, task, fault),
+        Ended::NoPart(fault) => explain_part(line, rt, task, fault),
+        Ended::ReadFailed => explain_unread(line, rt, task),
+        Ended::WriteFailed(Some(failure)) => explain_output(line, rt, task, &failure),
+        Ended::Rejected(reason) => explain_rejected(line, rt, task, reason),
         _ => {}
     }
 }
 
+fn explain_part<R: Files>(line: &mut Line, rt: &R, task: Task, fault: SpanFault) {
+    if let Task::PlayPart { project, input, .. } = task {
+        explain_span(line, rt, (project, input), fault);
+    }
+}
+
+fn explain_output<R: Files>(line: &mut Line, rt: &R, task: Task, failure: &Failure) {
+    if let Some(file) = output_of(task, failure.step) {
+        explain_unwritten(line, rt, file, &failure.error);
+    }
+}
+
+fn explain_rejected<R: Files>(line: &mut Line, rt: &R, task: Task, reason: Reason) {
+    if let Task::Check {
+        project,
+        master,
+        cert,
+    } = task
+    {
+        explain_verdict(line, rt, [project, master, cert], reason);
+    }
+}
+
 fn explain_fault<R: Files>(line: &mut Line, rt: &R, task: Task, fault: Fault) {
-    match (fault, task, input_of(task), project_of(task)) {
-        (Fault::Memory, Task::Edit { .. } | Task::Check { .. }, _, _) => line.say(CUT_MEMORY, &[]),
-        (Fault::Memory, _, _, _) => line.say(MEMORY, &[]),
-        (Fault::FileUnread(why), _, Some((name, word)), _) => {
-            line.say("{0}: ", &[Part::Named(name, word)]);
-            explain_file(line, rt, name, why);
+    match fault {
+        Fault::Memory => line.push(memory_of(task)),
+        Fault::FileUnread(why) => explain_input(line, rt, task, why),
+        Fault::Stream(fault) => explain_stream(line, rt, task, fault),
+        Fault::NotWholeBytes => explain_bytes(line, rt, task),
+        _ => {
+            if let Some(project) = project_of(task) {
+                explain_in_project(line, rt, project, fault);
+            }
         }
-        (Fault::NotWholeBytes, _, Some((input, _)), _) => explain_parts(line, rt, input),
-        (Fault::Stream(StreamFault::TooLarge), Task::PlayPart { input, .. }, _, _) => {
-            explain_large_part(line, input)
-        }
-        (Fault::Stream(fault), _, Some((input, _)), Some(project)) => {
-            explain_play(line, rt, (project, input), fault)
-        }
-        (_, _, _, Some(project)) => explain_in_project(line, rt, project, fault),
+    }
+}
+
+// What a command holds.
+fn memory_of(task: Task) -> &'static str {
+    match task {
+        Task::Edit { .. } | Task::Check { .. } => CUT_MEMORY,
+        _ => MEMORY,
+    }
+}
+
+fn explain_input<R: Files>(line: &mut Line, rt: &R, task: Task, why: ReadFault) {
+    if let Some((name, word)) = input_of(task) {
+        line.say_one("{0}: ", Part::Named(name, word));
+        explain_file(line, rt, name, why);
+    }
+}
+
+// Adds by how much the channels of what is read, or else of the master, are not whole bytes.
+fn explain_bytes<R: Files>(line: &mut Line, rt: &R, task: Task) {
+    if let Some((input, _)) = input_of(task) {
+        explain_parts(line, rt, input);
+    } else if let Some(project) = project_of(task) {
+        explain_cutting(line, rt, project, CutFault::NotWholeBytes);
+    }
+}
+
+fn explain_stream<R: Files>(line: &mut Line, rt: &R, task: Task, fault: StreamFault) {
+    match task {
+        Task::Play { project, input, .. } => explain_play(line, rt, (project, input), fault),
+        Task::PlayPart { project, input, .. } => match fault {
+            StreamFault::TooLarge => explain_large_part(line, input),
+            _ => explain_play(line, rt, (project, input), fault),
+        },
         _ => {}
     }
 }
@@ -137,16 +177,15 @@ fn explain_in_project<R: Files>(line: &mut Line, rt: &R, project: &str, fault: F
         Fault::Project(fault) => explain_text(line, rt, project, fault),
         Fault::NoDecimation | Fault::NoSplice => explain_table(line, rt, project),
         Fault::Cut(fault) => explain_cutting(line, rt, project, fault),
-        Fault::NotWholeBytes => explain_cutting(line, rt, project, CutFault::NotWholeBytes),
         _ => {}
     }
 }
 
 // Adds why a project text is refused. A recording in its place is named as such.
 fn explain_text<R: Files>(line: &mut Line, rt: &R, project: &str, fault: ProjectFault) {
-    line.say("{0}: ", &[Part::Named(project, "PROJECT")]);
+    line.say_one("{0}: ", Part::Named(project, "PROJECT"));
     if is_recording(rt, project) {
-        line.say(RECORDING, &[]);
+        line.push(RECORDING);
     } else if let Some(source) = text_of(rt, line.alloc(), project) {
         explain_project(line, &source, fault);
     }
@@ -154,7 +193,7 @@ fn explain_text<R: Files>(line: &mut Line, rt: &R, project: &str, fault: Project
 
 fn explain_cutting<R: Files>(line: &mut Line, rt: &R, project: &str, fault: CutFault) {
     if let Some(cutting) = cutting_of(rt, line.alloc(), project) {
-        line.say("{0}: ", &[Part::Named(project, "PROJECT")]);
+        line.say_one("{0}: ", Part::Named(project, "PROJECT"));
         explain_cut(line, rt, &cutting, fault);
     }
 }
@@ -162,8 +201,8 @@ fn explain_cutting<R: Files>(line: &mut Line, rt: &R, project: &str, fault: CutF
 const RECORDING: &str = "it is a recording; PROJECT comes before the recordings";
 
 // What a command holds.
-const MEMORY: &str = "what surrounds the sound is held whole, and a file of fewer than 2 MiB: \
-                      free some memory, or use a larger machine";
+const MEMORY: &str = "what surrounds the sound is held whole, and a pipe that is converted: free \
+                      some memory, or use a larger machine";
 
 const CUT_MEMORY: &str = "what is cut of the takes is held, about as many bytes as the master has: \
                           free some memory, or use a larger machine";

@@ -61,13 +61,14 @@ pub(crate) fn reopen<R: Files>(rt: &R, name: &str) -> Result<Look<R::File>, Trou
         Err(error) => Err(Trouble::Refused(error)),
         Ok(found) if found.is_dir() => Err(Trouble::Folder),
         Ok(found) if !found.is_file() => Err(Trouble::Stream),
-        Ok(found) => match fs::open(rt, name) {
-            Err(error) => Err(Trouble::Refused(error)),
-            Ok(file) => Ok(Look {
-                file,
-                length: found.len(),
-            }),
-        },
+        Ok(found) => open(rt, name, found.len()),
+    }
+}
+
+fn open<R: Files>(rt: &R, name: &str, length: u64) -> Result<Look<R::File>, Trouble> {
+    match fs::open(rt, name) {
+        Err(error) => Err(Trouble::Refused(error)),
+        Ok(file) => Ok(Look { file, length }),
     }
 }
 
@@ -107,7 +108,7 @@ impl<F: Read + Seek + Drop> Look<F> {
     }
 
     // All its bytes, if they are few enough for a text.
-    fn text(mut self, alloc: Global) -> Option<Vec<u8>> {
+    fn text(&mut self, alloc: Global) -> Option<Vec<u8>> {
         if self.length > MOST_TEXT {
             return None;
         }
@@ -122,7 +123,7 @@ impl<F: Read + Seek + Drop> Look<F> {
 /// The bytes of a text's file.
 pub(crate) fn text_of<R: Files>(rt: &R, alloc: Global, name: &str) -> Option<Vec<u8>> {
     match reopen(rt, name) {
-        Ok(look) => look.text(alloc),
+        Ok(mut look) => look.text(alloc),
         Err(_) => None,
     }
 }
@@ -130,8 +131,8 @@ pub(crate) fn text_of<R: Files>(rt: &R, alloc: Global, name: &str) -> Option<Vec
 /// Adds why a file can't be looked at.
 pub(crate) fn explain_trouble(line: &mut Line, trouble: Trouble) {
     match trouble {
-        Trouble::Folder => line.say("it is a folder", &[]),
-        Trouble::Stream => line.say(STREAM, &[]),
+        Trouble::Folder => line.push("it is a folder"),
+        Trouble::Stream => line.push(STREAM),
         Trouble::Refused(error) => explain_error(line, &error),
     }
 }
@@ -139,15 +140,13 @@ pub(crate) fn explain_trouble(line: &mut Line, trouble: Trouble) {
 /// Adds what the system said.
 pub(crate) fn explain_error(line: &mut Line, error: &Error) {
     match (error.raw_os_error(), error.kind()) {
-        (None, ErrorKind::WriteZero) => line.say("the system took no bytes", &[]),
-        (None, ErrorKind::ResourceBusy) => line.say(BUSY, &[]),
+        (None, ErrorKind::WriteZero) => line.push("the system took no bytes"),
+        (None, ErrorKind::ResourceBusy) => line.push(BUSY),
         _ => line.say_error(error),
     }
 }
 
-const STREAM: &str =
-    "a pipe cannot be looked at again, and what has 2 MiB or more is read twice: write it to a file \
-                      first";
+const STREAM: &str = "a pipe cannot be looked at again: write it to a file first";
 
 const BUSY: &str =
     "the command reads it, and no other file can be made in its folder: give another name";

@@ -90,29 +90,19 @@ impl Line {
         }
     }
 
+    /// Adds a text, with each `{0}` replaced by this part.
+    pub(crate) fn say_one(&mut self, template: &str, part: Part) {
+        self.say(template, &[part]);
+    }
+
     // Adds a part, if it is there.
     fn say_part(&mut self, part: Option<&Part>) {
         match part.copied() {
             Some(Part::Text(text)) => self.escape(text),
-            Some(Part::Raw(bytes)) => {
-                let done = write!(self.text, "{}", bytes.escape_ascii());
-                self.keep(done);
-            }
-            Some(Part::Named(name, word)) => {
-                self.escape(if name == STANDARD {
-                    "the standard stream"
-                } else {
-                    name
-                });
-                self.push(" (");
-                self.push(word);
-                self.push(")");
-            }
+            Some(Part::Raw(bytes)) => self.raw(bytes),
+            Some(Part::Named(name, word)) => self.named(name, word),
             Some(Part::Number(number)) => self.number(number),
-            Some(Part::Signed(number)) => {
-                let done = write!(self.text, "{number}");
-                self.keep(done);
-            }
+            Some(Part::Signed(number)) => self.signed(number),
             Some(Part::Count(number)) => self.count(number),
             Some(Part::Several(number, name)) => self.several(number, name),
             Some(Part::Bytes(number)) => self.bytes(number),
@@ -140,7 +130,8 @@ impl Line {
         self.is_lost |= done.is_err();
     }
 
-    fn push(&mut self, text: &str) {
+    /// Adds a text as it is.
+    pub(crate) fn push(&mut self, text: &str) {
         let done = self.text.push_str(text);
         self.keep(done);
     }
@@ -162,7 +153,27 @@ impl Line {
         self.keep(done);
     }
 
+    fn raw(&mut self, bytes: &[u8]) {
+        let done = write!(self.text, "{}", bytes.escape_ascii());
+        self.keep(done);
+    }
+
+    fn named(&mut self, name: &str, word: &str) {
+        self.escape(match name {
+            STANDARD => "the standard stream",
+            _ => name,
+        });
+        self.push(" (");
+        self.push(word);
+        self.push(")");
+    }
+
     fn number(&mut self, number: u64) {
+        let done = write!(self.text, "{number}");
+        self.keep(done);
+    }
+
+    fn signed(&mut self, number: i64) {
         let done = write!(self.text, "{number}");
         self.keep(done);
     }

@@ -16,10 +16,7 @@ pub(crate) fn nearest(word: &str, names: &[&'static str]) -> Option<&'static str
 /// Adds names, with commas between them.
 pub(crate) fn say_list(line: &mut Line, names: &[&'static str]) {
     for (number, name) in names.iter().enumerate() {
-        line.say(
-            if number > 0 { ", {0}" } else { "{0}" },
-            &[Part::Text(name)],
-        );
+        line.say_one(if number > 0 { ", {0}" } else { "{0}" }, Part::Text(name));
     }
 }
 
@@ -44,23 +41,23 @@ fn is_one(word: &[u8], name: &[u8]) -> bool {
 }
 
 fn common_front(word: &[u8], name: &[u8]) -> usize {
-    let mut count = 0usize;
-    for (a, b) in word.iter().zip(name.iter()) {
-        if *a != *b {
-            break;
+    let mut rest = name;
+    for byte in word {
+        match rest {
+            [first, behind @ ..] if *first == *byte => rest = behind,
+            _ => break,
         }
-        count = count.saturating_add(1);
     }
-    count
+    name.len().saturating_sub(rest.len())
 }
 
 fn common_back(word: &[u8], name: &[u8]) -> usize {
-    let mut count = 0usize;
-    for (a, b) in word.iter().rev().zip(name.iter().rev()) {
-        if *a != *b {
-            break;
+    let mut rest = name;
+    for byte in word.iter().rev() {
+        match rest {
+            [before @ .., last] if *last == *byte => rest = before,
+            _ => break,
         }
-        count = count.saturating_add(1);
     }
-    count
+    name.len().saturating_sub(rest.len())
 }

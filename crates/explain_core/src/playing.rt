@@ -63,12 +63,12 @@ pub(crate) fn explain_play<R: Files>(line: &mut Line, rt: &R, played: Played, fa
     let input = Part::Named(played.1, "IN");
     match fault {
         StreamFault::FileRefused => {
-            line.say("{0}: ", &[input]);
+            line.say_one("{0}: ", input);
             explain_seen(line, rt, played.1, "dsdarc info of it says why");
         }
         StreamFault::RateNotDivided => explain_rate(line, rt, played),
         StreamFault::TooLarge => explain_large(line, rt, played),
-        StreamFault::TurnLimit => line.say("{0} has no end: name a file", &[input]),
+        StreamFault::TurnLimit => line.say_one("{0} has no end: name a file", input),
         _ => {}
     }
 }
@@ -82,8 +82,8 @@ fn explain_rate<R: Files>(line: &mut Line, rt: &R, played: Played) {
     let (factor, project) = (Part::Number(tables.factor), Part::Text(played.0));
     line.say(RATE, &[input, rate, factor, project]);
     match ready(rt, line.alloc(), shape.rate, played.0) {
-        Some(path) => line.say("{0} fits", &[Part::Text(path.as_str())]),
-        None => line.say("filters/pick prints the filter that fits a file", &[]),
+        Some(path) => line.say_one("{0} fits", Part::Text(path.as_str())),
+        None => line.push("filters/pick prints the filter that fits a file"),
     }
 }
 
@@ -106,9 +106,9 @@ fn is_file<R: Files>(rt: &R, path: &str) -> bool {
 }
 
 fn prefix_of(rate: u64) -> Option<&'static str> {
-    for (each, front) in HEADERS {
-        if each == rate {
-            return Some(front);
+    for (each, front) in &HEADERS {
+        if *each == rate {
+            return Some(*front);
         }
     }
     None
@@ -128,14 +128,14 @@ fn explain_large<R: Files>(line: &mut Line, rt: &R, played: Played) {
 
 /// Adds that a part is too large for a WAVE file.
 pub(crate) fn explain_large_part(line: &mut Line, input: &str) {
-    line.say(LARGE_PART, &[Part::Named(input, "IN")]);
+    line.say_one(LARGE_PART, Part::Named(input, "IN"));
 }
 
 /// Adds how many frames a recording has of which a part isn't there, or where its marks are counted.
 pub(crate) fn explain_span<R: Files>(line: &mut Line, rt: &R, played: Played, fault: SpanFault) {
     match fault {
-        SpanFault::NoMark => line.say(NO_MARK, &[Part::Named(played.1, "IN")]),
-        SpanFault::PartReversed => line.say("what --to names is before what --from names", &[]),
+        SpanFault::NoMark => line.say_one(NO_MARK, Part::Named(played.1, "IN")),
+        SpanFault::PartReversed => line.push("what --to names is before what --from names"),
         SpanFault::PartOutside => explain_frames(line, rt, played),
     }
 }
@@ -155,9 +155,9 @@ pub(crate) fn explain_parts<R: Files>(line: &mut Line, rt: &R, input: &str) {
         Some(Shape { bits, .. }) => {
             line.say(WHOLE, &[name, Part::Count(bits), Part::Number(bits % 8)])
         }
-        None => line.say("{0}: ", &[name]),
+        None => line.say_one("{0}: ", name),
     }
-    line.say("convert it to dsf or dsf8", &[]);
+    line.push("convert it to dsf or dsf8");
 }
 
 /// Adds what a project has in place of the table that is asked for.

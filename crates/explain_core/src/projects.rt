@@ -17,7 +17,7 @@ struct Text<'a> {
 /// Adds why a project text is refused.
 pub(crate) fn explain_project(line: &mut Line, source: &[u8], fault: ProjectFault) {
     let Ok(lines) = std::str::from_utf8(source) else {
-        return line.say("it is not UTF-8", &[]);
+        return line.push("it is not UTF-8");
     };
     match toml::table_from_str(line.alloc(), lines) {
         Ok(document) => {
@@ -44,13 +44,13 @@ fn explain_error(line: &mut Line, source: &[u8], error: &toml::de::Error) {
 /// Adds in which line something stands, if that is known.
 pub(crate) fn say_line(line: &mut Line, number: Option<usize>) {
     if let Some(number) = number {
-        line.say(" in line {0}", &[Part::Number(number as u64)]);
+        line.say_one(" in line {0}", Part::Number(number as u64));
     }
 }
 
 /// Adds which cue of a text it is, and where it stands.
 pub(crate) fn say_cue(line: &mut Line, lines: &str, number: usize) {
-    line.say("cue {0}", &[Part::Number(number as u64)]);
+    line.say_one("cue {0}", Part::Number(number as u64));
     say_line(line, line_of(lines, Table::Cue, number));
 }
 
@@ -123,7 +123,7 @@ impl<'a> Text<'a> {
 
     // Adds a key in quotation marks, and in which line it stands.
     fn say_key(self, line: &mut Line, table: Table, number: usize, key: &str) {
-        line.say("\"{0}\"", &[Part::Text(key)]);
+        line.say_one("\"{0}\"", Part::Text(key));
         say_line(line, key_line(self.lines, table, number, key));
     }
 
@@ -142,19 +142,19 @@ impl<'a> Text<'a> {
 
     // Adds what a key that isn't known may have meant.
     fn explain_name(self, line: &mut Line, table: Table, number: usize, name: &str) {
-        line.say("\"{0}\"", &[Part::Text(name)]);
+        line.say_one("\"{0}\"", Part::Text(name));
         let place = key_line(self.lines, table, number, name);
         if place.is_none() && table == Table::Document {
             say_line(line, line_of_unknown(self.lines, name));
         } else {
             say_line(line, place);
         }
-        line.say(" is no key of {0}", &[Part::Text(table.name())]);
+        line.say_one(" is no key of {0}", Part::Text(table.name()));
         match (nearest(name, table.keys()), home_of(name)) {
-            (Some(meant), _) => line.say("; did you mean \"{0}\"?", &[Part::Text(meant)]),
-            (None, Some(home)) => line.say("; it belongs to {0}", &[Part::Text(home.name())]),
+            (Some(meant), _) => line.say_one("; did you mean \"{0}\"?", Part::Text(meant)),
+            (None, Some(home)) => line.say_one("; it belongs to {0}", Part::Text(home.name())),
             (None, None) => {
-                line.say("; its keys are ", &[]);
+                line.push("; its keys are ");
                 say_list(line, table.keys());
             }
         }
@@ -172,9 +172,9 @@ impl<'a> Text<'a> {
         match value_at(self.content(table, number), name) {
             Some(value) => {
                 self.say_key(line, table, number, name);
-                line.say(" is ", &[]);
+                line.push(" is ");
                 say_value(line, value);
-                line.say(", and has to be {0}", &[wanted]);
+                line.say_one(", and has to be {0}", wanted);
             }
             None => {
                 self.say_table(line, table, number);
@@ -200,7 +200,7 @@ impl<'a> Text<'a> {
         if table == Table::Cue {
             return say_cue(line, self.lines, number);
         }
-        line.say("{0}", &[Part::Text(table.name())]);
+        line.say_one("{0}", Part::Text(table.name()));
         say_line(line, line_of(self.lines, table, 0));
     }
 
@@ -212,7 +212,7 @@ impl<'a> Text<'a> {
         );
         say_line(line, key_line(self.lines, Table::Cue, number, "take"));
         let takes = Part::Number(self.items_of(Key::Takes));
-        line.say("; there are {0}, counted from 0", &[takes]);
+        line.say_one("; there are {0}, counted from 0", takes);
     }
 
     fn explain_short(self, line: &mut Line, number: usize) {
@@ -245,16 +245,16 @@ impl<'a> Text<'a> {
 // Adds what a value is.
 fn say_value(line: &mut Line, value: &Value) {
     match value {
-        Value::Integer(number) => line.say("{0}", &[Part::Signed(*number)]),
+        Value::Integer(number) => line.say_one("{0}", Part::Signed(*number)),
         Value::String(words) if words.len() <= 80 => {
-            line.say("\"{0}\"", &[Part::Text(words.as_str())])
+            line.say_one("\"{0}\"", Part::Text(words.as_str()))
         }
         Value::String(words) => {
-            line.say("a text of {0} bytes", &[Part::Count(words.len() as u64)])
+            line.say_one("a text of {0} bytes", Part::Count(words.len() as u64))
         }
         Value::Array(values) => {
-            line.say("an array of {0}", &[Part::Number(values.len() as u64)])
+            line.say_one("an array of {0}", Part::Number(values.len() as u64))
         }
-        _ => line.say("of the kind {0}", &[Part::Text(value.type_str())]),
+        _ => line.say_one("of the kind {0}", Part::Text(value.type_str())),
     }
 }

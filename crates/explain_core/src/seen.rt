@@ -63,38 +63,28 @@ enum Seen {
 // What the file of a name is seen to be.
 fn see<R: Files>(rt: &R, name: &str) -> Seen {
     match reopen(rt, name) {
-        Ok(look) => see_file(look),
+        Ok(mut look) => see_file(&mut look),
         Err(trouble) => Seen::Unseen(trouble),
     }
 }
 
-fn see_file<F: Read + Seek + Drop>(mut look: Look<F>) -> Seen {
+fn see_file<F: Read + Seek + Drop>(look: &mut Look<F>) -> Seen {
     let mut front = [0u8; FRONT];
-    let count = match look.read_at(0, &mut front) {
-        Ok(count) => count,
-        Err(error) => return Seen::Unseen(Trouble::Refused(error)),
-    };
-    match &front {
-        [b'D', b'S', b'D', b' ', ..] => Seen::Dsf(dsf::look_at(&mut look)),
-        [
-            b'F',
-            b'R',
-            b'M',
-            b'8',
-            _,
-            _,
-            _,
-            _,
-            _,
-            _,
-            _,
-            _,
-            b'D',
-            b'S',
-            b'D',
-            b' ',
-        ] => { Seen::Dsdiff(dsdiff::look_at(&mut look)) }
-        _ => Seen::Other(front, count, look.length),
+    match look.read_at(0, &mut front) {
+        Ok(count) => see_as(look, front, count),
+        Err(error) => Seen::Unseen(Trouble::Refused(error)),
+    }
+}
+
+// What a file is seen to be by its first bytes, of which so many are there.
+fn see_as<F: Read + Seek + Drop>(look: &mut Look<F>, front: [u8; FRONT], count: usize) -> Seen {
+    let (id, form) = (id_at(&front, 0), id_at(&front, 12));
+    if id == *b"DSD " {
+        Seen::Dsf(dsf::look_at(look))
+    } else if id == *b"FRM8" && form == *b"DSD " {
+        Seen::Dsdiff(dsdiff::look_at(look))
+    } else {
+        Seen::Other(front, count, look.length)
     }
 }
 
@@ -122,6 +112,16 @@ pub(crate) fn is_bad_number(channels: u32) -> bool {
     channels < 1 || channels > 6
 }
 
+/// The first fault of those that are so.
+pub(crate) fn first_of<T: Copy>(faults: &[(bool, T)]) -> Option<T> {
+    for (is_so, fault) in faults {
+        if *is_so {
+            return Some(*fault);
+        }
+    }
+    None
+}
+
 /// Adds what was seen in a file that is no recording, for this fault.
 pub(crate) fn explain_file<R: Files>(line: &mut Line, rt: &R, name: &str, fault: ReadFault) {
     match (fault, see(rt, name)) {
@@ -142,11 +142,11 @@ pub(crate) fn explain_seen<R: Files>(line: &mut Line, rt: &R, name: &str, otherw
     let fault = match see(rt, name) {
         Seen::Dsdiff(look) => match look.first_fault() {
             Some(fault) => ReadFault::Dsdiff(fault),
-            None => return line.say(otherwise, &[]),
+            None => return line.push(otherwise),
         },
         Seen::Dsf(look) => match look.first_fault() {
             Some(fault) => ReadFault::Dsf(fault),
-            None => return line.say(otherwise, &[]),
+            None => return line.push(otherwise),
         },
         _ => ReadFault::UnknownForm,
     };
@@ -168,9 +168,9 @@ fn explain_front(line: &mut Line, front: &[u8; FRONT], count: usize, length: u64
 }
 
 fn kind_of(front: &[u8; FRONT]) -> Option<&'static str> {
-    for (place, bytes, kind) in KINDS {
-        if front.get(place..).unwrap_or(&[]).starts_with(bytes) {
-            return Some(kind);
+    for (place, bytes, kind) in &KINDS {
+        if front.get(*place..).unwrap_or(&[]).starts_with(bytes) {
+            return Some(*kind);
         }
     }
     for byte in front {

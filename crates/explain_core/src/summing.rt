@@ -33,7 +33,7 @@ pub fn explain_sum<R: Files + Env + AllocGlobal>(
     let name = say_file(&mut line, file);
     match ended {
         Ended::Fault(Fault::FileUnread(why)) => explain_file(&mut line, rt, name, why),
-        Ended::Fault(Fault::Memory) => line.say(MEMORY, &[]),
+        Ended::Fault(Fault::Memory) => line.push(MEMORY),
         Ended::ReadFailed => {
             explain_read(&mut line, rt, name);
             if let Summed::Listed(_, _, _) = file {
@@ -54,49 +54,43 @@ fn say_file<'a>(line: &mut Line, file: Summed<'a>) -> &'a str {
         Summed::Listed(name, number, list) => {
             let (named, number) = (Part::Text(name), Part::Number(number as u64));
             line.say("{0} (line {1} of ", &[named, number]);
-            line.say("{0}): ", &[Part::Text(list)]);
+            line.say_one("{0}): ", Part::Text(list));
             return name;
         }
     };
-    line.say("{0}: ", &[Part::Named(name, word)]);
+    line.say_one("{0}: ", Part::Named(name, word));
     name
 }
 
 fn explain_read<R: Files>(line: &mut Line, rt: &R, name: &str) {
     match trouble_of(rt, name) {
         Some(trouble) => explain_at(line, rt, name, trouble),
-        None => line.say(
-            "a read failed part way, or it was changed while it was read",
-            &[],
-        ),
+        None => line.push("a read failed part way, or it was changed while it was read"),
     }
 }
 
 // Adds why a list is refused: a line of it, or for the number 0 all of it.
 fn explain_list<R: Files>(line: &mut Line, rt: &R, name: &str, number: usize) {
     match text_of(rt, line.alloc(), name) {
-        _ if is_recording(rt, name) => line.say(
-            "it is a recording; without --check it is summed",
-            &[],
-        ),
+        _ if is_recording(rt, name) => line.push("it is a recording; without --check it is summed"),
         Some(text) => explain_lines(line, &text, number),
-        None => line.say(WANTED, &[]),
+        None => line.push(WANTED),
     }
 }
 
 fn explain_lines(line: &mut Line, text: &[u8], number: usize) {
     match (std::str::from_utf8(text), number.checked_sub(1)) {
-        (Err(_), _) => line.say("it is not UTF-8", &[]),
-        (Ok(_), None) => line.say("it has no line", &[]),
+        (Err(_), _) => line.push("it is not UTF-8"),
+        (Ok(_), None) => line.push("it has no line"),
         (Ok(text), Some(before)) => {
             for found in text.lines().skip(before).take(1) {
-                line.say("line {0} is ", &[Part::Number(number as u64)]);
+                line.say_one("line {0} is ", Part::Number(number as u64));
                 match found.len() {
-                    0..=80 => line.say("\"{0}\"; ", &[Part::Text(found)]),
-                    bytes => line.say("{0} bytes long; ", &[Part::Count(bytes as u64)]),
+                    0..=80 => line.say_one("\"{0}\"; ", Part::Text(found)),
+                    bytes => line.say_one("{0} bytes long; ", Part::Count(bytes as u64)),
                 }
             }
-            line.say(WANTED, &[]);
+            line.push(WANTED);
         }
     }
 }

@@ -30,14 +30,20 @@ pub(crate) fn input_of(task: Task<'_>) -> Option<File<'_>> {
 
 /// The file that a command makes in a step, or judges.
 pub(crate) fn output_of(task: Task<'_>, step: Step) -> Option<File<'_>> {
-    match (task, step) {
-        (Task::Play { output, .. }, _) => Some((output, "OUT")),
-        (Task::PlayPart { output, .. }, _) => Some((output, "OUT")),
-        (Task::Convert { output, .. }, _) => Some((output, "OUT")),
-        (Task::Edit { master, .. }, Step::First) => Some((master, "MASTER")),
-        (Task::Edit { cert, .. }, Step::Second) => Some((cert, "CERT")),
-        (Task::Check { master, .. }, Step::First) => Some((master, "MASTER")),
-        (Task::Check { cert, .. }, Step::Second) => Some((cert, "CERT")),
-        (Task::Info { .. }, _) => None,
+    match task {
+        Task::Play { output, .. } => Some((output, "OUT")),
+        Task::PlayPart { output, .. } => Some((output, "OUT")),
+        Task::Convert { output, .. } => Some((output, "OUT")),
+        Task::Edit { master, cert, .. } => Some(made_in(step, master, cert)),
+        Task::Check { master, cert, .. } => Some(made_in(step, master, cert)),
+        Task::Info { .. } => None,
+    }
+}
+
+// The one of a master and its certificate that is made, or judged, in a step.
+fn made_in<'a>(step: Step, master: &'a str, cert: &'a str) -> File<'a> {
+    match step {
+        Step::First => (master, "MASTER"),
+        Step::Second => (cert, "CERT"),
     }
 }

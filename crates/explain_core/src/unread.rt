@@ -2,7 +2,7 @@
 
 use crate::files::{Trouble, explain_error, explain_trouble, reopen};
 use crate::line::{Line, Part};
-use crate::splices::cutting_of;
+use crate::splices::{Cutting, cutting_of};
 use crate::tasks::{File, input_of, output_of, project_of};
 use folder_core::Step;
 use std::io::{Error, ErrorKind};
@@ -29,7 +29,7 @@ pub(crate) fn explain_unread<R: Files + Env + AllocGlobal>(line: &mut Line, rt: 
         }
     }
     if line.is_empty() {
-        line.say(CHANGED, &[]);
+        line.push(CHANGED);
     }
 }
 
@@ -38,15 +38,23 @@ const CHANGED: &str = "a read failed part way, or a file was changed while it wa
 // Adds what is wrong with a file that is to be read, if nothing was said before.
 fn explain_named<R: Files>(line: &mut Line, rt: &R, file: File) {
     if let (Some(trouble), true) = (trouble_of(rt, file.0), line.is_empty()) {
-        line.say("{0}: ", &[Part::Named(file.0, file.1)]);
+        line.say_one("{0}: ", Part::Named(file.0, file.1));
         explain_at(line, rt, file.0, trouble);
     }
 }
 
 fn explain_takes<R: Files + Env + AllocGlobal>(line: &mut Line, rt: &R, project: &str) {
-    let Some(cutting) = cutting_of(rt, line.alloc(), project) else {
-        return;
-    };
+    if let Some(cutting) = cutting_of(rt, line.alloc(), project) {
+        explain_each_take(line, rt, project, &cutting);
+    }
+}
+
+fn explain_each_take<R: Files + Env + AllocGlobal>(
+    line: &mut Line,
+    rt: &R,
+    project: &str,
+    cutting: &Cutting,
+) {
     for number in 0..cutting.takes() {
         explain_take(line, rt, project, number, cutting.take(number));
     }
@@ -62,7 +70,7 @@ fn explain_take<R: Files + Env + AllocGlobal>(
 ) {
     if let (Some(trouble), true) = (trouble_of(rt, name), line.is_empty()) {
         say_take(line, name, number as u64);
-        line.say("{0}): ", &[Part::Text(project)]);
+        line.say_one("{0}): ", Part::Text(project));
         explain_at(line, rt, name, trouble);
         say_folder(line, rt, "takes", name);
     }
@@ -106,7 +114,7 @@ pub(crate) fn explain_at<R: Files>(line: &mut Line, rt: &R, name: &str, trouble:
 
 /// Adds which file could not be written, and why.
 pub(crate) fn explain_unwritten<R: Files>(line: &mut Line, rt: &R, file: File, error: &Error) {
-    line.say("{0}: ", &[Part::Named(file.0, file.1)]);
+    line.say_one("{0}: ", Part::Named(file.0, file.1));
     explain_error(line, error);
     explain_parent(line, rt, file.0, error);
 }
@@ -115,7 +123,7 @@ pub(crate) fn explain_unwritten<R: Files>(line: &mut Line, rt: &R, file: File, e
 fn explain_parent<R: Files>(line: &mut Line, rt: &R, name: &str, error: &Error) {
     if let (ErrorKind::NotFound, Some((folder, _))) = (error.kind(), name.rsplit_once('/')) {
         if !folder.is_empty() && fs::metadata(rt, folder).is_err() {
-            line.say("; there is no folder {0}", &[Part::Text(folder)]);
+            line.say_one("; there is no folder {0}", Part::Text(folder));
         }
     }
 }

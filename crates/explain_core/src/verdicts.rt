@@ -11,46 +11,57 @@ use std::rt::Files;
 
 /// Adds why a master is rejected, by the names of the project, the master and the certificate.
 pub(crate) fn explain_verdict<R: Files>(line: &mut Line, rt: &R, names: [&str; 3], reason: Reason) {
-    let [project, master_name, cert_name] = names;
-    let Some(cutting) = cutting_of(rt, line.alloc(), project) else {
-        return;
-    };
-    let (master, cert) = (
-        Part::Named(master_name, "MASTER"),
-        Part::Named(cert_name, "CERT"),
-    );
+    let [project, master, cert] = names;
+    if let Some(cutting) = cutting_of(rt, line.alloc(), project) {
+        explain_reason(line, rt, &cutting, (master, cert), reason);
+    }
+}
+
+fn explain_reason<R: Files>(
+    line: &mut Line,
+    rt: &R,
+    cutting: &Cutting,
+    (master, cert): (&str, &str),
+    reason: Reason,
+) {
     match reason {
-        Reason::MasterUnread => {
-            line.say("{0}: ", &[master]);
-            explain_seen(line, rt, master_name, "info says why");
-        }
-        Reason::MasterShape => explain_unlike(line, rt, &cutting, master_name),
-        Reason::MasterLength => {
-            if let Some(found) = shape_of(rt, master_name) {
-                let (found, wanted) = (Part::Count(found.bits), Part::Count(cutting.bits()));
-                line.say(LENGTH, &[master, found, wanted]);
-            }
-        }
-        Reason::MasterMarks => line.say(MARKS, &[master, Part::Several(cutting.titles(), "title")]),
-        Reason::CuedBit(channel, place) => {
-            if let Some(bit) = cutting.cued(place as u64) {
-                let (place, there) = (Part::Count(place as u64), Part::Count(bit.place));
-                line.say(BIT, &[master, place, Part::Number(channel as u64), there]);
-                cutting.say_take(line, bit.cue.take);
-                line.say(", by ", &[]);
-                cutting.say_cue(line, bit.number);
-            }
-        }
-        Reason::CertHead(_) => {
-            line.say("{0}: ", &[cert]);
-            explain_head(line, rt, &cutting, cert_name);
-        }
-        Reason::Cert(entry, why) => {
-            line.say("{0}: ", &[cert]);
-            explain_entry(line, &cutting, entry as u64, channels(rt, &cutting));
-            line.say(hint(why), &[]);
-        }
-        Reason::CertExtra => line.say("{0}: something was added after its last entry", &[cert]),
+        Reason::MasterUnread => explain_master(line, rt, master),
+        Reason::MasterShape => explain_unlike(line, rt, cutting, master),
+        Reason::MasterLength => explain_length(line, rt, cutting, master),
+        Reason::MasterMarks => explain_marks(line, cutting, master),
+        Reason::CuedBit(channel, place) => explain_bit(line, cutting, master, (channel, place)),
+        Reason::CertHead(_) => explain_head(line, rt, cutting, cert),
+        Reason::Cert(entry, why) => explain_cert(line, rt, cutting, cert, (entry, why)),
+        Reason::CertExtra => line.say_one(EXTRA, Part::Named(cert, "CERT")),
+    }
+}
+
+fn explain_master<R: Files>(line: &mut Line, rt: &R, master: &str) {
+    line.say_one("{0}: ", Part::Named(master, "MASTER"));
+    explain_seen(line, rt, master, "info says why");
+}
+
+fn explain_length<R: Files>(line: &mut Line, rt: &R, cutting: &Cutting, master: &str) {
+    if let Some(found) = shape_of(rt, master) {
+        let (found, wanted) = (Part::Count(found.bits), Part::Count(cutting.bits()));
+        line.say(LENGTH, &[Part::Named(master, "MASTER"), found, wanted]);
+    }
+}
+
+fn explain_marks(line: &mut Line, cutting: &Cutting, master: &str) {
+    let titles = Part::Several(cutting.titles(), "title");
+    line.say(MARKS, &[Part::Named(master, "MASTER"), titles]);
+}
+
+// Adds where a bit of a channel comes from.
+fn explain_bit(line: &mut Line, cutting: &Cutting, master: &str, (channel, place): (usize, usize)) {
+    if let Some(bit) = cutting.cued(place as u64) {
+        let (master, channel) = (Part::Named(master, "MASTER"), Part::Number(channel as u64));
+        let (place, there) = (Part::Count(place as u64), Part::Count(bit.place));
+        line.say(BIT, &[master, place, channel, there]);
+        cutting.say_take(line, bit.cue.take);
+        line.push(", by ");
+        cutting.say_cue(line, bit.number);
     }
 }
 
@@ -64,32 +75,34 @@ fn channels<R: Files>(rt: &R, cutting: &Cutting) -> u64 {
 
 fn explain_unlike<R: Files>(line: &mut Line, rt: &R, cutting: &Cutting, master: &str) {
     if let (Some(found), Some(wanted)) = (shape_of(rt, master), shape_of(rt, cutting.take(0))) {
-        line.say("{0} has ", &[Part::Named(master, "MASTER")]);
+        line.say_one("{0} has ", Part::Named(master, "MASTER"));
         say_shape(line, found);
-        line.say(", and ", &[]);
+        line.push(", and ");
         cutting.say_take(line, 0);
-        line.say(" ", &[]);
+        line.push(" ");
         say_shape(line, wanted);
     }
 }
 
 fn explain_head<R: Files>(line: &mut Line, rt: &R, cutting: &Cutting, cert: &str) {
-    let Some(head) = cert_head(rt, cert) else {
-        return line.say(
-            "it ends inside its head: fetch it again, or edit again",
-            &[],
-        );
-    };
-    let id = id_at(&head, 0);
-    if id != *b"DSPC" {
-        return line.say("it begins with {0}, not \"DSPC\"", &[Part::Id(id)]);
+    line.say_one("{0}: ", Part::Named(cert, "CERT"));
+    match cert_head(rt, cert) {
+        Some(head) if id_at(&head, 0) == *b"DSPC" => explain_fields(line, rt, cutting, &head),
+        Some(head) => line.say_one(
+            "it begins with {0}, not \"DSPC\"",
+            Part::Id(id_at(&head, 0)),
+        ),
+        None => line.push("it ends inside its head: fetch it again, or edit again"),
     }
-    let version = Part::Number(u64::from(u16_at(Order::Big, &head, 4)));
-    let weights = Part::Several(u64::from(u16_at(Order::Big, &head, 6)), "weight");
+}
+
+fn explain_fields<R: Files>(line: &mut Line, rt: &R, cutting: &Cutting, head: &[u8; 12]) {
+    let version = Part::Number(u64::from(u16_at(Order::Big, head, 4)));
+    let weights = Part::Several(u64::from(u16_at(Order::Big, head, 6)), "weight");
     line.say("it is of version {0}, for {1} and ", &[version, weights]);
-    say_entries(line, u64::from(u32_at(Order::Big, &head, 8)));
+    say_entries(line, u64::from(u32_at(Order::Big, head, 8)));
     let weights = Part::Several(cutting.weights(), "weight");
-    line.say("; the project has {0} and ", &[weights]);
+    line.say_one("; the project has {0} and ", weights);
     say_entries(
         line,
         cutting.bridges().saturating_mul(channels(rt, cutting)),
@@ -102,7 +115,7 @@ fn say_entries(line: &mut Line, entries: u64) {
     } else {
         "{0} entries"
     };
-    line.say(name, &[Part::Number(entries)]);
+    line.say_one(name, Part::Number(entries));
 }
 
 // The head of a certificate: its ID, its version, its weights and its entries.
@@ -113,12 +126,25 @@ fn cert_head<R: Files>(rt: &R, cert: &str) -> Option<[u8; 12]> {
     }
 }
 
+// Adds what is wrong with an entry.
+fn explain_cert<R: Files>(
+    line: &mut Line,
+    rt: &R,
+    cutting: &Cutting,
+    cert: &str,
+    (entry, why): (usize, CertReason),
+) {
+    line.say_one("{0}: ", Part::Named(cert, "CERT"));
+    explain_entry(line, cutting, entry as u64, channels(rt, cutting));
+    line.push(hint(why));
+}
+
 // Adds for which bridge an entry is.
 fn explain_entry(line: &mut Line, cutting: &Cutting, entry: u64, channels: u64) {
-    line.say("entry {0} is ", &[Part::Number(entry)]);
+    line.say_one("entry {0} is ", Part::Number(entry));
     if let Some(number) = cutting.bridged(entry.checked_div(channels).unwrap_or(0)) {
         let channel = Part::Number(entry.checked_rem(channels).unwrap_or(0));
-        line.say("for channel {0} of the bridge after ", &[channel]);
+        line.say_one("for channel {0} of the bridge after ", channel);
         cutting.say_cue(line, number);
     }
 }
@@ -138,5 +164,7 @@ fn hint(why: CertReason) -> &'static str {
 const LENGTH: &str = "{0} has {1} bits per channel; the cues and bridges have {2} together";
 
 const MARKS: &str = "{0}: its marks are not those of the {1} of the project; info prints its marks";
+
+const EXTRA: &str = "{0}: something was added after its last entry";
 
 const BIT: &str = "{0}: bit {1} of channel {2} has to be bit {3} of ";

@@ -16,12 +16,12 @@ const MOST_BYTES: usize = 4096;
 /// Adds why words are no command. The first is the program's name.
 pub(crate) fn explain_words(line: &mut Line, words: &[String]) {
     let Some((_, [name, rest @ ..])) = words.split_first() else {
-        line.say("no command is named: ", &[]);
+        line.push("no command is named: ");
         return say_commands(line);
     };
     let name = name.as_str();
-    for (command, parts) in COMMANDS {
-        if command == name {
+    for (command, parts) in &COMMANDS {
+        if *command == name {
             return explain_usage(line, rest, command, parts);
         }
     }
@@ -32,7 +32,7 @@ fn explain_usage(line: &mut Line, rest: &[String], name: &str, parts: &[&str]) {
     match option_in(rest) {
         Some(word) => {
             let word = Part::Text(word);
-            line.say("{0} begins with -; as a name it is written ./{0}", &[word]);
+            line.say_one("{0} begins with -; as a name it is written ./{0}", word);
         }
         None => {
             let (wanted, got) = (parts.len() as u64, Part::Number(rest.len() as u64));
@@ -43,9 +43,9 @@ fn explain_usage(line: &mut Line, rest: &[String], name: &str, parts: &[&str]) {
             );
         }
     }
-    line.say("; usage: dsdarc {0}", &[Part::Text(name)]);
+    line.say_one("; usage: dsdarc {0}", Part::Text(name));
     for part in parts {
-        line.say(" {0}", &[Part::Text(part)]);
+        line.say_one(" {0}", Part::Text(part));
     }
 }
 
@@ -64,20 +64,20 @@ fn option_in(words: &[String]) -> Option<&str> {
 }
 
 fn explain_unknown(line: &mut Line, name: &str) {
-    line.say("\"{0}\" is no command", &[Part::Text(name)]);
+    line.say_one("\"{0}\" is no command", Part::Text(name));
     match nearest(name, &NAMES) {
-        Some(meant) => line.say("; did you mean {0}?", &[Part::Text(meant)]),
+        Some(meant) => line.say_one("; did you mean {0}?", Part::Text(meant)),
         None => {
-            line.say(": ", &[]);
+            line.push(": ");
             say_commands(line);
         }
     }
 }
 
 fn say_commands(line: &mut Line) {
-    line.say("the commands are ", &[]);
+    line.push("the commands are ");
     say_list(line, &NAMES);
-    line.say("; dsdarc --help prints the usage", &[]);
+    line.push("; dsdarc --help prints the usage");
 }
 
 /// Adds which form there may be in place of one that isn't known.
@@ -86,16 +86,16 @@ pub(crate) fn explain_form(line: &mut Line, words: &[String]) {
         return;
     };
     let form = form.as_str();
-    line.say(
+    line.say_one(
         "\"{0}\" is no form: FORM is dsdiff, dsf or dsf8",
-        &[Part::Text(form)],
+        Part::Text(form),
     );
     match form {
-        "dff" | "DFF" => line.say("; did you mean dsdiff?", &[]),
-        "wav" | "WAV" | "wave" | "flac" => line.say("; play writes WAVE files", &[]),
+        "dff" | "DFF" => line.push("; did you mean dsdiff?"),
+        "wav" | "WAV" | "wave" | "flac" => line.push("; play writes WAVE files"),
         _ => {
             if let Some(meant) = nearest(form, &["dsdiff", "dsf", "dsf8"]) {
-                line.say("; did you mean {0}?", &[Part::Text(meant)]);
+                line.say_one("; did you mean {0}?", Part::Text(meant));
             }
         }
     }
@@ -110,7 +110,7 @@ pub(crate) fn explain_no_text<R: Env>(line: &mut Line, rt: &R) {
         };
         let word = bytes.get(..count).unwrap_or(&[]);
         if std::str::from_utf8(word).is_err() {
-            return line.say("a name has to be UTF-8, and {0} is not", &[Part::Raw(word)]);
+            return line.say_one("a name has to be UTF-8, and {0} is not", Part::Raw(word));
         }
     }
 }

@@ -8,6 +8,6 @@ use Rattle.folder_core.specs.declared.gapped_file.GappedFile.{GappedFile}
 abbrev pub gapped_file : {F I O : Type 0} → GappedFile F I O → I
 gapped_file file = file.file
 
--- so many bytes from a place on lie in one of two gaps
+-- the `size` bytes from a place on lie in one of the two gaps
 abbrev pub LiesInGap : Gaps → ℕ → ℕ → Type 0
 LiesInGap gaps place size = ((gaps.first.start ≤ place) × (place + size ≤ gaps.first.stop)) ⊎ ((gaps.second.start ≤ place) × (place + size ≤ gaps.second.stop))

@@ -5,8 +5,7 @@
 //! streams, what it opens is a [`DiskInput`], and what it creates is a [`DiskFile`], which gets its name only once it
 //! is kept, whole.
 //!
-//! - [`read_file`] reads a file to its end, [`read_files`] several in turn, [`read_short`] only one that is short,
-//!   [`read_whole`] what any reader has left.
+//! - [`read_file`] reads a file to its end, [`read_files`] several in turn, [`read_whole`] what any reader has left.
 //! - [`write_file`] creates a file and writes it, [`hand_back`] ends one that was written.
 //! - A [`GappedFile`] is read by who looks at no byte of two [`Gaps`] in it: a folder on a disk passes over these.
 //! - A [`WatchedFolder`] shows on a terminal how far the files of another folder are read, in per cent with the time
@@ -22,8 +21,6 @@
 //!   bytes were put there.
 //! - `KeepsOthers name old new` says that only the file of this name may have changed. `IsPutInPart name old new bytes`
 //!   says that the file is as it was, or holds a prefix of these bytes, and this only if no old file had to be kept.
-//! - `IsShortOf most view name answer` says that an answer is the bytes of a file with fewer than `most`, or None for a
-//!   file with `most` or more (`specs/ShortFiles.antt`).
 //! - `watched_folder` and `watched_file` are what is watched (`specs/WatchedFolders.antt`), `gapped_file` is what is
 //!   read but for gaps (`specs/GappedFiles.antt`).
 //!
@@ -55,7 +52,6 @@ mod memory_folder;
 mod opened;
 mod places;
 mod progress;
-mod short_files;
 mod watched_folder;
 
 pub use disk::{Disk, Failure, Step};
@@ -66,5 +62,4 @@ pub use files::{hand_back, read_file, read_files, read_whole, write_file};
 pub use folder::{Folder, FolderFault, Work};
 pub use gapped_file::{Gap, GappedFile, Gaps};
 pub use memory_folder::MemoryFolder;
-pub use short_files::read_short;
 pub use watched_folder::{KnownLength, WatchedFile, WatchedFolder};

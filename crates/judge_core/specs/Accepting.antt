@@ -1,8 +1,10 @@
 -- Which masters and certificates are accepted, and why others are rejected.
-use Rattle.std.specs.Prelude.{◌≡◌, ℕ, ◌⊎◌, List, MatchResult, None, Result, Ok, Err}
+use Rattle.std.specs.Prelude.{◌≡◌, ℕ, ◌⊎◌, List, MatchResult, None, Option, Result, Ok, Err}
 use Rattle.dsd_bits.specs.Contents.{Content}
 use Rattle.form_core.specs.declared.form.Form.{Form}
 use Rattle.form_core.specs.Forms.{HoldsAs}
+use Rattle.cert_core.specs.Readers.{IfLeft}
+use Rattle.cert_core.specs.declared.reader.CertReader.{CertReader}
 use Rattle.cert_core.specs.declared.verdict.CheckFault.{CheckFault}
 use Rattle.cert_core.specs.declared.verdict.CheckFault.TheVariants as certs
 use Rattle.cut_core.specs.Cuts.{CutContent}
@@ -12,7 +14,8 @@ use Rattle.judge_core.specs.declared.verdict.Verdict.{Verdict}
 use Rattle.judge_core.specs.declared.verdict.Verdict.TheVariants.{Accepted, Rejected}
 use Rattle.judge_core.specs.Checking.{IsMasterOf, IsTitled, IsFirstAgainst}
 use Rattle.judge_core.specs.Claims.{IsCertOf, windows_total}
-use Rattle.judge_core.specs.Finding.{HoldsNothing}
+use Rattle.judge_core.specs.Finding.{HoldsNothing, IsFoundHeld, IsFoundIn}
+use Rattle.judge_core.specs.declared.finding.Found.{Found}
 use Rattle.judge_core.specs.Masters.{AreLeastChannels, AreMasterChannels, CostLeast, total_cost}
 use Rattle.sound_core.specs.declared.fault.StreamFault.TheVariants.{ReadFailed}
 use Rattle.transfer_core.specs.declared.fault.Fault.{Fault}
@@ -110,3 +113,34 @@ ReadsAccepted result cost = MatchResult result (IsAcceptedAt cost) (λ fault. (f
 abbrev pub fault_of_check : CheckFault → Fault
 fault_of_check certs.Device = Stream ReadFailed
 fault_of_check certs.Memory = Memory
+
+-- what is accepted at a cost is accepted by a call at that, unless memory ran out
+abbrev pub AcceptsAny : List ℕ → List (List ℕ) → List ℕ → List ℕ → Result Verdict Fault → Type 0
+AcceptsAny project files master cert result = (cost : ℕ) → Accepts project files master cert cost → AnswersAccepted result cost
+
+-- ---- a call that is given the cut, what was found of the master's file, and a reader of the certificate
+-- if the call accepts, P holds of each project, files and master's file that these are of, and of the cost
+abbrev pub OnAccepted : CutContent → Option Found → Result Verdict Fault → (List ℕ → List (List ℕ) → List ℕ → ℕ → Type 0) → Type 0
+OnAccepted cut found result P = (project : List ℕ) (files : List (List ℕ)) (master : List ℕ) → IsFoundIn project files cut found master → IfMasterAccepted result (P project files master)
+
+-- P holds of each project, files and master's file that these are of; if nothing was found, the file holds no recording
+abbrev pub ForEachHeld : CutContent → Option Found → (List ℕ → List (List ℕ) → List ℕ → Type 0) → Type 0
+ForEachHeld cut found P = (project : List ℕ) (files : List (List ℕ)) (master : List ℕ) → SaysCut project files None cut → IsFoundHeld cut master found → P project files master
+
+-- the master is accepted at this cost with the certificate that the reader has left, if its bytes are known
+abbrev pub AcceptsLeft : {R : Type 0} → (R → Option (List ℕ)) → CertReader R → List ℕ → List (List ℕ) → List ℕ → ℕ → Type 0
+AcceptsLeft left cert project files master cost = IfLeft left cert (λ bytes. Accepts project files master bytes cost)
+
+-- the cost is the sum over all windows as in `CostsWindows`, if the bytes that the reader has left are known
+abbrev pub CostsIfLeft : {R : Type 0} → (R → Option (List ℕ)) → CertReader R → List ℕ → List (List ℕ) → List ℕ → ℕ → Type 0
+CostsIfLeft left cert project files master cost = IfLeft left cert (λ _. CostsWindows project files master cost)
+
+-- what is accepted at a cost with the certificate that the reader has left, if its bytes are known, the call accepts at
+-- that, unless memory ran out or a read failed
+abbrev pub AcceptsAnyLeft : {R : Type 0} → (R → Option (List ℕ)) → CertReader R → Result Verdict Fault → List ℕ → List (List ℕ) → List ℕ → Type 0
+AcceptsAnyLeft left cert result project files master = (cost : ℕ) → IfLeft left cert (λ bytes. Accepts project files master bytes cost → ReadsAccepted result cost)
+
+-- if the call rejects, this is the first reason against the master and the certificate that the reader has left, if its
+-- bytes are known
+abbrev pub RejectsLeft : {R : Type 0} → (R → Option (List ℕ)) → CertReader R → Result Verdict Fault → List ℕ → List (List ℕ) → List ℕ → Type 0
+RejectsLeft left cert result project files master = IfMasterRejected result (λ reason. IfLeft left cert (λ bytes. RejectsFirst project files master bytes reason))

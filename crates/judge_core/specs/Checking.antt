@@ -1,5 +1,5 @@
 -- Which recordings are masters of a cut, and the first reason against others.
-use Rattle.std.specs.Prelude.{◌≡◌, ◌≢◌, ℕ, ◌-◌, ◌<◌, ◌⊎◌, Bool, false, List, [], ◌++◌, All, length, map, slice_index_or, take}
+use Rattle.std.specs.Prelude.{◌≡◌, ◌≢◌, ℕ, ◌-◌, ◌<◌, ◌⊎◌, Bool, false, List, [], ◌++◌, All, Option, MatchOption, length, map, slice_index_or, take}
 use Rattle.std.specs.List.{AllZip, range_with_len}
 use Rattle.dsd_bits.specs.Channels.{count_of}
 use Rattle.dsd_bits.specs.Contents.{Content}
@@ -56,6 +56,10 @@ OuterReason cut form r count MasterLength = AreAlike cut.first r × (count ≢ m
 OuterReason cut form r count MasterMarks = AreAlike cut.first r × (count ≡ master_length cut.splice.cues) × (form ≡ Dsdiff) × (r.marks ≢ titles_of cut)
 OuterReason cut form r count _ = ⊥
 
+-- the first reason why a recording isn't like this, or none if it is
+abbrev pub FindsOuterReason : CutContent → Form → Content → ℕ → Option Reason → Type 0
+FindsOuterReason cut form r count found = MatchOption found (IsLike cut form r count) (OuterReason cut form r count)
+
 -- the first place where two channels differ
 pub record IsFirstDifference (x y : List Bool) (place : ℕ) : Type 0 where
   pub there : place < length x
@@ -100,6 +104,10 @@ MasterReason cut form r MasterMarks =
 MasterReason cut form r (CuedBit c place) =
     AreAlike cut.first r × (count_of r.channels ≡ master_length cut.splice.cues) × IsTitled cut form r × IsFirstCuedBit cut r c place
 MasterReason cut form r _ = ⊥
+
+-- the first reason why a recording isn't the master, or none if it is
+abbrev pub FindsReason : CutContent → Form → Content → Option Reason → Type 0
+FindsReason cut form r found = MatchOption found (IsMasterOf cut form r) (MasterReason cut form r)
 
 -- a certificate doesn't show a master's bridges to be least for this reason, and for none before it in the order: head,
 -- entries, end

@@ -1,7 +1,7 @@
 -- The bridges of a master, by their places: their bits, and what a certificate must show of them.
 use Rattle.std.specs.Prelude.{ℕ, ◌+◌, ◌-◌, Bool, List, [], All, length, map, slice_index_or, slice_range, take}
 use Rattle.std.specs.List.{sum_by}
-use Rattle.cost_core.specs.Bridges.{IsLeastBridge, bridge_cost}
+use Rattle.cost_core.specs.Bridges.{Bridging, IsLeastBridge, bridge_cost}
 use Rattle.cert_core.specs.Certificates.{Claim, IsCert}
 use Rattle.cut_core.specs.Bridges.{bridges}
 use Rattle.cut_core.specs.Cuts.{CutContent, cue_at, span, window}
@@ -18,6 +18,10 @@ bridge_bits cut z i = slice_range z (bridge_start cut i) (bridge_start cut i + (
 -- what must be shown of bits at a place: that they are least for the bridge there
 abbrev pub claim_of : CutContent → BridgePlace → List Bool → Claim
 claim_of cut p bits = record { cue = p.cue; channel = p.channel; bridging = window cut p.channel p.cue; bits = bits }
+
+-- the same for another bridge at the place
+abbrev pub claim_over : BridgePlace → Bridging → List Bool → Claim
+claim_over p d bits = record { cue = p.cue; channel = p.channel; bridging = d; bits = bits }
 
 -- what must be shown of the bridge at a place, in a master with these channels
 abbrev pub claim_at : CutContent → List (List Bool) → BridgePlace → Claim

@@ -1,5 +1,5 @@
 -- Where a channel of a master isn't that of its cues.
-use Rattle.std.specs.Prelude.{◌≢◌, ℕ, ◌+◌, ◌-◌, ◌<◌, ◌≤◌, Bool, false, List, MatchOption, Option, length, slice_index_or, take}
+use Rattle.std.specs.Prelude.{◌≡◌, ◌≢◌, ℕ, ◌+◌, ◌-◌, ◌<◌, ◌≤◌, ◌++◌, Bool, false, List, MatchOption, Option, length, slice_index_or, take}
 use Rattle.std.specs.List.{sum_by}
 use Rattle.cut_core.specs.Cuts.{CutContent, cue_bits, span}
 
@@ -40,3 +40,12 @@ FindsFirst P first = MatchOption first ((place : ℕ) → P place → ⊥) (IsFi
 -- the first place in what was read of a channel whose bit isn't that of the cue there, if there is one
 abbrev pub FindsOff : CutContent → ℕ → List Bool → Option ℕ → Type 0
 FindsOff cut c z first = FindsFirst (λ place. (place < length z) × IsOffCue cut c z place) first
+
+-- with a part that follows `done` bits of a channel, `new` is the first place whose bit isn't that of the cue there, if
+-- `first` is that in the bits before
+abbrev pub FindsOffAfter : CutContent → ℕ → ℕ → List Bool → Option ℕ → Option ℕ → Type 0
+FindsOffAfter cut c done part first new = (before : List Bool) → length before ≡ done → FindsOff cut c before first → FindsOff cut c (before ++ part) new
+
+-- n bits of a part from a place on are those of a cue from another place on
+abbrev pub AreSameBits : List Bool → ℕ → List Bool → ℕ → ℕ → Type 0
+AreSameBits part at cue own n = (k : ℕ) → k < n → slice_index_or part (at + k) false ≡ slice_index_or cue (own + k) false

@@ -2,15 +2,17 @@
 use Rattle.std.specs.Prelude.{◌≡◌, ℕ, List, Option, Result}
 use Rattle.chunk_core.specs.Steps.{◌>>=◌}
 use Rattle.dsd_bits.specs.Contents.{Content}
-use Rattle.splice_core.specs.Splices.{SpliceContent}
+use Rattle.splice_core.specs.Splices.{SpliceContent, splice_content}
+use Rattle.splice_core.specs.declared.splice.Splice.{Splice}
 use Rattle.form_core.specs.declared.form.Form.{Form}
-use Rattle.form_core.specs.Steps.{map_err}
+use Rattle.form_core.specs.Steps.{FailsUnless, GivesUnless, map_err}
 use Rattle.cut_core.specs.Cuts.{CutContent}
 use Rattle.cut_core.specs.declared.fault.CutFault.{CutFault}
 use Rattle.cut_core.specs.declared.excerpts.Excerpts.{Excerpts}
 use Rattle.cut_core.specs.Excerpts.{AreExcerpts}
 use Rattle.cut_core.specs.Opening.{AreRead, OpensCut, cut_of}
 use Rattle.transfer_core.specs.declared.fault.Fault.{Fault}
+use Rattle.transfer_core.specs.declared.fault.Fault.TheVariants.{Memory}
 use Rattle.transfer_core.specs.Faults.{fault_of_cut}
 use Rattle.transfer_core.specs.Projects.{SaysSplice, splice_of_text}
 
@@ -37,3 +39,15 @@ said_cut project files form = do
 -- a fault of a cut
 abbrev pub IsCutFault : Fault → Type 0
 IsCutFault fault = (cut : CutFault) × (fault ≡ fault_of_cut cut)
+
+-- the cut of a project and files was returned, or their first fault, unless memory ran out
+abbrev pub ReturnsCut : Option Form → Result CutContent Fault → List ℕ → List (List ℕ) → Type 0
+ReturnsCut form result project files = GivesUnless Memory (λ cut. cut) result (said_cut project files form)
+
+-- a fault is the first one of the cut of a project and files, unless memory ran out
+abbrev pub IsFaultOfCut : List ℕ → List (List ℕ) → Option Form → Fault → Type 0
+IsFaultOfCut project files form fault = FailsUnless Memory fault (said_cut project files form)
+
+-- P holds of each project and files whose splice and takes these are
+abbrev pub ForTakes : Splice → List Excerpts → (List ℕ → List (List ℕ) → Type 0) → Type 0
+ForTakes splice hs P = (project : List ℕ) (files : List (List ℕ)) → AreTakes project files (splice_content splice) hs → P project files

@@ -1,5 +1,6 @@
 -- What is found of a master's file that is read to be judged.
 use Rattle.std.specs.Prelude.{ℕ, List, IfSome, None, Option, Some}
+use Rattle.chunk_core.specs.Inlets.{inlet_reader}
 use Rattle.chunk_core.specs.declared.inlet.Inlet.{Inlet}
 use Rattle.dsd_bits.specs.Contents.{Content}
 use Rattle.form_core.specs.declared.form.Form.{Form}
@@ -24,6 +25,10 @@ pub record FindsHeld (cut : CutContent) (file : List ℕ) (found : Found) : Type
 abbrev pub IsFoundHeld : CutContent → List ℕ → Option Found → Type 0
 IsFoundHeld cut file (Some found) = FindsHeld cut file found
 IsFoundHeld cut file None = HoldsNothing file
+
+-- the same of the file that an inlet has left, if its bytes are known
+abbrev pub IsFoundLeft : {R : Type 0} → (R → Option (List ℕ)) → Inlet R → CutContent → Option Found → Type 0
+IsFoundLeft left inlet cut found = IfSome (left (inlet_reader inlet)) (λ file. IsFoundHeld cut file found)
 
 -- the reader returned some bytes, as many as were counted, and this was found of the recording that they hold, or
 -- nothing was; this also holds if its bytes aren't known

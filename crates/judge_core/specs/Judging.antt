@@ -1,12 +1,15 @@
 -- What the steps of judging return.
-use Rattle.std.specs.Prelude.{◌≡◌, ℕ, ◌<◌, Bool, List, ◌++◌, All, IfSome, Option, None, Some, length, slice_index_or, take}
+use Rattle.std.specs.Prelude.{◌≡◌, ℕ, ◌<◌, Bool, List, ◌++◌, All, IfOk, IfSome, Option, None, Some, Result, Vec, length, map, slice_index_or, take}
+use Rattle.std.specs.declared.alloc.Global.{Global}
 use Rattle.std.specs.Io.KnownBytes.{Consumes}
 use Rattle.std.specs.List.{sum_by}
+use Rattle.chunk_core.specs.Inlets.{inlet_reader}
 use Rattle.dsd_bits.specs.Contents.{Content}
 use Rattle.cost_core.specs.StateCosts.{trellis_of}
 use Rattle.cert_core.specs.Certificates.{AreEntries, Claim}
 use Rattle.cert_core.specs.Entries.{BeginsValid, ReadsEntry}
-use Rattle.cert_core.specs.Readers.{InHead}
+use Rattle.cert_core.specs.Readers.{HasNoHead, IfLeft, InHead, cert_inlet, read_version}
+use Rattle.cert_core.specs.declared.reader.CertReader.{CertReader}
 use Rattle.cert_core.specs.Reasons.{FirstReason}
 use Rattle.cert_core.specs.Text.{cert_head}
 use Rattle.cert_core.specs.declared.version.Version.{Version}
@@ -15,11 +18,14 @@ use Rattle.cert_core.specs.declared.verdict.CertVerdict.{CertVerdict}
 use Rattle.cert_core.specs.declared.verdict.CertVerdict.TheVariants as judged
 use Rattle.form_core.specs.declared.form.Form.{Form}
 use Rattle.cut_core.specs.Cuts.{CutContent}
+use Rattle.cut_core.specs.declared.bridges.BridgePlace.{BridgePlace}
+use Rattle.judge_core.specs.declared.finding.Found.{Found}
 use Rattle.judge_core.specs.declared.verdict.Reason.TheVariants.{Cert}
 use Rattle.judge_core.specs.declared.verdict.Verdict.{Verdict}
 use Rattle.judge_core.specs.declared.verdict.Verdict.TheVariants.{Accepted, Rejected}
 use Rattle.judge_core.specs.Checking.{CertReasons, IsMasterOf, IsFirstAgainst}
 use Rattle.judge_core.specs.Claims.{AreLeastBridges, IsCertOf, IsLeastClaim, claim_cost, windows_total}
+use Rattle.judge_core.specs.Kept.{AreBitsOf, ForFoundOf, claim_from, kept_items}
 use Rattle.judge_core.specs.Masters.{AreLeastChannels, AreMasterChannels, CostLeast, total_cost}
 
 -- it isn't a rejection
@@ -40,6 +46,10 @@ pub record IsLeastOf (cut : CutContent) (form : Form) (r : Content) (cost : ℕ)
   pub least : AreLeastChannels cut r.channels
   pub joint : CostLeast cut r.channels cost
 
+-- such a master, at the cost, if it is accepted
+abbrev pub IsLeastAt : CutContent → Form → Content → Verdict → Type 0
+IsLeastAt cut form r verdict = AtCost verdict (IsLeastOf cut form r)
+
 -- an accepted master holds the cues, its certificate shows its bridges to be least, and this is their total cost; for a
 -- rejected one this is the first reason
 abbrev pub JudgesMaster : CutContent → Form → Content → List ℕ → Verdict → Type 0
@@ -50,7 +60,7 @@ JudgesMaster cut form r cert (Rejected reason) = IsFirstAgainst cut form r cert 
 -- are known, and they begin with the head of no version
 abbrev pub JudgesHead : Version → ℕ → ℕ → Option (List ℕ) → Option (List ℕ) → Option CertReason → Type 0
 JudgesHead v weights number old new None = Consumes old new (cert_head v weights number)
-JudgesHead v weights number old new (Some reason) = InHead weights number old reason × IfSome old (λ bytes. (other : Version) → (rest : List ℕ) → bytes ≡ cert_head other weights number ++ rest → ⊥)
+JudgesHead v weights number old new (Some reason) = InHead weights number old reason × IfSome old (HasNoHead weights number)
 
 -- an entry of the version that shows the claim was read, and its bits are least, at this cost
 pub record ShowsClaim (v : Version) (claim : Claim) (old new : Option (List ℕ)) (cost : ℕ) : Type 0 where
@@ -107,3 +117,29 @@ pub record ShowsBridges (cut : CutContent) (zs : List (List Bool)) (known : Opti
 abbrev pub JudgesCert : CutContent → List (List Bool) → Option (List ℕ) → Verdict → Type 0
 JudgesCert cut zs known (Accepted cost) = ShowsBridges cut zs known cost
 JudgesCert cut zs known (Rejected reason) = IfSome known (λ cert. CertReasons cut zs cert reason × (IsCertOf cut zs cert → ⊥))
+
+-- ---- what is judged by what a reader of certificates has next, and had before
+-- the claim is judged by the next entry, of the reader's version
+abbrev pub JudgesNext : {R : Type 0} → (R → Option (List ℕ)) → CertReader R → CertReader R → Claim → CertVerdict → Type 0
+JudgesNext left old new claim verdict = JudgesClaim (read_version old) claim (left (inlet_reader (cert_inlet old))) (left (inlet_reader (cert_inlet new))) verdict
+
+-- what was kept for the bridges at these places is judged by the next entries
+abbrev pub JudgesKept : {R : Type 0} → (R → Option (List ℕ)) → CertReader R → CertReader R → CutContent → List (Vec (List Bool) Global) → List BridgePlace → Verdict → Type 0
+JudgesKept left old new cut kept places verdict = JudgesClaims (read_version old) (map (claim_from cut (kept_items kept)) places) (left (inlet_reader (cert_inlet old))) (left (inlet_reader (cert_inlet new))) verdict
+
+-- the head is judged for a cut and a number of entries
+abbrev pub JudgesHeadOf : {R : Type 0} → (R → Option (List ℕ)) → CertReader R → CertReader R → CutContent → ℕ → Option CertReason → Type 0
+JudgesHeadOf left old new cut number found = JudgesHead (read_version new) (length cut.splice.weights) number (left (inlet_reader (cert_inlet old))) (left (inlet_reader (cert_inlet new))) found
+
+-- for each master whose bits were kept for its bridges, a call judges them by the certificate that the reader has left
+abbrev pub JudgesAllKept : {R E : Type 0} → (R → Option (List ℕ)) → CertReader R → CutContent → List (Vec (List Bool) Global) → Result Verdict E → Type 0
+JudgesAllKept left reader cut kept result = (zs : List (List Bool)) → AreBitsOf cut (kept_items kept) zs → IfOk result (JudgesCert cut zs (left (inlet_reader (cert_inlet reader))))
+
+-- for each master of which this was found, a call judges it by the certificate that the reader has left, if its bytes
+-- are known
+abbrev pub JudgesFound : {R E : Type 0} → (R → Option (List ℕ)) → CertReader R → CutContent → Found → Result Verdict E → Type 0
+JudgesFound left reader cut found result = ForFoundOf cut found (λ r. IfOk result (λ verdict. IfLeft left reader (λ cert. JudgesMaster cut found.form r cert verdict)))
+
+-- a call rejects no master of which this was found, if the reader has a certificate of its bridges left
+abbrev pub RejectsNoCert : {R E : Type 0} → (R → Option (List ℕ)) → CertReader R → CutContent → Found → Result Verdict E → Type 0
+RejectsNoCert left reader cut found result = ForFoundOf cut found (λ r. IsMasterOf cut found.form r → IfLeft left reader (λ cert. IsCertOf cut r.channels cert → IfOk result IsNoRejection))

@@ -12,7 +12,7 @@ use Rattle.cut_core.specs.Cuts.{AreAlike, CutContent, cue_at, master_length, tak
 use Rattle.cut_core.specs.declared.bridges.BridgePlace.{BridgePlace}
 use Rattle.judge_core.specs.declared.finding.CuedPlace.{CuedPlace}
 use Rattle.judge_core.specs.declared.finding.Found.{Found}
-use Rattle.judge_core.specs.Checking.{HoldCues, IsFirstCuedBit}
+use Rattle.judge_core.specs.Checking.{HaveShape, HoldCues, IsFirstCuedBit}
 use Rattle.judge_core.specs.Claims.{bridge_bits, claim_of}
 use Rattle.judge_core.specs.Comparing.{FindsOff}
 use Rattle.judge_core.specs.Masters.{channel_numbers}
@@ -40,6 +40,10 @@ pub record AreKept (cut : CutContent) (held_bits : List (List (List Bool))) : Ty
 abbrev pub claim_from : CutContent → List (List (List Bool)) → BridgePlace → Claim
 claim_from cut held_bits p = claim_of cut p (kept_at held_bits p.channel p.cue)
 
+-- the same of what memory holds of it
+abbrev pub kept_claim : CutContent → List (Vec (List Bool) Global) → BridgePlace → Claim
+kept_claim cut kept p = claim_from cut (kept_items kept) p
+
 -- the kept bits are those of a master with these channels
 abbrev pub AreBitsOf : CutContent → List (List (List Bool)) → List (List Bool) → Type 0
 AreBitsOf cut held_bits zs = (p : BridgePlace) → IsPlace cut p → kept_at held_bits p.channel p.cue ≡ bridge_bits cut (slice_index_or zs p.channel []) p.cue
@@ -60,3 +64,11 @@ pub record IsFoundOf (cut : CutContent) (found : Found) (r : Content) : Type 0 w
   pub count_is : found.count ≡ count_of r.channels
   pub cued : AreAlike cut.first r → count_of r.channels ≡ master_length cut.splice.cues → FindsCued cut r found.differs
   pub kept : AreAlike cut.first r → count_of r.channels ≡ master_length cut.splice.cues → kept_items found.kept.items ≡ bridges_kept cut r.channels
+
+-- P holds of each recording of which this was found
+abbrev pub ForFoundOf : CutContent → Found → (Content → Type 0) → Type 0
+ForFoundOf cut found P = (r : Content) → IsFoundOf cut found r → P r
+
+-- in each recording that has these first bits by channel, the first bit that isn't that of a cue, if there is one
+abbrev pub FindsLowest : CutContent → List (Option ℕ) → Option CuedPlace → Type 0
+FindsLowest cut firsts place = (r : Content) → HaveShape cut r.channels → FindAllOff cut r.channels firsts → FindsCued cut r place

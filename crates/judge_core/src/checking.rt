@@ -1,13 +1,12 @@
 //! Whether a file is the master of a project and takes, and its bridges are the best there are.
 
-ghost use Rattle.std.specs.Prelude.{◌≡◌, ◌+◌, ◌-◌, ◌^◌, ◌<◌, ◌⊎◌, IfErr, IfOk, IfSome, List, None, ℕ};
-ghost use Rattle.cert_core.specs.Readers.{cert_inlet};
+ghost use Rattle.std.specs.Prelude.{◌≡◌, ◌+◌, ◌-◌, ◌^◌, ◌<◌, ◌⊎◌, IfErr, IfOk, None};
+ghost use Rattle.cert_core.specs.Readers.{cert_inlet, check_failures};
 ghost use Rattle.cut_core.specs.Opening.{file_bytes};
-ghost use Rattle.chunk_core.specs.Inlets.{inlet_failures, inlet_reader};
-ghost use Rattle.form_core.specs.Steps.{FailsUnless};
-ghost use Rattle.judge_core.specs.Accepting.{Accepts, AnswersAccepted, CostsLeast, CostsWindows, IfMasterAccepted, IfMasterRejected, IsLeastMaster, IsMaster, ReadsAccepted, RejectsFirst, fault_of_check};
-ghost use Rattle.judge_core.specs.Cutting.{SaysCut, said_cut};
-ghost use Rattle.judge_core.specs.Finding.{IsFoundHeld, IsFoundIn, IsFoundInSome};
+ghost use Rattle.chunk_core.specs.Inlets.{inlet_failures};
+ghost use Rattle.judge_core.specs.Accepting.{Accepts, AcceptsAny, AcceptsAnyLeft, AcceptsLeft, CostsIfLeft, CostsLeast, CostsWindows, ForEachHeld, OnAccepted, IfMasterAccepted, IfMasterRejected, IsLeastMaster, IsMaster, RejectsFirst, RejectsLeft, fault_of_check};
+ghost use Rattle.judge_core.specs.Cutting.{IsFaultOfCut};
+ghost use Rattle.judge_core.specs.Finding.{IsFoundInSome};
 ghost use Rattle.sound_core.specs.Faults.{failed_reads};
 ghost use Rattle.transfer_core.specs.Faults.{as_stream};
 
@@ -51,13 +50,11 @@ pub fn check(
     // The reported total is the sum over all bridges of what their bits cost over their windows.
     ensures windows { IfMasterAccepted result (CostsWindows project.now (file_bytes takes.now) master.now) }
     // Such a master and certificate are accepted, unless memory runs out.
-    ensures only { (cost : ℕ) → Accepts project.now (file_bytes takes.now) master.now cert.now cost
-        → AnswersAccepted result cost }
+    ensures only { AcceptsAny project.now (file_bytes takes.now) master.now cert.now result }
     // Which reason it is: the first that applies.
     ensures rejected { IfMasterRejected result (RejectsFirst project.now (file_bytes takes.now) master.now cert.now) }
     // Which fault it is: the first of the project, its splice and its cut.
-    ensures refused { IfErr result (λ fault. FailsUnless Fault.Memory fault
-        (said_cut project.now (file_bytes takes.now) None)) }
+    ensures refused { IfErr result (IsFaultOfCut project.now (file_bytes takes.now) None) }
 {
     let cut = cut_files(alloc, project, takes, None)?;
     let Ok(found) = find_master(alloc, &cut, &mut Inlet::new(master)) else {
@@ -86,33 +83,16 @@ pub fn check_found<R: Read>(
     // For whichever project and files it is the cut, and in whichever file it was found, the clauses of `check` hold of
     // them and of the bytes that the reader has left, if these are known. What is accepted is a least master, whichever
     // reader it was.
-    ensures found { (project : List ℕ) (files : List (List ℕ)) (master : List ℕ)
-        → IsFoundIn project files cut.now found.now master
-        → IfMasterAccepted result (λ cost. IfSome (R.remaining (inlet_reader (cert_inlet cert.old)))
-        (λ bytes. Accepts project files master bytes cost)) }
-    ensures master { (project : List ℕ) (files : List (List ℕ)) (master : List ℕ)
-        → IsFoundIn project files cut.now found.now master → IfMasterAccepted result (λ _. IsMaster project files master) }
-    ensures least { (project : List ℕ) (files : List (List ℕ)) (master : List ℕ)
-        → IsFoundIn project files cut.now found.now master
-        → IfMasterAccepted result (λ _. IsLeastMaster project files master) }
-    ensures joint { (project : List ℕ) (files : List (List ℕ)) (master : List ℕ)
-        → IsFoundIn project files cut.now found.now master → IfMasterAccepted result (CostsLeast project files master) }
-    ensures windows { (project : List ℕ) (files : List (List ℕ)) (master : List ℕ)
-        → IsFoundIn project files cut.now found.now master
-        → IfMasterAccepted result (λ cost. IfSome (R.remaining (inlet_reader (cert_inlet cert.old)))
-        (λ _. CostsWindows project files master cost)) }
-    ensures only { (project : List ℕ) (files : List (List ℕ)) (master : List ℕ)
-        → SaysCut project files None cut.now → IsFoundHeld cut.now master found.now → (cost : ℕ)
-        → IfSome (R.remaining (inlet_reader (cert_inlet cert.old))) (λ bytes. Accepts project files master bytes cost
-        → ReadsAccepted result cost) }
-    ensures rejected { (project : List ℕ) (files : List (List ℕ)) (master : List ℕ)
-        → SaysCut project files None cut.now → IsFoundHeld cut.now master found.now
-        → IfMasterRejected result (λ reason. IfSome (R.remaining (inlet_reader (cert_inlet cert.old)))
-        (λ bytes. RejectsFirst project files master bytes reason)) }
+    ensures found { OnAccepted cut.now found.now result (AcceptsLeft R.remaining cert.old) }
+    ensures master { OnAccepted cut.now found.now result (λ project files master _. IsMaster project files master) }
+    ensures least { OnAccepted cut.now found.now result (λ project files master _. IsLeastMaster project files master) }
+    ensures joint { OnAccepted cut.now found.now result CostsLeast }
+    ensures windows { OnAccepted cut.now found.now result (CostsIfLeft R.remaining cert.old) }
+    ensures only { ForEachHeld cut.now found.now (AcceptsAnyLeft R.remaining cert.old result) }
+    ensures rejected { ForEachHeld cut.now found.now (RejectsLeft R.remaining cert.old result) }
     ensures refused { IfErr result (λ fault. (fault ≡ Fault.Stream StreamFault.ReadFailed) ⊎ (fault ≡ Fault.Memory)) }
     // `ReadFailed` is returned exactly if a read failed.
-    ensures failures { inlet_failures (cert_inlet cert.new)
-        ≡ inlet_failures (cert_inlet cert.old) + failed_reads (as_stream result) }
+    ensures failures { check_failures cert.new ≡ check_failures cert.old + failed_reads (as_stream result) }
 {
     let Some(found) = found else {
         return Ok(Verdict::Rejected(Reason::MasterUnread));

@@ -1,10 +1,10 @@
 //! Whether a recording is the master of a cut, as far as this can be said without its bits.
 
-ghost use Rattle.std.specs.Prelude.{◌≡◌, ◌≢◌, IfOk, MatchOption, false, map, true};
+ghost use Rattle.std.specs.Prelude.{◌≡◌, ◌≢◌, IfOk, false, map, true};
 ghost use Rattle.dsd_bits.specs.Contents.{mark_content};
 ghost use Rattle.form_core.specs.declared.form.Form.TheVariants.{Dsdiff};
 ghost use Rattle.cut_core.specs.Titles.{titles_of};
-ghost use Rattle.judge_core.specs.Checking.{IsLike, IsTitled, OuterReason};
+ghost use Rattle.judge_core.specs.Checking.{FindsOuterReason, IsTitled};
 
 use crate::verdict::Reason;
 use cut_core::{Cut, differ};
@@ -22,8 +22,7 @@ pub(crate) fn outer_reason(
     recording: &Recording,
     count: usize,
 ) -> Result<Option<Reason>, AllocError>
-    ensures { IfOk result (λ found. MatchOption found (IsLike cut.now form recording.now count)
-        (OuterReason cut.now form recording.now count)) }
+    ensures { IfOk result (FindsOuterReason cut.now form recording.now count) }
 {
     if differ(cut.first(), recording) {
         return Ok(Some(Reason::MasterShape));

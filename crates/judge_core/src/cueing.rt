@@ -1,9 +1,9 @@
 //! Where the bits of a channel that comes in parts aren't those of the cues.
 
-ghost use Rattle.std.specs.Prelude.{◌≡◌, ◌+◌, ◌-◌, ◌*◌, ◌^◌, ◌<◌, ◌≤◌, ◌++◌, Bool, List, false, length, slice_index_or, slice_range, ℕ};
+ghost use Rattle.std.specs.Prelude.{◌≡◌, ◌+◌, ◌-◌, ◌*◌, ◌^◌, ◌<◌, ◌≤◌, false, length, slice_index_or, slice_range, ℕ};
 ghost use Rattle.dsd_bits.specs.Shifting as bits;
 ghost use Rattle.cut_core.specs.Cuts.{master_length, take_channels};
-ghost use Rattle.judge_core.specs.Comparing.{FindsFirst, IsOffAt, IsOffPart, FindsOff, cue_start};
+ghost use Rattle.judge_core.specs.Comparing.{AreSameBits, FindsFirst, FindsOffAfter, IsOffAt, IsOffPart, cue_start};
 
 use cut_core::{BridgePlace, CuedBits, Cut};
 use dsd_bits::{Bits, byte_from};
@@ -19,8 +19,7 @@ pub(crate) fn first_off_so_far(
 ) -> Option<usize>
     requires channel { channel < take_channels cut.now }
     requires inside { done + length part.now ≤ master_length cut.now.splice.cues }
-    ensures { (before : List Bool) → length before ≡ done → FindsOff cut.now channel before first
-        → FindsOff cut.now channel (before ++ part.now) result }
+    ensures { FindsOffAfter cut.now channel done part.now first result }
 {
     match first {
         Some(place) => Some(place),
@@ -85,8 +84,7 @@ fn alike_bits(part: &Bits, at: usize, cue: &Bits, own: usize, most: usize) -> us
     requires part { at + most ≤ length part.now }
     requires cue { own + most ≤ length cue.now }
     ensures few { result ≤ most }
-    ensures alike { (k : ℕ) → k < result → slice_index_or part.now (at + k) false
-        ≡ slice_index_or cue.now (own + k) false }
+    ensures alike { AreSameBits part.now at cue.now own result }
 {
     8 * alike_eights(part.as_bytes(), at, cue.as_bytes(), own, most / 8)
 }

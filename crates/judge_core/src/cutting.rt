@@ -1,11 +1,10 @@
 //! The cut of a project and its takes.
 
-ghost use Rattle.std.specs.Prelude.{IfErr, IfOk, List, ℕ};
+ghost use Rattle.std.specs.Prelude.{IfErr, IfOk};
 ghost use Rattle.splice_core.specs.Splices.{splice_content};
-ghost use Rattle.form_core.specs.Steps.{GivesUnless};
 ghost use Rattle.cut_core.specs.Excerpts.{AreOfTakes};
 ghost use Rattle.cut_core.specs.Opening.{file_bytes};
-ghost use Rattle.judge_core.specs.Cutting.{AreTakes, IsCutFault, SaysCut, said_cut};
+ghost use Rattle.judge_core.specs.Cutting.{ForTakes, IsCutFault, ReturnsCut, SaysCut};
 
 use cut_core::{Cut, Excerpts, excerpts_of_files};
 use form_core::Form;
@@ -24,7 +23,7 @@ pub fn cut_files(
     form: Option<Form>,
 ) -> Result<Cut, Fault>
     ensures found { IfOk result (SaysCut project.now (file_bytes takes.now) form) }
-    ensures exact { GivesUnless Fault.Memory (λ cut. cut) result (said_cut project.now (file_bytes takes.now) form) }
+    ensures exact { ReturnsCut form result project.now (file_bytes takes.now) }
 {
     let splice = splice_of(alloc, project)?;
     let takes = excerpts_of_files(alloc, &splice, takes)?;
@@ -38,11 +37,8 @@ pub fn cut_files(
 pub fn cut_excerpts(splice: Splice, takes: Vec<Excerpts>, form: Option<Form>) -> Result<Cut, Fault>
     requires { AreOfTakes (splice_content splice) takes.items }
     // For whichever project and files the takes were read, it is their cut, or is refused as they are.
-    ensures found { (project : List ℕ) (files : List (List ℕ))
-        → AreTakes project files (splice_content splice) takes.items → IfOk result (SaysCut project files form) }
-    ensures exact { (project : List ℕ) (files : List (List ℕ))
-        → AreTakes project files (splice_content splice) takes.items
-        → GivesUnless Fault.Memory (λ cut. cut) result (said_cut project files form) }
+    ensures found { ForTakes splice takes.items (λ project files. IfOk result (SaysCut project files form)) }
+    ensures exact { ForTakes splice takes.items (ReturnsCut form result) }
     ensures fault { IfErr result IsCutFault }
 {
     Ok(Cut::of(splice, takes, form)?)

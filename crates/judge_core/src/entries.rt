@@ -1,12 +1,13 @@
 //! Whether a certificate shows the bridges of a master to be least.
 
-ghost use Rattle.std.specs.Prelude.{◌≡◌, ◌+◌, ◌-◌, ◌^◌, ◌<◌, ◌≤◌, All, Bool, IfOk, IfSome, List, None, OnOk, [], false, length, map, slice_index_or, true};
+ghost use Rattle.std.specs.Prelude.{◌≡◌, ◌+◌, ◌-◌, ◌^◌, ◌<◌, ◌≤◌, All, IfOk, None, OnOk, [], false, length, slice_index_or, true};
 ghost use Rattle.std.specs.Io.KnownBytes.{IsAtEnd};
 ghost use Rattle.chunk_core.specs.Inlets.{inlet_failures, inlet_reader};
-ghost use Rattle.cert_core.specs.Readers.{cert_inlet, failed_checks, has_read_head, read_version};
+ghost use Rattle.cert_core.specs.Readers.{IfLeft, cert_inlet, check_failures, failed_checks, has_read_head, read_version};
 ghost use Rattle.cut_core.specs.Bridges.{IsPlace};
-ghost use Rattle.judge_core.specs.Judging.{JudgesCert, JudgesClaim, JudgesClaims, JudgesHead};
-ghost use Rattle.judge_core.specs.Kept.{AreBitsOf, AreKept, claim_from, kept_at, kept_items};
+ghost use Rattle.judge_core.specs.Claims.{claim_over};
+ghost use Rattle.judge_core.specs.Judging.{JudgesAllKept, JudgesHeadOf, JudgesKept, JudgesNext};
+ghost use Rattle.judge_core.specs.Kept.{AreKept, kept_at, kept_claim, kept_items};
 
 use crate::verdict::{Reason, Verdict};
 use cert_core::{CertReader, CertReason, CertVerdict, CheckFault, cert_goes_on, read_is_cert};
@@ -29,10 +30,8 @@ pub(crate) fn judge_certificate<R: Read>(
 ) -> Result<Verdict, CheckFault>
     requires ready { inlet_failures (cert_inlet reader.old) < 2 ^ 64 - 1 }
     requires kept { AreKept cut.now (kept_items kept.now) }
-    ensures judged { (zs : List (List Bool)) → AreBitsOf cut.now (kept_items kept.now) zs
-        → IfOk result (JudgesCert cut.now zs (R.remaining (inlet_reader (cert_inlet reader.old)))) }
-    ensures failures { inlet_failures (cert_inlet reader.new)
-        ≡ inlet_failures (cert_inlet reader.old) + failed_checks result }
+    ensures judged { JudgesAllKept R.remaining reader.old cut.now kept.now result }
+    ensures failures { check_failures reader.new ≡ check_failures reader.old + failed_checks result }
 {
     let places = cut.bridges(alloc)?;
     read_is_cert();
@@ -60,11 +59,9 @@ fn judge_head<R: Read>(
 ) -> Result<Option<CertReason>, CheckFault>
     requires ready { inlet_failures (cert_inlet reader.old) < 2 ^ 64 - 1 }
     requires few { entries ≤ 1536 }
-    ensures judged { IfOk result (JudgesHead (read_version reader.new) (length cut.now.splice.weights) entries
-        (R.remaining (inlet_reader (cert_inlet reader.old))) (R.remaining (inlet_reader (cert_inlet reader.new)))) }
+    ensures judged { IfOk result (JudgesHeadOf R.remaining reader.old reader.new cut.now entries) }
     ensures read { IfOk result (λ reason. reason ≡ None → has_read_head reader.new ≡ true) }
-    ensures failures { inlet_failures (cert_inlet reader.new)
-        ≡ inlet_failures (cert_inlet reader.old) + failed_checks result }
+    ensures failures { check_failures reader.new ≡ check_failures reader.old + failed_checks result }
 {
     let reason = reader.read_head(cut.weight_number(), entries as u32)?;
     Ok(reason)
@@ -74,10 +71,8 @@ fn judge_head<R: Read>(
 fn has_more<R: Read>(reader: &mut CertReader<R>) -> Result<bool, CheckFault>
     requires ready { inlet_failures (cert_inlet reader.old) < 2 ^ 64 - 1 }
     ensures end { IfOk result (λ more. more ≡ false → IsAtEnd (R.remaining (inlet_reader (cert_inlet reader.old)))) }
-    ensures more { IfOk result (λ more. more ≡ true
-        → IfSome (R.remaining (inlet_reader (cert_inlet reader.old))) (λ bytes. 0 < length bytes)) }
-    ensures failures { inlet_failures (cert_inlet reader.new)
-        ≡ inlet_failures (cert_inlet reader.old) + failed_checks result }
+    ensures more { IfOk result (λ more. more ≡ true → IfLeft R.remaining reader.old (λ bytes. 0 < length bytes)) }
+    ensures failures { check_failures reader.new ≡ check_failures reader.old + failed_checks result }
 {
     match reader.at_end() {
         Ok(None) => Ok(false),
@@ -99,11 +94,8 @@ fn judge_entries<R: Read>(
     requires kept { AreKept cut.now (kept_items kept.now) }
     requires each { All (IsPlace cut.now) places.now }
     requires few { length places.now ≤ 1536 }
-    ensures judged { IfOk result (JudgesClaims (read_version reader.old)
-        (map (claim_from cut.now (kept_items kept.now)) places.now) (R.remaining (inlet_reader (cert_inlet reader.old)))
-        (R.remaining (inlet_reader (cert_inlet reader.new)))) }
-    ensures failures { inlet_failures (cert_inlet reader.new)
-        ≡ inlet_failures (cert_inlet reader.old) + failed_checks result }
+    ensures judged { IfOk result (JudgesKept R.remaining reader.old reader.new cut.now kept.now places.now) }
+    ensures failures { check_failures reader.new ≡ check_failures reader.old + failed_checks result }
 {
     read_is_cert();
     cert_goes_on();
@@ -131,10 +123,8 @@ fn judge_entry<R: Read>(
     requires head { has_read_head reader.old ≡ true }
     requires kept { AreKept cut.now (kept_items kept.now) }
     requires place { IsPlace cut.now place }
-    ensures judged { IfOk result (JudgesClaim (read_version reader.old) (claim_from cut.now (kept_items kept.now) place)
-        (R.remaining (inlet_reader (cert_inlet reader.old))) (R.remaining (inlet_reader (cert_inlet reader.new)))) }
-    ensures failures { inlet_failures (cert_inlet reader.new)
-        ≡ inlet_failures (cert_inlet reader.old) + failed_checks result }
+    ensures judged { IfOk result (JudgesNext R.remaining reader.old reader.new (kept_claim cut.now kept.now place)) }
+    ensures failures { check_failures reader.new ≡ check_failures reader.old + failed_checks result }
     ensures read { OnOk result (has_read_head reader.new ≡ true) }
     ensures version { OnOk result (read_version reader.new ≡ read_version reader.old) }
 {
@@ -157,11 +147,8 @@ fn check_bits<R: Read>(
     requires cue { place.cue < 2 ^ 16 }
     requires channel { place.channel < 2 ^ 16 }
     requires bits { length bits.now ≡ window.now.levels }
-    ensures judged { IfOk result (JudgesClaim (read_version reader.old)
-        (record { cue = place.cue; channel = place.channel; bridging = window.now; bits = bits.now })
-        (R.remaining (inlet_reader (cert_inlet reader.old))) (R.remaining (inlet_reader (cert_inlet reader.new)))) }
-    ensures failures { inlet_failures (cert_inlet reader.new)
-        ≡ inlet_failures (cert_inlet reader.old) + failed_checks result }
+    ensures judged { IfOk result (JudgesNext R.remaining reader.old reader.new (claim_over place window.now bits.now)) }
+    ensures failures { check_failures reader.new ≡ check_failures reader.old + failed_checks result }
     ensures read { OnOk result (has_read_head reader.new ≡ true) }
     ensures version { OnOk result (read_version reader.new ≡ read_version reader.old) }
 {

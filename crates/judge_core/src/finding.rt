@@ -1,14 +1,13 @@
 //! What was found of a master whose bits are no longer in memory, and the verdict from that.
 
-ghost use Rattle.std.specs.Prelude.{◌≡◌, ◌+◌, ◌-◌, ◌^◌, ◌<◌, IfOk, IfSome, MatchOption, None, length};
+ghost use Rattle.std.specs.Prelude.{◌≡◌, ◌+◌, ◌-◌, ◌^◌, ◌<◌, IfOk, None, length};
 ghost use Rattle.dsd_bits.specs.Contents.{Content};
-ghost use Rattle.chunk_core.specs.Inlets.{inlet_failures, inlet_reader};
-ghost use Rattle.cert_core.specs.Readers.{cert_inlet, failed_checks};
+ghost use Rattle.chunk_core.specs.Inlets.{inlet_failures};
+ghost use Rattle.cert_core.specs.Readers.{cert_inlet, check_failures, failed_checks};
 ghost use Rattle.cut_core.specs.Cuts.{take_channels};
-ghost use Rattle.judge_core.specs.Checking.{HaveShape, IsMasterOf, MasterReason};
-ghost use Rattle.judge_core.specs.Claims.{IsCertOf};
-ghost use Rattle.judge_core.specs.Judging.{AtCost, IsLeastOf, IsNoRejection, JudgesMaster};
-ghost use Rattle.judge_core.specs.Kept.{AreKept, FindsCued, IsFoundOf, FindAllOff, kept_items};
+ghost use Rattle.judge_core.specs.Checking.{FindsReason};
+ghost use Rattle.judge_core.specs.Judging.{IsLeastAt, JudgesFound, RejectsNoCert};
+ghost use Rattle.judge_core.specs.Kept.{AreKept, FindsLowest, ForFoundOf, IsFoundOf, kept_items};
 
 use crate::comparing::outer_reason;
 use crate::entries::judge_certificate;
@@ -50,8 +49,7 @@ pub struct Found {
 /// The first bit of a master that isn't that of the cue there, from the first such place of each of its channels.
 pub(crate) fn lowest_off(cut: &Cut, firsts: &[Option<usize>]) -> Option<CuedPlace>
     requires { length firsts.now ≡ take_channels cut.now }
-    ensures { (r : Content) → HaveShape cut.now r.channels → FindAllOff cut.now r.channels firsts.now
-        → FindsCued cut.now r result }
+    ensures { FindsLowest cut.now firsts.now result }
 {
     cut.can_cut();
     for channel in 0..firsts.len() {
@@ -76,18 +74,12 @@ pub(crate) fn judge_found<R: Read>(
     requires ready { inlet_failures (cert_inlet reader.old) < 2 ^ 64 - 1 }
     requires found { (r : Content) × IsFoundOf cut.now found.now r }
     // For whichever recording it was found: what the verdict says of it and of the bytes that the reader has left.
-    ensures judged { (r : Content) → IsFoundOf cut.now found.now r
-        → IfOk result (λ verdict. IfSome (R.remaining (inlet_reader (cert_inlet reader.old)))
-        (λ cert. JudgesMaster cut.now found.now.form r cert verdict)) }
+    ensures judged { JudgesFound R.remaining reader.old cut.now found.now result }
     // What is accepted is least, whichever reader it was.
-    ensures least { (r : Content) → IsFoundOf cut.now found.now r
-        → IfOk result (λ verdict. AtCost verdict (IsLeastOf cut.now found.now.form r)) }
-    ensures only { (r : Content) → IsFoundOf cut.now found.now r → IsMasterOf cut.now found.now.form r
-        → IfSome (R.remaining (inlet_reader (cert_inlet reader.old))) (λ cert. IsCertOf cut.now r.channels cert
-        → IfOk result IsNoRejection) }
+    ensures least { ForFoundOf cut.now found.now (λ r. IfOk result (IsLeastAt cut.now found.now.form r)) }
+    ensures only { RejectsNoCert R.remaining reader.old cut.now found.now result }
     // `Device` is returned exactly if a read failed.
-    ensures failures { inlet_failures (cert_inlet reader.new)
-        ≡ inlet_failures (cert_inlet reader.old) + failed_checks result }
+    ensures failures { check_failures reader.new ≡ check_failures reader.old + failed_checks result }
 {
     cut.can_cut();
     least_together();
@@ -101,9 +93,7 @@ pub(crate) fn judge_found<R: Read>(
 // The first reason why a recording isn't the master of the cut, from what was found of it.
 fn found_reason(alloc: Global, cut: &Cut, found: &Found) -> Result<Option<Reason>, AllocError>
     requires { (r : Content) × IsFoundOf cut.now found.now r }
-    ensures reason { (r : Content) → IsFoundOf cut.now found.now r
-        → IfOk result (λ reason. MatchOption reason (IsMasterOf cut.now found.now.form r)
-        (MasterReason cut.now found.now.form r)) }
+    ensures reason { ForFoundOf cut.now found.now (λ r. IfOk result (FindsReason cut.now found.now.form r)) }
     ensures kept { IfOk result (λ reason. reason ≡ None → AreKept cut.now (kept_items found.now.kept.items)) }
 {
     if let Some(reason) = outer_reason(alloc, cut, found.form, &found.recording, found.count)? {

@@ -1,12 +1,12 @@
 //! A master's file, read to be judged.
 
-ghost use Rattle.std.specs.Prelude.{◌≡◌, ◌+◌, ◌-◌, ◌<◌, ◌≤◌, ◌^◌, IfErr, IfOk, IfSome, IsErrOf};
-ghost use Rattle.chunk_core.specs.Inlets.{inlet_failures, inlet_reader, inlet_reads};
+ghost use Rattle.std.specs.Prelude.{◌≡◌, ◌+◌, ◌-◌, ◌<◌, ◌≤◌, ◌^◌, IfErr, IfOk, IsErrOf};
+ghost use Rattle.chunk_core.specs.Inlets.{inlet_failures, inlet_reads};
 ghost use Rattle.sound_core.specs.Faults.{IsReadingFault, failed_reads};
 ghost use Rattle.sound_core.specs.Readers.{RunsOut};
 ghost use Rattle.form_core.specs.Forms as forms;
 ghost use Rattle.judge_core.specs.Auditing.{found_in};
-ghost use Rattle.judge_core.specs.Finding.{IsFoundGiven, IsFoundHeld};
+ghost use Rattle.judge_core.specs.Finding.{IsFoundGiven, IsFoundLeft};
 
 use crate::auditing::{Audited, audit};
 use crate::finding::Found;
@@ -29,8 +29,7 @@ pub fn find_master<R: Read>(
     inlet: &mut Inlet<R>,
 ) -> Result<Option<Found>, StreamFault>
     // It was found in the recording that the reader's file holds.
-    ensures found { IfOk result (λ found. IfSome (R.remaining (inlet_reader inlet.old))
-        (λ file. IsFoundHeld cut.now file found)) }
+    ensures found { IfOk result (IsFoundLeft R.remaining inlet.old cut.now) }
     // The same of the bytes that were read, if the reader's bytes aren't known.
     ensures any_reader { IfOk result (IsFoundGiven R.remaining inlet.old inlet.new cut.now) }
     ensures fault { IfErr result IsReadingFault }

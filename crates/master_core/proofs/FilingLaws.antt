@@ -13,7 +13,8 @@ use Rattle.dsd_bits.specs.declared.interleaving.Interleaving.TheVariants.{Bytes,
 use Rattle.dsd_bits.specs.Blocks.{block_byte}
 use Rattle.dsd_bits.specs.Channels.{count_of}
 use Rattle.dsd_bits.specs.Lacing.{laced_byte}
-use Rattle.dsd_bits.specs.Shape.{HasShape}
+use Rattle.dsd_bits.specs.Contents.{Described}
+use Rattle.dsd_bits.specs.Shape.{AreDescribed, IsDescription}
 use Rattle.dsd_bits.specs.Sounds.{sound_size}
 use Rattle.interleave_core.specs.Reinterleaving.{laced_in}
 use Rattle.dsdiff_core.specs.ReadAgain.{FitsFields}
@@ -28,32 +29,44 @@ use Rattle.cut_core.specs.Keeping.{CanCut}
 use Rattle.cut_core.proofs.CutLaws.{first_shape}
 use Rattle.cut_core.proofs.ZipLaws.{zip_numbers_long}
 use Rattle.master_core.specs.Filing.{AreMasterEnds, WritesMaster, WritesMasterPrefix, silent_master}
-use Rattle.master_core.specs.Best.{IsBestChannel, master_of}
+use Rattle.master_core.specs.Best.{IsBestChannel, marks_in, master_of}
 use Rattle.master_core.specs.Writing.{HasOneBest, WritesBest, WritesBestPrefix}
 use Rattle.master_core.proofs.MasterLaws.{marks_short, master_shape}
 use Rattle.master_core.proofs.WritingLaws.{prefix_more, prefix_on}
 
--- a master without its bits keeps the rules of recordings
-pub silent_shape : (cut : CutContent) → CanCut cut → (form : Form) → HasShape (silent_master cut form)
-silent_shape cut can form =
+-- a master without its channels
+abbrev pub silent_description : CutContent → Form → Described
+silent_description cut form = record { rate = cut.first.rate; count = 0; ids = cut.first.ids; layout = cut.first.layout; marks = marks_in form cut; others = []; tag = [] }
+
+-- it keeps the rules of descriptions
+pub description_shape : (cut : CutContent) → CanCut cut → (form : Form) → IsDescription (silent_description cut form)
+description_shape cut can form =
     let first = first_shape cut can in
-    let many : length (replicate {A = List Bool} (take_channels cut) []) ≡ take_channels cut = length-replicate (take_channels cut) [] in
     record {
       rate_low = first.rate_low;
       rate_high = first.rate_high;
-      some_channel = omega (arith, many, first.some_channel);
-      six_channels = omega (arith, many, first.six_channels);
-      level = record { same = λ k d lt. silent k d (omega (arith, many)) ∙ sym (silent 0 [] (omega (arith, first.some_channel))) };
-      in_limit = omega (arith, silent 0 [] (omega (arith, first.some_channel)));
-      id_for_each = first.id_for_each ∙ sym many;
-      layout_fits = first.layout_fits ∙ sym many;
+      some_channel = omega (arith, first.some_channel, first.id_for_each);
+      six_channels = omega (arith, first.six_channels, first.id_for_each);
+      in_limit = omega arith;
+      layout_fits = first.layout_fits ∙ sym first.id_for_each;
       short_texts = marks_short form cut can;
       in_order = refl;
       no_parts = All-nil _;
     }
+
+-- and says how many empty channels there are
+pub are_silent : (cut : CutContent) → CanCut cut → (form : Form) → AreDescribed (silent_description cut form) (replicate (take_channels cut) [])
+are_silent cut can form =
+    let first = first_shape cut can in
+    let many : length (replicate {A = List Bool} (take_channels cut) []) ≡ take_channels cut = length-replicate (take_channels cut) [] in
+    record {
+      number = many ∙ sym first.id_for_each;
+      level = record { same = λ k d lt. empty k d (omega (arith, many)) ∙ sym (empty 0 [] (omega (arith, first.some_channel))) };
+      count = empty 0 [] (omega (arith, first.some_channel));
+    }
   where
-    silent : (k : ℕ) (d : List Bool) → k < take_channels cut → length (get_or (replicate (take_channels cut) []) k d) ≡ 0
-    silent k d lt = ap length (get_or-replicate (take_channels cut) k [] d lt)
+    empty : (k : ℕ) (d : List Bool) → k < take_channels cut → length (get_or (replicate (take_channels cut) []) k d) ≡ 0
+    empty k d lt = ap length (get_or-replicate (take_channels cut) k [] d lt)
 
 -- how many sound bytes there are
 sound_long : (to : Interleaving) (zs : List (List Bool)) → length (laced_in to zs) ≡ sound_size to (length zs) (count_of zs)

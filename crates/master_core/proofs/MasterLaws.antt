@@ -4,7 +4,7 @@ use Rattle.std.specs.List.{All, AllZip}
 use Rattle.std.proofs.lemmas.List.Elements.{All-append, All-cons, All-get_or, All-nil}
 use Rattle.std.proofs.lemmas.List.{length-reverse, reverse-reverse}
 use Rattle.dsd_bits.specs.Channels.{count_of}
-use Rattle.dsd_bits.specs.Contents.{Content, MarkContent, content_of, mark_content}
+use Rattle.dsd_bits.specs.Contents.{Content, MarkContent, described_of, mark_content}
 use Rattle.dsd_bits.specs.Shape.{HasShape}
 use Rattle.dsd_bits.specs.declared.marks.Mark.{Mark}
 use Rattle.dsd_bits.specs.declared.marks.Other.{Other}
@@ -99,11 +99,11 @@ module _ (cut : CutContent) (can : CanCut cut) (form : Form) (zs : List (List Bo
         cued = subst (HoldCues cut (channel_numbers cut)) (sym channels) cues_held;
       }
 
--- the parts in memory hold it
-pub content_is : (first : Content) (channels : List (List Bool)) (rate : ℕ) (ids : List (List ℕ)) (layout : ℕ) (marks : List Mark) (stated : List MarkContent) (others : List Other) (tag : List ℕ)
+-- the parts in memory say what its description says
+pub described_is : (first : Content) (count : ℕ) (rate : ℕ) (ids : List (List ℕ)) (layout : ℕ) (marks : List Mark) (stated : List MarkContent) (others : List Other) (tag : List ℕ)
     → rate ≡ first.rate → ids ≡ first.ids → layout ≡ first.layout → map mark_content marks ≡ stated → others ≡ [] → tag ≡ []
-    → content_of rate channels ids layout marks others tag ≡ record { rate = first.rate; channels = channels; ids = first.ids; layout = first.layout; marks = stated; others = []; tag = [] }
-content_is first channels rate ids layout marks stated others tag e f g h i j = rw (e, f, g, h, i, j) refl
+    → described_of rate count ids layout marks others tag ≡ record { rate = first.rate; count = count; ids = first.ids; layout = first.layout; marks = stated; others = []; tag = [] }
+described_is first count rate ids layout marks stated others tag e f g h i j = rw (e, f, g, h, i, j) refl
 
 -- ---- there is one at most
 not_after_both : (xs ys : List Bool) → length xs ≡ length ys → NotAfter xs ys → NotAfter ys xs → xs ≡ ys

@@ -1,14 +1,18 @@
 -- The certificate of chosen bridges, whole and in parts.
 use Rattle.std.specs.Prelude.{◌≡◌, ℕ, ◌-◌, ◌^◌, true, false, List, Option, flat_map, length}
 use Rattle.std.specs.Io.KnownBytes.{Appends}
-use Rattle.chunk_core.specs.Outlets.{AppendsPrefix}
+use Rattle.chunk_core.specs.Outlets.{AppendsPrefix, outlet_writer}
+use Rattle.cost_core.specs.Bridges.{Bridging}
 use Rattle.trellis_core.specs.Passes.{HasBuffers}
+use Rattle.trellis_core.specs.declared.bridging.Chosen.{Chosen}
 use Rattle.cert_core.specs.Certificates.{Claim}
 use Rattle.cert_core.specs.Rooms.{room_weights}
-use Rattle.cert_core.specs.Writers.{cert_version, cert_weights, has_failed, has_head, is_open}
+use Rattle.cert_core.specs.Writers.{cert_outlet, cert_version, cert_weights, has_failed, has_head, is_open}
 use Rattle.cert_core.specs.declared.version.Version.TheVariants.{Two}
 use Rattle.cert_core.specs.declared.writer.CertWriter.{CertWriter}
 use Rattle.cut_core.specs.Cuts.{CutContent}
+use Rattle.cut_core.specs.declared.bridges.BridgePlace.{BridgePlace}
+use Rattle.judge_core.specs.Claims.{claim_over}
 use Rattle.master_core.specs.Certificates.{claims_text, entry_text}
 use Rattle.master_core.specs.Choosing.{chosen_claims}
 use Rattle.master_core.specs.declared.certifying.CertifyingRoom.{CertifyingRoom}
@@ -42,6 +46,22 @@ AppendsEntries claims old new = Appends old new (flat_map entry_text claims)
 -- a writer's bytes, if they are known, grew by a prefix of these entries
 abbrev pub AppendsSomeEntries : List Claim → Option (List ℕ) → Option (List ℕ) → Type 0
 AppendsSomeEntries claims old new = AppendsPrefix old new (flat_map entry_text claims)
+
+-- the same of the entries of chosen bridges
+abbrev pub AddsEntries : CutContent → ChosenBridges → Option (List ℕ) → Option (List ℕ) → Type 0
+AddsEntries cut made old new = AppendsEntries (chosen_claims cut made.places.items made.chosen.items) old new
+
+-- the same of a prefix of these
+abbrev pub AddsSomeEntries : CutContent → ChosenBridges → Option (List ℕ) → Option (List ℕ) → Type 0
+AddsSomeEntries cut made old new = AppendsSomeEntries (chosen_claims cut made.places.items made.chosen.items) old new
+
+-- the bytes of the entry for the bits that were chosen for the bridge at a place
+abbrev pub entry_of : BridgePlace → Bridging → Chosen → List ℕ
+entry_of place d chosen = entry_text (claim_over place d chosen.bits)
+
+-- P holds of the bytes that a writer of certificates has written before and after, known or not
+abbrev pub OnCertBytes : {W : Type 0} → (W → Option (List ℕ)) → CertWriter W → CertWriter W → (Option (List ℕ) → Option (List ℕ) → Type 0) → Type 0
+OnCertBytes contents old new P = P (contents (outlet_writer (cert_outlet old))) (contents (outlet_writer (cert_outlet new)))
 
 -- a writer of the second version that has written nothing
 pub record IsFresh {W : Type 0} (weights : ℕ) (writer : CertWriter W) : Type 0 where

@@ -39,3 +39,7 @@ pub record WritesMasterPrefix (cut : CutContent) (form : Form) (old new : Option
   pub text : List ℕ
   pub text_is : text_in form (master_of cut form channels) ≡ Some text
   pub written : AppendsPart old new text
+
+-- a file of the form can hold the master: DSDIFF's frames hold whole bytes
+abbrev pub FitsMaster : Form → CutContent → Type 0
+FitsMaster form cut = FitsIn form (master_length cut.splice.cues)

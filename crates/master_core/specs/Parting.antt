@@ -19,6 +19,10 @@ pub record HasChosen (s : MasterSource) : Type 0 where
 abbrev pub within : BitRange → List Bool → List Bool
 within range z = slice_range z range.start range.stop
 
+-- the bits are the first least ones for the bridge at a place
+abbrev pub IsBestAt : CutContent → BridgePlace → List Bool → Type 0
+IsBestAt cut p bits = IsFirstLeastPart (part_at cut p.channel p.cue) bits
+
 -- the part in a range of some bits that P holds of was added
 pub record IsPartAdded (P : List Bool → Type 0) (range : BitRange) (before after : List Bool) : Type 0 where
   pub bits : List Bool

@@ -1,7 +1,8 @@
 -- What is written of a master, and the memory reserved for it.
-use Rattle.std.specs.Prelude.{◌≡◌, ℕ, ◌*◌, ◌/◌, ◌%◌, ◌≤◌, Bool, List, Option, All, length, map, vec_capacity}
+use Rattle.std.specs.Prelude.{◌≡◌, ℕ, ◌+◌, ◌*◌, ◌/◌, ◌%◌, ◌≤◌, Bool, List, Option, Result, MatchResult, All, length, map, vec_capacity}
 use Rattle.std.specs.Io.KnownBytes.{Appends}
-use Rattle.chunk_core.specs.Outlets.{AppendsPart}
+use Rattle.chunk_core.specs.Outlets.{AppendsPart, outlet_failures, outlet_writer}
+use Rattle.chunk_core.specs.declared.outlet.Outlet.{Outlet}
 use Rattle.dsd_bits.specs.declared.interleaving.Interleaving.{Interleaving}
 use Rattle.dsd_bits.specs.declared.stretches.BitRange.{BitRange}
 use Rattle.dsd_bits.specs.Rooms.{RoomContent}
@@ -55,3 +56,11 @@ pub record WritesPartPrefix (cut : CutContent) (to : Interleaving) (range : BitR
   pub channels : List (List Bool)
   pub best : AreBestChannels cut channels
   pub written : AppendsPart old new (laced_in to (map (within range) channels))
+
+-- P holds of the bytes that an outlet's writer has before and after, known or not
+abbrev pub OnBytes : {W : Type 0} → (W → Option (List ℕ)) → Outlet W → Outlet W → (Option (List ℕ) → Option (List ℕ) → Type 0) → Type 0
+OnBytes contents old new P = P (contents (outlet_writer old)) (contents (outlet_writer new))
+
+-- one write to the outlet failed if the call did, and none if it succeeded
+abbrev pub CountsFailure : {W T E : Type 0} → Result T E → Outlet W → Outlet W → Type 0
+CountsFailure result old new = MatchResult result (λ _. outlet_failures new ≡ outlet_failures old) (λ _. outlet_failures new ≡ outlet_failures old + 1)

@@ -1,12 +1,13 @@
 //! The certificate of chosen bridges, written entry by entry to an outlet. Its memory was reserved before.
 
-ghost use Rattle.std.specs.Prelude.{◌≡◌, ◌+◌, ◌-◌, ◌<◌, ◌≤◌, ◌^◌, IfOk, MatchResult, OnErr, OnOk, is_ok, length, not};
-ghost use Rattle.cert_core.specs.Writers.{cert_outlet, entries_left, failures_before, has_failed};
+ghost use Rattle.std.specs.Prelude.{◌≡◌, ◌+◌, ◌-◌, ◌<◌, ◌≤◌, ◌^◌, IfOk, OnErr, OnOk, is_ok, length, not};
+ghost use Rattle.cert_core.specs.Writers.{Writes, WritesUpTo, entries_left, failures_before, has_failed};
 ghost use Rattle.cut_core.specs.Cuts.{CutContent};
-ghost use Rattle.chunk_core.specs.Outlets.{Puts, PutsPrefix, outlet_failures, outlet_writer};
-ghost use Rattle.master_core.specs.Certificates.{CertificatesShow, entry_text};
-ghost use Rattle.master_core.specs.Certifying.{AppendsCert, AppendsCertPrefix, AppendsEntries, AppendsSomeEntries, IsFresh, IsBetweenEntries, IsRoomOf};
-ghost use Rattle.master_core.specs.Choosing.{AreBridgesOf, IsChosen, chosen_claims};
+ghost use Rattle.chunk_core.specs.Outlets.{outlet_failures};
+ghost use Rattle.master_core.specs.Certificates.{CertificatesShow};
+ghost use Rattle.master_core.specs.Certifying.{AddsEntries, AddsSomeEntries, AppendsCert, AppendsCertPrefix, IsFresh, IsBetweenEntries, IsRoomOf, OnCertBytes, entry_of};
+ghost use Rattle.master_core.specs.Choosing.{AreBridgesOf, IsChosen};
+ghost use Rattle.master_core.specs.Writing.{CountsFailure, OnBytes};
 ghost use Rattle.trellis_core.specs.Passes.{HasBuffers};
 
 use crate::choosing::ChosenBridges;
@@ -54,12 +55,9 @@ pub fn certify<W: Write, T: Watch>(
     requires bridges { AreBridgesOf cut.now bridges.now }
     requires room { IsRoomOf cut.now room }
     requires ready { outlet_failures outlet < 2 ^ 64 - 1 }
-    ensures ok { OnOk result.0 (AppendsCert cut.now bridges.now (W.contents (outlet_writer outlet))
-        (W.contents (outlet_writer result.1))) }
-    ensures err { OnErr result.0 (AppendsCertPrefix cut.now bridges.now (W.contents (outlet_writer outlet))
-        (W.contents (outlet_writer result.1))) }
-    ensures failures { MatchResult result.0 (λ _. outlet_failures result.1 ≡ outlet_failures outlet)
-        (λ _. outlet_failures result.1 ≡ outlet_failures outlet + 1) }
+    ensures ok { OnOk result.0 (OnBytes W.contents outlet result.1 (AppendsCert cut.now bridges.now)) }
+    ensures err { OnErr result.0 (OnBytes W.contents outlet result.1 (AppendsCertPrefix cut.now bridges.now)) }
+    ensures failures { CountsFailure result.0 outlet result.1 }
 {
     let CertifyingRoom { mut pass, row } = room;
     let mut writer = CertWriter::in_room(outlet, row, Version::Two);
@@ -83,10 +81,8 @@ fn write_cert<W: Write, T: Watch>(
     requires bridges { AreBridgesOf cut.now bridges.now }
     requires room { HasBuffers (2 ^ (length cut.now.splice.weights - 1)) pass.old }
     requires fresh { IsFresh (length cut.now.splice.weights) writer.old }
-    ensures ok { OnOk result (AppendsCert cut.now bridges.now (W.contents (outlet_writer (cert_outlet writer.old)))
-        (W.contents (outlet_writer (cert_outlet writer.new)))) }
-    ensures err { OnErr result (AppendsCertPrefix cut.now bridges.now
-        (W.contents (outlet_writer (cert_outlet writer.old))) (W.contents (outlet_writer (cert_outlet writer.new)))) }
+    ensures ok { OnOk result (OnCertBytes W.contents writer.old writer.new (AppendsCert cut.now bridges.now)) }
+    ensures err { OnErr result (OnCertBytes W.contents writer.old writer.new (AppendsCertPrefix cut.now bridges.now)) }
     ensures failed { has_failed writer.new ≡ not (is_ok result) }
     ensures before { failures_before writer.new ≡ failures_before writer.old }
 {
@@ -108,11 +104,8 @@ fn write_entries<W: Write, T: Watch>(
     requires room { HasBuffers (2 ^ (length cut.now.splice.weights - 1)) pass.old }
     requires ready { IsBetweenEntries (length cut.now.splice.weights) writer.old }
     requires entries { entries_left writer.old ≡ length bridges.now.places.items }
-    ensures ok { OnOk result (AppendsEntries (chosen_claims cut.now bridges.now.places.items bridges.now.chosen.items)
-        (W.contents (outlet_writer (cert_outlet writer.old))) (W.contents (outlet_writer (cert_outlet writer.new)))) }
-    ensures err { OnErr result (AppendsSomeEntries
-        (chosen_claims cut.now bridges.now.places.items bridges.now.chosen.items)
-        (W.contents (outlet_writer (cert_outlet writer.old))) (W.contents (outlet_writer (cert_outlet writer.new)))) }
+    ensures ok { OnOk result (OnCertBytes W.contents writer.old writer.new (AddsEntries cut.now bridges.now)) }
+    ensures err { OnErr result (OnCertBytes W.contents writer.old writer.new (AddsSomeEntries cut.now bridges.now)) }
     ensures failed { has_failed writer.new ≡ not (is_ok result) }
     ensures before { failures_before writer.new ≡ failures_before writer.old }
 {
@@ -139,10 +132,8 @@ fn write_entry<W: Write>(
     requires room { HasBuffers (2 ^ (length window.now.weights - 1)) pass.old }
     requires ready { IsBetweenEntries (length window.now.weights) writer.old }
     requires entries { 0 < entries_left writer.old }
-    ensures ok { OnOk result (Puts W.contents (cert_outlet writer.old) (cert_outlet writer.new)
-        (entry_text (record { cue = place.cue; channel = place.channel; bridging = window.now; bits = chosen.now.bits }))) }
-    ensures err { OnErr result (PutsPrefix W.contents (cert_outlet writer.old) (cert_outlet writer.new)
-        (entry_text (record { cue = place.cue; channel = place.channel; bridging = window.now; bits = chosen.now.bits }))) }
+    ensures ok { OnOk result (Writes W.contents writer.old writer.new (entry_of place window.now chosen.now)) }
+    ensures err { OnErr result (WritesUpTo W.contents writer.old writer.new (entry_of place window.now chosen.now)) }
     ensures ready { OnOk result (IsBetweenEntries (length window.now.weights) writer.new) }
     ensures left { OnOk result (entries_left writer.new + 1 ≡ entries_left writer.old) }
     ensures room { OnOk result (HasBuffers (2 ^ (length window.now.weights - 1)) pass.new) }

@@ -1,21 +1,19 @@
 //! The whole file of a master, written from cues and bridges.
 
-ghost use Rattle.std.specs.Prelude.{◌≡◌, ◌↔◌, ◌+◌, ◌-◌, ◌<◌, ◌^◌, Err, IfOk, MatchResult, OnErr, OnOk, map};
-ghost use Rattle.chunk_core.specs.Outlets.{outlet_failures, outlet_writer};
+ghost use Rattle.std.specs.Prelude.{◌≡◌, ◌↔◌, ◌-◌, ◌<◌, ◌^◌, Err, IfOk, OnErr, OnOk, map};
+ghost use Rattle.chunk_core.specs.Outlets.{outlet_failures};
 ghost use Rattle.dsd_bits.specs.Contents.{mark_content};
-ghost use Rattle.form_core.specs.Parts.{FitsIn};
-ghost use Rattle.cut_core.specs.Cuts.{master_length};
 ghost use Rattle.master_core.specs.Choosing.{AreBridgesOf};
-ghost use Rattle.master_core.specs.Filing.{AreMasterEnds, WritesMaster, WritesMasterPrefix, silent_master};
+ghost use Rattle.master_core.specs.Filing.{AreMasterEnds, FitsMaster, WritesMaster, WritesMasterPrefix, silent_master};
 ghost use Rattle.master_core.specs.Best as masters;
-ghost use Rattle.master_core.specs.Writing.{IsRoomFor};
+ghost use Rattle.master_core.specs.Writing.{CountsFailure, IsRoomFor, OnBytes};
 
 use crate::choosing::ChosenBridges;
 use crate::parting::MasterSource;
 use crate::writing::{MasterRoom, has_one_best, write_sound};
 use chunk_core::{Device, Outlet};
 use cut_core::Cut;
-use dsd_bits::{Mark, Recording, silent_channels};
+use dsd_bits::{Description, Mark, Metadata, Recording, silent_channels};
 use form_core::{Ends, Form, WriteFault, ends_in, fields_fit, interleaving_in, written_in_parts};
 use std::alloc::{AllocError, Global};
 use std::io::Write;
@@ -30,8 +28,7 @@ const MOST_AROUND: usize = 1 << 40;
 /// also if head or tail had more than `2^40` bytes.
 pub fn master_ends(alloc: Global, cut: &Cut, form: Form) -> Result<Ends, WriteFault>
     ensures ok { IfOk result (AreMasterEnds cut.now form) }
-    ensures not_whole_bytes { result ≡ Err WriteFault.NotWholeBytes → FitsIn form (master_length cut.now.splice.cues)
-        → ⊥ }
+    ensures not_whole_bytes { result ≡ Err WriteFault.NotWholeBytes → FitsMaster form cut.now → ⊥ }
 {
     let silent = make_silent(alloc, cut, form)?;
     fields_fit(&silent);
@@ -51,15 +48,13 @@ fn make_silent(alloc: Global, cut: &Cut, form: Form) -> Result<Recording, AllocE
     let first = cut.first();
     let ids = Vec::from_slice(alloc, first.ids())?;
     let marks = marks_in(alloc, cut, form)?;
-    let recording = Recording::new(
-        first.rate(),
-        channels,
-        ids,
-        first.layout(),
+    let metadata = Metadata {
         marks,
-        Vec::new(alloc),
-        Vec::new(alloc),
-    );
+        others: Vec::new(alloc),
+        tag: Vec::new(alloc),
+    };
+    let description = Description::new(first.rate(), 0, ids, first.layout(), metadata);
+    let recording = Recording::new(description, channels);
     Ok(recording)
 }
 
@@ -92,13 +87,9 @@ pub fn write_master<W: Write>(
     requires room { IsRoomFor cut.now room.old }
     requires outlet_ready { outlet_failures outlet.old < 2 ^ 64 - 1 }
     ensures room { IsRoomFor cut.now room.new }
-    ensures ok { OnOk result (WritesMaster cut.now form (W.contents (outlet_writer outlet.old))
-        (W.contents (outlet_writer outlet.new))) }
-    ensures prefix { OnErr result (WritesMasterPrefix cut.now form (W.contents (outlet_writer outlet.old))
-        (W.contents (outlet_writer outlet.new))) }
-    ensures failures { MatchResult result
-        (λ _. outlet_failures outlet.new ≡ outlet_failures outlet.old)
-        (λ _. outlet_failures outlet.new ≡ outlet_failures outlet.old + 1) }
+    ensures ok { OnOk result (OnBytes W.contents outlet.old outlet.new (WritesMaster cut.now form)) }
+    ensures prefix { OnErr result (OnBytes W.contents outlet.old outlet.new (WritesMasterPrefix cut.now form)) }
+    ensures failures { CountsFailure result outlet.old outlet.new }
 {
     cut.can_cut();
     written_in_parts();

@@ -6,9 +6,9 @@
 //! rising channel: `choosing.rt` searches them, `certifying.rt` makes their rows again and writes their entries. Whether
 //! a recording is a master, and what it costs, is defined by [`judge_core`], which judges what is written here.
 //!
-//! [`write_sound`] and [`write_master`] write the best master although its channels are never in memory: group by
-//! group, each channel's part of it made from cues and chosen bridges (`parting.rt`, `writing.rt`, `filing.rt`). They
-//! use memory that [`master_room`] and [`master_ends`] reserved before, and take none themselves.
+//! [`write_master`] writes the best master although its channels are never in memory: group by group, each channel's
+//! part of it made from cues and chosen bridges (`parting.rt`, `writing.rt`, `filing.rt`). It uses memory that
+//! [`master_room`] and [`master_ends`] reserved before, and takes none itself.
 //!
 //! The words of the contracts:
 //!
@@ -43,7 +43,6 @@ mod writing;
 pub use certifying::{CertifyingRoom, certificates_show, certify};
 pub use choosing::ChosenBridges;
 pub use filing::{master_ends, write_master};
-pub use parting::MasterSource;
 pub use planning::{Planned, plan};
 pub use watch::{Unwatched, Watch};
-pub use writing::{MasterRoom, has_one_best, master_room, write_sound};
+pub use writing::{MasterRoom, master_room};

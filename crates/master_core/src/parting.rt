@@ -3,9 +3,7 @@
 ghost use Rattle.std.specs.Prelude.{◌≡◌, ◌+◌, ◌-◌, ◌<◌, ◌≤◌, ◌++◌, [], length};
 ghost use Rattle.cut_core.specs.Cuts.{cue_at, cue_bits, take_channels};
 ghost use Rattle.judge_core.specs.Claims.{bridge_start};
-ghost use Rattle.master_core.specs.Best.{IsFirstLeastPart};
-ghost use Rattle.judge_core.specs.Masters.{part_at};
-ghost use Rattle.master_core.specs.Parting.{IsBestPart, IsPartAdded, HasChosen, IsStepAdded, within};
+ghost use Rattle.master_core.specs.Parting.{IsBestAt, IsBestPart, IsPartAdded, HasChosen, IsStepAdded, within};
 
 use crate::choosing::chosen_at;
 use cut_core::{BridgePlace, Cut};
@@ -14,13 +12,13 @@ use trellis_core::Chosen;
 
 /// What a master is made from: a cut, and the bits that were chosen for its bridges.
 #[derive(Clone, Copy)]
-pub struct MasterSource<'a> {
+pub(crate) struct MasterSource<'a> {
     /// The cut.
-    pub cut: &'a Cut,
+    pub(crate) cut: &'a Cut,
     /// The places of its bridges, in their order.
-    pub places: &'a [BridgePlace],
+    pub(crate) places: &'a [BridgePlace],
     /// The bits that were chosen for each bridge.
-    pub chosen: &'a [Chosen],
+    pub(crate) chosen: &'a [Chosen],
 }
 
 /// Adds the part of a channel of the master in a range to an empty [`BitRoom`](dsd_bits::BitRoom), which is large
@@ -127,8 +125,7 @@ fn push_bridge_part(
     requires cue { place.cue + 1 < length source.now.cut.now.splice.cues }
     requires in_room { length room.old.bits + (range.stop - range.start) ≤ room.old.most }
     ensures most { room.new.most ≡ room.old.most }
-    ensures bridged { IsPartAdded (IsFirstLeastPart (part_at source.now.cut.now place.channel place.cue)) range
-        room.old.bits room.new.bits }
+    ensures bridged { IsPartAdded (IsBestAt source.now.cut.now place) range room.old.bits room.new.bits }
 {
     source.cut.can_cut();
     let stop = range.stop.min(source.cut.cue(place.cue).bridge);

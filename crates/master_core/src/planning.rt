@@ -1,12 +1,10 @@
 //! A master that is planned: its bridges are chosen, and all memory for its files is reserved.
 
 ghost use Rattle.std.specs.Prelude.{◌≡◌, IfErr, IfOk};
-ghost use Rattle.cut_core.specs.Cuts.{master_length};
-ghost use Rattle.form_core.specs.Parts.{FitsIn};
 ghost use Rattle.master_core.specs.Certifying.{IsRoomOf};
 ghost use Rattle.master_core.specs.Choosing as specs;
 ghost use Rattle.master_core.specs.Choosing.{AreBridgesOf};
-ghost use Rattle.master_core.specs.Filing.{AreMasterEnds};
+ghost use Rattle.master_core.specs.Filing.{AreMasterEnds, FitsMaster};
 ghost use Rattle.master_core.specs.Planning.{PlansMaster};
 ghost use Rattle.master_core.specs.Writing.{IsRoomFor};
 
@@ -55,8 +53,7 @@ pub fn plan<W: Watch>(
     ensures ends { IfOk result (λ made. AreMasterEnds cut.now form made.ends) }
     ensures room { IfOk result (λ made. IsRoomFor cut.now made.room) }
     ensures cert_room { IfOk result (λ made. IsRoomOf cut.now made.cert_room) }
-    ensures not_whole_bytes { IfErr result (λ fault. fault ≡ WriteFault.NotWholeBytes
-        → FitsIn form (master_length cut.now.splice.cues) → ⊥) }
+    ensures not_whole_bytes { IfErr result (λ fault. fault ≡ WriteFault.NotWholeBytes → FitsMaster form cut.now → ⊥) }
 {
     let ends = master_ends(alloc, cut, form)?;
     let cert_room = CertifyingRoom::new(alloc, cut)?;

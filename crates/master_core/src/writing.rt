@@ -1,16 +1,16 @@
 //! The sound of a master, written group by group of its channels' blocks from cues and bridges. All memory that it
 //! takes is reserved before.
 
-ghost use Rattle.std.specs.Prelude.{◌≡◌, ◌+◌, ◌-◌, ◌*◌, ◌/◌, ◌%◌, ◌<◌, ◌≤◌, ◌^◌, All, IfOk, MatchResult, OnErr, OnOk, length, map, vec_capacity};
+ghost use Rattle.std.specs.Prelude.{◌≡◌, ◌+◌, ◌-◌, ◌*◌, ◌/◌, ◌%◌, ◌<◌, ◌≤◌, ◌^◌, All, IfOk, OnErr, OnOk, length, map, vec_capacity};
 ghost use Rattle.std.specs.Io.KnownBytes.{Appends};
-ghost use Rattle.chunk_core.specs.Outlets.{AppendsPrefix, outlet_failures, outlet_writer};
+ghost use Rattle.chunk_core.specs.Outlets.{AppendsPrefix, outlet_failures};
 ghost use Rattle.dsd_bits.specs.Channels.{IsLevel, count_of};
 ghost use Rattle.dsd_bits.specs.Rooms.{rooms_bits};
 ghost use Rattle.dsd_bits.specs.Sounds.{sound_size};
 ghost use Rattle.interleave_core.specs.Reinterleaving.{laced_in};
 ghost use Rattle.cut_core.specs.Cuts.{master_length, take_channels};
 ghost use Rattle.master_core.specs.Parting.{AreBestParts, IsBestPart, HasChosen};
-ghost use Rattle.master_core.specs.Writing.{AreRooms, HasOneBest, IsRoomFor, WritesBest, WritesBestPrefix, WritesPart, WritesPartPrefix};
+ghost use Rattle.master_core.specs.Writing.{AreRooms, CountsFailure, HasOneBest, IsRoomFor, OnBytes, WritesBest, WritesBestPrefix, WritesPart, WritesPartPrefix};
 
 use crate::parting::{MasterSource, push_part};
 use chunk_core::{Device, Outlet};
@@ -59,7 +59,7 @@ fn bit_rooms(alloc: Global, number: usize, most: usize) -> Result<Vec<BitRoom>, 
 
 /// The law of best masters: bits that were chosen for all bridges make one list of best channels, and there is no
 /// other. It does nothing.
-pub fn has_one_best(source: &MasterSource<'_>)
+pub(crate) fn has_one_best(source: &MasterSource<'_>)
     requires { HasChosen source.now }
     ensures { HasOneBest source.now.cut.now }
 {
@@ -70,7 +70,7 @@ pub fn has_one_best(source: &MasterSource<'_>)
 /// by [`master_room`].
 ///
 /// Refusal: `Device` at the first write that returns an error or accepts nothing; a prefix of the bytes was written.
-pub fn write_sound<W: Write>(
+pub(crate) fn write_sound<W: Write>(
     source: &MasterSource<'_>,
     to: Interleaving,
     room: &mut MasterRoom,
@@ -81,13 +81,9 @@ pub fn write_sound<W: Write>(
     requires room { IsRoomFor source.now.cut.now room.old }
     requires outlet_ready { outlet_failures outlet.old < 2 ^ 64 - 1 }
     ensures room { IsRoomFor source.now.cut.now room.new }
-    ensures ok { OnOk result (WritesBest source.now.cut.now to (W.contents (outlet_writer outlet.old))
-        (W.contents (outlet_writer outlet.new))) }
-    ensures prefix { OnErr result (WritesBestPrefix source.now.cut.now to (W.contents (outlet_writer outlet.old))
-        (W.contents (outlet_writer outlet.new))) }
-    ensures failures { MatchResult result
-        (λ _. outlet_failures outlet.new ≡ outlet_failures outlet.old)
-        (λ _. outlet_failures outlet.new ≡ outlet_failures outlet.old + 1) }
+    ensures ok { OnOk result (OnBytes W.contents outlet.old outlet.new (WritesBest source.now.cut.now to)) }
+    ensures prefix { OnErr result (OnBytes W.contents outlet.old outlet.new (WritesBestPrefix source.now.cut.now to)) }
+    ensures failures { CountsFailure result outlet.old outlet.new }
 {
     source.cut.can_cut();
     has_one_best(source);
@@ -117,13 +113,10 @@ fn write_stretch<W: Write>(
     requires outlet_ready { outlet_failures outlet.old < 2 ^ 64 - 1 }
     ensures room { IsRoomFor source.now.cut.now room.new }
     ensures stretch { room.new.stretch ≡ room.old.stretch }
-    ensures ok { OnOk result (WritesPart source.now.cut.now to range (W.contents (outlet_writer outlet.old))
-        (W.contents (outlet_writer outlet.new))) }
-    ensures prefix { OnErr result (WritesPartPrefix source.now.cut.now to range (W.contents (outlet_writer outlet.old))
-        (W.contents (outlet_writer outlet.new))) }
-    ensures failures { MatchResult result
-        (λ _. outlet_failures outlet.new ≡ outlet_failures outlet.old)
-        (λ _. outlet_failures outlet.new ≡ outlet_failures outlet.old + 1) }
+    ensures ok { OnOk result (OnBytes W.contents outlet.old outlet.new (WritesPart source.now.cut.now to range)) }
+    ensures prefix { OnErr result (OnBytes W.contents outlet.old outlet.new
+        (WritesPartPrefix source.now.cut.now to range)) }
+    ensures failures { CountsFailure result outlet.old outlet.new }
 {
     source.cut.can_cut();
     fill_rooms(&mut room.rooms, source, range);

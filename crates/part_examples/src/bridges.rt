@@ -3,8 +3,8 @@
 ghost use Rattle.std.specs.Prelude.{◌≡◌, ◌+◌, ◌<◌, ◌≤◌};
 ghost use Rattle.splice_core.specs.Cues.{AreWeights};
 
+use crate::fixtures::windows::{Part, bits_of, by_equal, by_newest, by_older, ones, window, zeros};
 use cost_core::{Window, WindowFault};
-use fixtures::windows::{Part, bits_of, by_equal, by_newest, by_older, ones, window, zeros};
 use std::alloc::Global;
 use std::process::Abort;
 use std::test::Fail;

@@ -5,12 +5,12 @@ ghost use Rattle.chunk_core.specs.Inlets.{inlet_failures};
 ghost use Rattle.cert_core.specs.Readers.{cert_inlet};
 
 use crate::certificates::{NARROW, WORKED};
+use crate::fixtures::devices::drip;
+use crate::fixtures::windows::{bits_of, by_newest, ones, zeros};
 use cert_core::{CertReader, CertVerdict, CheckFault};
 use chunk_core::Inlet;
 use cost_core::{Window, WindowFault};
 use dsd_bits::Bits;
-use fixtures::devices::drip;
-use fixtures::windows::{bits_of, by_newest, ones, zeros};
 use std::alloc::Global;
 use std::io::Read;
 use std::test::Fail;

@@ -5,10 +5,10 @@ ghost use Rattle.chunk_core.specs.Outlets.{outlet_failures};
 ghost use Rattle.cert_core.specs.Writers.{has_head, is_open, row_length};
 
 use crate::certificates::{NARROW, WORKED};
+use crate::fixtures::devices::sip;
 use cert_core::{CertFault, CertWriter, Version};
 use chunk_core::Outlet;
 use cost_core::LevelSink;
-use fixtures::devices::sip;
 use std::alloc::{AllocError, Global};
 use std::io::Write;
 use std::test::Fail;

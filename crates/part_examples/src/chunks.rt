@@ -3,10 +3,10 @@
 ghost use Rattle.std.specs.Prelude.{◌≤◌};
 
 use crate::compared::check_printed;
+use crate::fixtures::compared::equal;
 use chunk_core::{
     ChunkFault, Head, Order, Span, head, push_chunk, push_u16, push_u32, push_u64, walk,
 };
-use fixtures::compared::equal;
 use std::alloc::{AllocError, Global};
 use std::test::Fail;
 

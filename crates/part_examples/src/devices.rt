@@ -4,9 +4,9 @@ ghost use Rattle.std.specs.Prelude.{◌<◌, ◌≤◌, ◌+◌, ◌-◌, ◌^�
 ghost use Rattle.chunk_core.specs.Inlets.{inlet_failures};
 
 use crate::compared::check_printed;
+use crate::fixtures::compared::equal;
+use crate::fixtures::devices::{Dripping, drip, sip};
 use chunk_core::{Device, FusedFault, FusedInlet, FusedOutlet, Inlet, Outlet};
-use fixtures::compared::equal;
-use fixtures::devices::{Dripping, drip, sip};
 use std::alloc::Global;
 use std::io::Read;
 

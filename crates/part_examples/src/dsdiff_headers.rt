@@ -1,9 +1,9 @@
 //! What the header of a DSDIFF 1.5 file states about its sound, and which ends close such a file.
 
 use crate::dsdiff_writing::WITH_PARTS;
+use crate::fixtures::files::{FILE, changed};
 use dsd_bits::{Interleaving, Sound, SoundAt};
 use dsdiff_core::{closes, sound_at};
-use fixtures::files::{FILE, changed};
 use std::alloc::{AllocError, Global};
 use std::test::Fail;
 

@@ -1,9 +1,9 @@
 //! Marks of DSDIFF 1.5 edited masters: their fields and the places that they mark, worked out by hand.
 
+use crate::fixtures::compared::equal;
+use crate::fixtures::files::{MONO, RATE, RAW, file_of, marked_with};
 use dsd_bits::{Mark, Recording};
 use dsdiff_core::{DsdiffFault, mark_at, place, read};
-use fixtures::compared::equal;
-use fixtures::files::{MONO, RATE, RAW, file_of, marked_with};
 use std::alloc::{AllocError, Global};
 use std::test::Fail;
 

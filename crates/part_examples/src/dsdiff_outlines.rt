@@ -2,9 +2,9 @@
 
 use crate::dsdiff_headers::{MONO, VERSION, prefix_of};
 use crate::dsdiff_writing::WITH_PARTS;
+use crate::fixtures::compared::equal;
 use dsd_bits::{Other, Recording, SoundAt};
 use dsdiff_core::{DsdiffFault, outline, sound_at, write_head, write_tail};
-use fixtures::compared::equal;
 use std::alloc::{AllocError, Global};
 use std::test::Fail;
 

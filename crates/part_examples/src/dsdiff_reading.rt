@@ -1,10 +1,10 @@
 //! DSDIFF 1.5 files and what they hold: channels, and chunks that are kept as they are.
 
+use crate::fixtures::compared::equal;
+use crate::fixtures::files::{FILE, MONO, RATE, RAW, STEREO, file_of};
 use crate::reported::{Numbers, has_ids, has_sounds, numbers_of};
 use dsd_bits::{Place, Recording};
 use dsdiff_core::{DsdiffFault, read};
-use fixtures::compared::equal;
-use fixtures::files::{FILE, MONO, RATE, RAW, STEREO, file_of};
 use std::alloc::Global;
 use std::test::Fail;
 

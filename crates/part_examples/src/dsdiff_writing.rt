@@ -3,10 +3,10 @@
 ghost use Rattle.std.specs.Prelude.{◌≡◌, ◌<◌, ◌≤◌, ◌^◌, ◌∷◌, [], length, IfOk};
 
 use crate::compared::check_printed;
-use dsd_bits::{Bits, Mark, Other, Place, Recording};
+use crate::fixtures::compared::equal;
+use crate::fixtures::files::FILE;
+use dsd_bits::{Bits, Description, Mark, Metadata, Other, Place, Recording};
 use dsdiff_core::{WriteFault, write};
-use fixtures::compared::equal;
-use fixtures::files::FILE;
 use std::alloc::{AllocError, Global};
 use std::test::Fail;
 
@@ -34,15 +34,14 @@ fn one_channel(alloc: Global, byte: u8, count: usize) -> Result<Recording, Alloc
     if channel.len() != count {
         return Err(AllocError);
     }
-    Ok(Recording::new(
-        2822400,
-        vec![in alloc; channel]?,
-        vec![in alloc; *b"C000"]?,
-        1,
-        Vec::new(alloc),
-        Vec::new(alloc),
-        Vec::new(alloc),
-    ))
+    let metadata = Metadata {
+        marks: Vec::new(alloc),
+        others: Vec::new(alloc),
+        tag: Vec::new(alloc),
+    };
+    let ids = vec![in alloc; *b"C000"]?;
+    let description = Description::new(2822400, count, ids, 1, metadata);
+    Ok(Recording::new(description, vec![in alloc; channel]?))
 }
 
 // Whether a recording is written as this file.
@@ -109,15 +108,17 @@ fn with_parts(
     let Ok(channel) = Bits::from_packed(alloc, &[0xf0], 8) else {
         return Err(AllocError);
     };
-    Ok(Recording::new(
-        2822400,
-        vec![in alloc; channel]?,
-        vec![in alloc; *b"C000"]?,
-        1,
-        vec![in alloc; mark]?,
+    if channel.len() != 8 {
+        return Err(AllocError);
+    }
+    let metadata = Metadata {
+        marks: vec![in alloc; mark]?,
         others,
-        Vec::new(alloc),
-    ))
+        tag: Vec::new(alloc),
+    };
+    let ids = vec![in alloc; *b"C000"]?;
+    let description = Description::new(2822400, 8, ids, 1, metadata);
+    Ok(Recording::new(description, vec![in alloc; channel]?))
 }
 
 // Three chunks that are kept.

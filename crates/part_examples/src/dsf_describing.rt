@@ -1,9 +1,9 @@
 //! What DSF 1.01 files hold besides their bits, and the heads of files that are written from that.
 
+use crate::fixtures::compared::equal;
+use crate::fixtures::files::DSF_HEADER;
 use dsd_bits::{BitOrder, Description};
 use dsf_core::{DsfFault, Located, describe, head, locate, outline, tag_at};
-use fixtures::compared::equal;
-use fixtures::files::DSF_HEADER;
 use std::alloc::{AllocError, Global};
 use std::test::Fail;
 

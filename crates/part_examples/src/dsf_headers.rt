@@ -1,9 +1,9 @@
 //! What the first bytes of a DSF 1.01 file state about its sound, the faults that they show, and at which length such a
 //! file ends.
 
+use crate::fixtures::files::DSF_HEADER;
 use dsd_bits::{BitOrder, Interleaving, Sound, SoundAt};
 use dsf_core::{DsfFault, Located, closes, locate, sound_at};
-use fixtures::files::DSF_HEADER;
 
 const ONE_BIT: Sound = Sound {
     rate: 2_822_400,

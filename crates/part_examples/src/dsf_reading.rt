@@ -1,9 +1,9 @@
 //! A DSF 1.01 file and what it holds.
 
+use crate::fixtures::files::{DSF_HEADER, filled};
 use crate::reported::{Numbers, has_ids, has_sounds, numbers_of};
 use dsd_bits::{BitOrder, Recording};
 use dsf_core::{DsfFault, read};
-use fixtures::files::{DSF_HEADER, filled};
 use std::alloc::Global;
 use std::test::Fail;
 

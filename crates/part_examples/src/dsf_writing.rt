@@ -2,11 +2,11 @@
 
 ghost use Rattle.std.specs.Prelude.{◌≡◌, length, IfOk};
 
+use crate::fixtures::compared::equal;
+use crate::fixtures::files::{DSF_HEADER, dsf_of, filled};
 use crate::reported::{Numbers, has_ids, has_sound, numbers_of, sound_of};
-use dsd_bits::{BitOrder, Bits, Recording};
+use dsd_bits::{BitOrder, Bits, Description, Metadata, Recording};
 use dsf_core::{DsfFault, read, write};
-use fixtures::compared::equal;
-use fixtures::files::{DSF_HEADER, dsf_of, filled};
 use std::alloc::{AllocError, Global};
 use std::test::Fail;
 
@@ -32,15 +32,14 @@ fn channel(alloc: Global, last: u8) -> Result<Bits, AllocError>
 fn two_channels(alloc: Global) -> Result<Recording, AllocError> {
     let left = channel(alloc, 0xff)?;
     let right = channel(alloc, 0x35)?;
-    Ok(Recording::new(
-        5644800,
-        vec![in alloc; left, right]?,
-        vec![in alloc; *b"LLLL", *b"RRRR"]?,
-        2,
-        Vec::new(alloc),
-        Vec::new(alloc),
-        b"ID3".to_vec(alloc)?,
-    ))
+    let metadata = Metadata {
+        marks: Vec::new(alloc),
+        others: Vec::new(alloc),
+        tag: b"ID3".to_vec(alloc)?,
+    };
+    let ids = vec![in alloc; *b"LLLL", *b"RRRR"]?;
+    let description = Description::new(5644800, 32769, ids, 2, metadata);
+    Ok(Recording::new(description, vec![in alloc; left, right]?))
 }
 
 // Whether a file has two groups of one block per channel, and this number of bits per sample. `first` is the first byte

@@ -1,10 +1,10 @@
 //! The sound bytes of DSF 1.01: a block of 4096 bytes of each channel in turn. The earliest bit of a byte is its lowest
 //! or its highest. All values are worked out by hand.
 
+use crate::fixtures::compared::equal;
+use crate::fixtures::files::filled;
 use crate::reported::has_bits;
 use dsd_bits::{BitOrder, Bits, LaceFault, lace_blocks, push_blocks, unlace_blocks, unlace_bytes};
-use fixtures::compared::equal;
-use fixtures::files::filled;
 use std::alloc::Global;
 use std::test::Fail;
 

@@ -1,9 +1,9 @@
 //! The sound bytes of DSDIFF 1.5: one byte of each channel in turn. All values are worked out by hand.
 
 use crate::compared::check_printed;
+use crate::fixtures::compared::equal;
 use crate::reported::has_bits;
 use dsd_bits::{Bits, LaceFault, lace_bytes, push_laced, unlace_bytes};
-use fixtures::compared::equal;
 use std::alloc::Global;
 use std::test::Fail;
 

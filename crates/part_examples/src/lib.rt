@@ -2,7 +2,8 @@
 //! WAVE files and projects; decimation and frames; costs, bits and certificates of bridges; and re-interleaved sound
 //! bytes.
 //!
-//! What they share is in `fixtures`. Whole files and commands are in `archive_examples`.
+//! What they share, with those of `archive_examples`, is in [`fixtures`]: small files, projects, windows, and devices
+//! that fail where they are asked to. Whole files and commands are in `archive_examples`.
 #![tactic(auto)]
 
 #[cfg(test)]
@@ -45,6 +46,7 @@ mod dsf_reading;
 mod dsf_refusals;
 #[cfg(test)]
 mod dsf_writing;
+pub mod fixtures;
 #[cfg(test)]
 mod kernels;
 #[cfg(test)]

@@ -2,8 +2,8 @@
 //! reversed. All values are worked out by hand.
 
 use crate::compared::check_printed;
+use crate::fixtures::compared::equal;
 use dsd_bits::{BitRoom, Bits, BitsFault, reverse, reverse_byte};
-use fixtures::compared::equal;
 use std::alloc::{AllocError, Global};
 use std::test::Fail;
 

@@ -3,9 +3,9 @@
 ghost use Rattle.std.specs.Prelude.{◌≡◌};
 ghost use Rattle.player_core.specs.PlayerView.{IsPlayer, fed_of, sound_of};
 
+use crate::fixtures::compared::equal;
 use dsd_bits::{BitOrder, Interleaving, Sound};
 use fir_core::Taps;
-use fixtures::compared::equal;
 use player_core::Player;
 use std::alloc::{AllocError, Global};
 use std::test::Fail;

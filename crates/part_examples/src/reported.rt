@@ -1,7 +1,7 @@
 //! What the examples compare of recordings and their channels.
 
+use crate::fixtures::compared::equal;
 use dsd_bits::{Bits, Recording};
-use fixtures::compared::equal;
 
 /// The numbers that a recording has.
 #[derive(Clone, Copy, PartialEq, Eq)]

@@ -4,8 +4,8 @@ ghost use Rattle.std.specs.Prelude.{◌≡◌, ◌+◌, Some, false, IfOk};
 ghost use Rattle.cost_core.specs.Trellis.{states};
 ghost use Rattle.cost_core.specs.StateCosts.{trellis_of};
 
+use crate::fixtures::windows::{by_newest, ones, zeros};
 use cost_core::{LevelSink, SinkFault, Window};
-use fixtures::windows::{by_newest, ones, zeros};
 use std::alloc::{AllocError, Global};
 use std::test::Fail;
 use trellis_core::{BridgeFault, Chosen, bridge_capped_into, bridge_into};

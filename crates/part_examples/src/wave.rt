@@ -3,9 +3,9 @@
 ghost use Rattle.wave_core.specs.Contents.{IsPcm, IsWidth, pcm_of};
 
 use crate::compared::check_printed;
-use fixtures::compared::equal;
-use fixtures::files::WAVE;
-use fixtures::waves::{THREE_CHANNELS, TWO_CHANNELS, WIDE};
+use crate::fixtures::compared::equal;
+use crate::fixtures::files::WAVE;
+use crate::fixtures::waves::{THREE_CHANNELS, TWO_CHANNELS, WIDE};
 use std::alloc::{AllocError, Global};
 use std::test::Fail;
 use wave_core::{Pcm, WaveFault, push_frames, push_header, push_pad, push_sample, write};

@@ -3,8 +3,8 @@
 ghost use Rattle.std.specs.Prelude.{◌≡◌, ◌+◌, ◌<◌, ◌≤◌};
 ghost use Rattle.splice_core.specs.Cues.{IsLine};
 
+use crate::fixtures::windows::{bits_of, by_equal, by_line, by_newest, by_older, ones, zeros};
 use cost_core::{Window, WindowFault};
-use fixtures::windows::{bits_of, by_equal, by_line, by_newest, by_older, ones, zeros};
 use std::alloc::Global;
 
 // The bits of a state, the number of states, the bits of the bridge, and the state before it.

@@ -1,12 +1,13 @@
 -- Pieces of a part that are played one after the other.
-use Rattle.std.proofs.Common.{◌≡◌, ℕ, ◌-◌, List, [], ◌++◌, drop, length, slice_range, Option, refl, sym, subst, ap, ◌∙◌, arith, append_assoc, append-nil, length-append}
+use Rattle.std.proofs.Common.{◌≡◌, ◌⊎◌, ◌<◌, inl, inr, ℕ, ◌-◌, List, [], ◌++◌, drop, length, slice_range, Option, refl, sym, subst, ap, ◌∙◌, arith, append_assoc, append-nil, length-append, take}
 use Rattle.std.specs.Io.KnownBytes.{Appends}
+use Rattle.std.proofs.KnownBytes.{Appends-nil}
 use Rattle.std.proofs.lemmas.List.{nil_from_length}
 use Rattle.chunk_core.specs.Outlets.{AppendsPrefix}
 use Rattle.dsd_bits.specs.declared.sound.Sound.{Sound}
 use Rattle.player_core.specs.Due.{due_bytes}
 use Rattle.player_core.specs.PartPieces.{PutsPartDue, PutsPartPrefix, PutsPartRest}
-use Rattle.player_core.specs.PartView.{FeedsPart, FinishesPart, IsPartOf, IsPartPlayer, IsSamePart, part_all, part_due, part_fed, part_filter, part_rest, part_start}
+use Rattle.player_core.specs.PartView.{FeedsPart, FinishesPart, IsPartComplete, IsPartFed, IsPartOf, IsPartPlayer, IsSamePart, part_all, part_due, part_fed, part_filter, part_rest, part_start}
 use Rattle.player_core.specs.declared.parts.PartPlayer.{PartPlayer}
 use Rattle.fir_core.specs.Decimator.{Decimator}
 use Rattle.player_core.proofs.PrefixLaws.{prefix_of_all}
@@ -21,6 +22,17 @@ part_header p is before rest all =
       slice_range prefix.0 (p.skip - length due) (p.stop - length due),
       ap (λ xs. slice_range xs p.skip p.stop) prefix.1 ∙ slice_more due prefix.0 p.skip p.stop,
     )
+
+-- once it is complete, what is due is all of it
+no_more : (p : PartPlayer) → IsPartPlayer p → IsPartComplete p → (before rest : List ℕ) → IsPartFed p before → length (before ++ rest) ≡ (part_rest p).size → part_all p (before ++ rest) ≡ part_due p before
+no_more p is complete before rest fed all =
+    let due = due_bytes (part_filter p) (part_rest p) before in
+    let more = prefix_of_all (part_filter p) (part_rest p) before rest is.player.sound is.player.whole (least_factor p.player is.player) all in
+    let none : (p.stop - length due) - (p.skip - length due) ≡ 0 = omega (arith, complete, fed.given) in
+    ap (λ xs. slice_range xs p.skip p.stop) more.1
+    ∙ slice_more due more.0 p.skip p.stop
+    ∙ ap (λ k. part_due p before ++ take k (drop (p.skip - length due) more.0)) none
+    ∙ append-nil (part_due p before)
 
 -- ---- one piece
 pub no_part_put : (p : PartPlayer) → IsPartPlayer p → (piece : List ℕ) (a : Option (List ℕ)) → PutsPartPrefix p piece a a
@@ -39,8 +51,24 @@ part_prefix_put p q is piece given a b feeds out = λ before rest fed all.
     )
 
 -- ---- the rest
-pub part_rest_put : (p : PartPlayer) (given : List ℕ) (a b : Option (List ℕ)) → FinishesPart p [] given → Appends a b given → PutsPartRest p a b
-part_rest_put p given a b finishes out = (finishes.0, subst (Appends a b) finishes.1 out, finishes.2)
+pub fed_all : (p : PartPlayer) → (part_fed p ≡ (part_rest p).size) ⊎ IsPartComplete p → p.given < p.stop → part_fed p ≡ (part_rest p).size
+fed_all p either incomplete = elim either [
+  | inl all ↦ all
+  | inr complete ↦ absurd (omega (arith, complete, incomplete))
+]
+
+pub part_rest_put : (p : PartPlayer) → part_fed p ≡ (part_rest p).size → (given : List ℕ) (a b : Option (List ℕ)) → FinishesPart p [] given → Appends a b given → PutsPartRest p a b
+part_rest_put p whole given a b finishes out = (
+  finishes.0,
+  subst (Appends a b) finishes.1 out,
+  λ before rest fed all.
+      let none : rest ≡ [] = nil_from_length rest (omega (arith, fed.fed.fed, whole, all, length-append before rest)) in
+      ap (part_all p) (ap (λ xs. before ++ xs) none ∙ append-nil before) ∙ finishes.2 before fed,
+)
+
+-- nothing is left to be put of a part that is complete
+pub part_complete_put : (p : PartPlayer) → IsPartPlayer p → IsPartComplete p → (a : Option (List ℕ)) → PutsPartRest p a a
+part_complete_put p is complete a = ([], Appends-nil a, λ before rest fed all. no_more p is complete before rest fed all ∙ sym (append-nil (part_due p before)))
 
 pub part_rest_prefix : (p : PartPlayer) → part_fed p ≡ (part_rest p).size → (given : List ℕ) (a b : Option (List ℕ)) → FinishesPart p [] given → AppendsPrefix a b given → PutsPartPrefix p [] a b
 part_rest_prefix p whole given a b finishes out = λ before rest fed all.

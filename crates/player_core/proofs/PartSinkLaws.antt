@@ -1,5 +1,5 @@
 -- What plays a part of a sound, one piece after the other.
-use Rattle.std.proofs.Common.{◌≡◌, ℕ, ◌+◌, ◌-◌, ◌*◌, ◌/◌, ◌^◌, ◌≤◌, inl, inr, List, [], ◌++◌, drop, length, slice_range, take, Option, None, Some, IfSome, Err, sym, subst, ap, ap₂, ◌∙◌, arith, append_assoc, append-nil, length-append, length-drop, mul-le-mul_left}
+use Rattle.std.proofs.Common.{◌≡◌, ℕ, ◌+◌, ◌-◌, ◌*◌, ◌/◌, ◌^◌, ◌≤◌, ◌⊎◌, ◌<◌, inl, inr, refl, List, [], ◌++◌, drop, length, slice_range, take, Option, None, Some, IfSome, Err, sym, subst, ap, ap₂, ◌∙◌, arith, append_assoc, append-nil, length-append, length-drop, mul-le-mul_left}
 use Rattle.std.specs.Io.KnownBytes.{Appends, Consumes}
 use Rattle.std.proofs.KnownBytes.{Appends-trans}
 use Rattle.std.proofs.Math.Seq.{drop-nil, take-nil}
@@ -21,8 +21,8 @@ use Rattle.player_core.specs.Laws.{file_around, total_frames}
 use Rattle.player_core.specs.PartPieces.{PutsPartDue, PutsPartPrefix, PutsPartRest}
 use Rattle.player_core.specs.PartPlaying.{AppliesToPart, PartFails, PartIsPlayed, PlaysPartBy}
 use Rattle.player_core.specs.Parts.{frames_sound, part_bytes, part_file}
-use Rattle.player_core.specs.PartSinks.{FinishesPlayingPart, IsPartOpeningFault, IsPlayingPart, RefusesPlayedPart, frames_as_sound}
-use Rattle.player_core.specs.PartView.{IsPartFed, IsPartOf, IsPartPlayer, IsSamePart, part_all, part_due, part_fed, part_rest, part_start}
+use Rattle.player_core.specs.PartSinks.{FinishesPlayingPart, IsFeedingPart, IsPartOpeningFault, IsPlayingPart, RefusesPlayedPart, frames_as_sound}
+use Rattle.player_core.specs.PartView.{IsPartComplete, IsPartFed, IsPartOf, IsPartPlayer, IsSamePart, part_all, part_due, part_fed, part_rest, part_start}
 use Rattle.player_core.specs.PlayerView.{filter_of, sound_of}
 use Rattle.player_core.specs.Playing.{PlaysFile, PlaysGiven, WritesPrefix}
 use Rattle.player_core.specs.Wave.{wave_file_size, sound_header, pad_of}
@@ -55,7 +55,7 @@ pub record IsPartPlayerOf (d : Decimator) (s : Sound) (start stop : ℕ) (bytes 
   pub plays : IsPartOf d s start stop p
   pub fed : IsPartFed p (drop (part_start p) bytes)
 
-module _ {W : Type 0} (held : W → Option (List ℕ)) (first old : PartSink W) (s : Sound) (bytes : List ℕ) (is : IsPlayingPart held first old s bytes) (p : PartPlayer) (was : old.player.now ≡ Some p) where
+module _ {W : Type 0} (held : W → Option (List ℕ)) (first old : PartSink W) (s : Sound) (bytes : List ℕ) (is : IsFeedingPart held first old s bytes) (p : PartPlayer) (was : old.player.now ≡ Some p) where
   here : is.player ≡ p
   here = same is.player p (sym is.player_is ∙ was)
     where
@@ -104,6 +104,31 @@ module _ {W : Type 0} (held : W → Option (List ℕ)) (first old : PartSink W) 
     subst (λ (e : _). old.stop - old.start ≤ total_frames e.now s) (sym is.taps) (omega (arith, is.start, is.stop, is.inside)),
   )
 
+  -- the player and the outlet are as they were
+  pub stays_fed : (new : PartSink W) → new.outlet.ghost_name ≡ old.outlet.ghost_name → new.taps ≡ old.taps → new.start ≡ old.start → new.stop ≡ old.stop → new.came ≡ old.came → new.player.now ≡ Some p → new.outlet.now ≡ old.outlet.now → IsFeedingPart held first new s bytes
+  stays_fed new reference taps start stop came now outlet =
+      let by = part_player_of in
+      record {
+        same = reference ∙ is.same;
+        taps = taps ∙ is.taps;
+        start = start ∙ is.start;
+        stop = stop ∙ is.stop;
+        is_sound = is.is_sound;
+        divided = is.divided;
+        ordered = is.ordered;
+        inside = is.inside;
+        fits = is.fits;
+        player = p;
+        player_is = now;
+        is_player = by.is_player;
+        plays = by.plays;
+        fed = by.fed;
+        came = came ∙ is.came;
+        written = subst (λ o. Appends a (held (outlet_writer o)) (sound_header d fs ++ part_due p (drop n bytes))) (sym outlet) so_far;
+        ready = is.ready;
+        failures = ap outlet_failures outlet ∙ is.failures;
+      }
+
   -- ---- one piece more
   module _ (new : PartSink W) (piece : List ℕ) (reference : new.outlet.ghost_name ≡ old.outlet.ghost_name) where
     abbrev c : Option (List ℕ)
@@ -115,7 +140,7 @@ module _ {W : Type 0} (held : W → Option (List ℕ)) (first old : PartSink W) 
     joined : drop n (bytes ++ piece) ≡ drop n bytes ++ fed_piece
     joined = drop_more_of n bytes piece
 
-    pub part_playing_on : new.taps ≡ old.taps → new.start ≡ old.start → new.stop ≡ old.stop → new.came ≡ old.came + length piece → (q : PartPlayer) → new.player.now ≡ Some q → IsPartPlayer q → IsSamePart p q → PutsPartDue p q (drop (n - old.came) piece) b c → outlet_failures new.outlet.now ≡ outlet_failures old.outlet.now → IsPlayingPart held first new s (bytes ++ piece)
+    pub part_playing_on : new.taps ≡ old.taps → new.start ≡ old.start → new.stop ≡ old.stop → new.came ≡ old.came + length piece → (q : PartPlayer) → new.player.now ≡ Some q → IsPartPlayer q → IsSamePart p q → PutsPartDue p q (drop (n - old.came) piece) b c → outlet_failures new.outlet.now ≡ outlet_failures old.outlet.now → IsFeedingPart held first new s (bytes ++ piece)
     part_playing_on taps start stop came q now is_player same put failures =
         let puts : PutsPartDue p q fed_piece b c = subst (λ k. PutsPartDue p q (drop (n - k) piece) b c) is.came put in
         let by = part_player_of in
@@ -168,11 +193,16 @@ module _ {W : Type 0} (held : W → Option (List ℕ)) (first old : PartSink W) 
       (part_playing_refuses new [] reference f fault (subst (λ zs. PutsPartPrefix p zs b (held (outlet_writer new.outlet.now))) (sym (drop-nil (n - old.came))) out) failures)
 
   -- ---- the end
-  module _ (m : Option (List ℕ)) (puts : PutsPartRest p b m) (long : length bytes ≡ s.size) where
-    all_put : Appends a m (sound_header d fs ++ part_bytes d s bytes first.start first.stop)
+  module _ (m : Option (List ℕ)) (puts : PutsPartRest p b m) (over : List ℕ) (long : length (bytes ++ over) ≡ s.size) where
+    abbrev whole : List ℕ
+    whole = bytes ++ over
+
+    all_put : Appends a m (sound_header d fs ++ part_bytes d s whole first.start first.stop)
     all_put =
         let by = part_player_of in
-        let part : part_bytes d s bytes first.start first.stop ≡ part_due p (drop n bytes) ++ puts.0 = sym (by.plays.gives bytes long) ∙ puts.2 (drop n bytes) by.fed in
+        let all : drop n whole ≡ drop n bytes ++ drop (n - length bytes) over = drop_more_of n bytes over in
+        let due : part_all p (drop n bytes ++ drop (n - length bytes) over) ≡ part_due p (drop n bytes) ++ puts.0 = puts.2 (drop n bytes) (drop (n - length bytes) over) by.fed (ap length (sym all) ∙ rest_long whole long) in
+        let part : part_bytes d s whole first.start first.stop ≡ part_due p (drop n bytes) ++ puts.0 = sym (by.plays.gives whole long) ∙ ap (part_all p) all ∙ due in
         subst (Appends a m) (append_assoc (sound_header d fs) (part_due p (drop n bytes)) puts.0 ∙ ap (λ xs. sound_header d fs ++ xs) (sym part)) (Appends-trans a b m (sound_header d fs ++ part_due p (drop n bytes)) puts.0 so_far puts.1)
 
     module _ (new : PartSink W) (reference : new.outlet.ghost_name ≡ old.outlet.ghost_name) (t : Sound) (frames : t ≡ frames_sound old.taps.now s (old.stop - old.start)) where
@@ -182,26 +212,92 @@ module _ {W : Type 0} (held : W → Option (List ℕ)) (first old : PartSink W) 
       pad : pad_of old.taps.now t ≡ pad_of d fs
       pad = ap₂ (λ e u. pad_of e.now u) is.taps frames_are
 
-      pub part_finishes : Appends m (held (outlet_writer new.outlet.now)) (pad_of old.taps.now t) → outlet_failures new.outlet.now ≡ outlet_failures old.outlet.now → FinishesPlayingPart held first new s bytes
+      pub part_finishes : Appends m (held (outlet_writer new.outlet.now)) (pad_of old.taps.now t) → outlet_failures new.outlet.now ≡ outlet_failures old.outlet.now → FinishesPlayingPart held first new s whole
       part_finishes out failures = record {
         same = reference ∙ is.same;
-        written = subst (Appends a (held (outlet_writer new.outlet.now))) (append_assoc (sound_header d fs) (part_bytes d s bytes first.start first.stop) (pad_of d fs))
-            (Appends-trans a m (held (outlet_writer new.outlet.now)) (sound_header d fs ++ part_bytes d s bytes first.start first.stop) (pad_of d fs) all_put (subst (Appends m (held (outlet_writer new.outlet.now))) pad out));
+        written = subst (Appends a (held (outlet_writer new.outlet.now))) (append_assoc (sound_header d fs) (part_bytes d s whole first.start first.stop) (pad_of d fs))
+            (Appends-trans a m (held (outlet_writer new.outlet.now)) (sound_header d fs ++ part_bytes d s whole first.start first.stop) (pad_of d fs) all_put (subst (Appends m (held (outlet_writer new.outlet.now))) pad out));
         failures = failures ∙ is.failures;
       }
 
-      pub part_pad_refuses : (f : StreamFault) → IsWritingFault f → AppendsPrefix m (held (outlet_writer new.outlet.now)) (pad_of old.taps.now t) → outlet_failures new.outlet.now ≡ outlet_failures old.outlet.now + failed_writes {X = Unit {0}} (Err f) → RefusesPlayedPart held first new s bytes f
+      pub part_pad_refuses : (f : StreamFault) → IsWritingFault f → AppendsPrefix m (held (outlet_writer new.outlet.now)) (pad_of old.taps.now t) → outlet_failures new.outlet.now ≡ outlet_failures old.outlet.now + failed_writes {X = Unit {0}} (Err f) → RefusesPlayedPart held first new s whole f
       part_pad_refuses f fault out failures = record {
         same = reference ∙ is.same;
         fault = writing_part_opening d s first.start first.stop f fault;
         unwritten = λ early. absurd (writing_later f fault early);
-        prefix = λ rest whole.
-            let none : bytes ++ rest ≡ bytes = ap (λ xs. bytes ++ xs) (nil_from_length rest (omega (arith, whole, long, length-append bytes rest))) ∙ append-nil bytes in
+        prefix = λ rest all.
+            let none : whole ++ rest ≡ whole = ap (λ xs. whole ++ xs) (nil_from_length rest (omega (arith, all, long, length-append whole rest))) ∙ append-nil whole in
             subst (λ xs. AppendsPrefix a (held (outlet_writer new.outlet.now)) (part_file d s first.start first.stop xs)) (sym none)
-            (subst (AppendsPrefix a (held (outlet_writer new.outlet.now))) (append_assoc (sound_header d fs) (part_bytes d s bytes first.start first.stop) (pad_of d fs))
-            (prefix_on a m (held (outlet_writer new.outlet.now)) (sound_header d fs ++ part_bytes d s bytes first.start first.stop) (pad_of d fs) all_put (subst (AppendsPrefix m (held (outlet_writer new.outlet.now))) pad out)));
+            (subst (AppendsPrefix a (held (outlet_writer new.outlet.now))) (append_assoc (sound_header d fs) (part_bytes d s whole first.start first.stop) (pad_of d fs))
+            (prefix_on a m (held (outlet_writer new.outlet.now)) (sound_header d fs ++ part_bytes d s whole first.start first.stop) (pad_of d fs) all_put (subst (AppendsPrefix m (held (outlet_writer new.outlet.now))) pad out)));
         failures = failures ∙ ap (λ k. k + failed_writes {X = Unit {0}} (Err f)) is.failures;
       }
+
+-- ---- all that came, of which the player was fed the first bytes
+pub all_fed : {W : Type 0} (held : W → Option (List ℕ)) (first now : PartSink W) (s : Sound) (bytes : List ℕ) → IsFeedingPart held first now s bytes → IsPlayingPart held first now s bytes
+all_fed held first now s bytes is = record { looked_at = bytes; passed_over = []; bytes_are = sym (append-nil bytes); feeding = is; all_or_complete = inl refl }
+
+module _ {W : Type 0} (held : W → Option (List ℕ)) (first old : PartSink W) (s : Sound) (bytes : List ℕ) (is : IsPlayingPart held first old s bytes) (p : PartPlayer) (was : old.player.now ≡ Some p) where
+  its_player : is.feeding.player ≡ p
+  its_player = here held first old s is.looked_at is.feeding p was
+
+  pub player_known : IsPartPlayer p
+  player_known = subst IsPartPlayer its_player is.feeding.is_player
+
+  looked_at_all : is.passed_over ≡ [] → is.looked_at ≡ bytes
+  looked_at_all none = sym (append-nil is.looked_at) ∙ ap (λ xs. is.looked_at ++ xs) (sym none) ∙ sym is.bytes_are
+
+  -- while the part isn't complete, the player was fed all
+  pub feeding_all : p.given < p.stop → IsFeedingPart held first old s bytes
+  feeding_all incomplete = elim is.all_or_complete [
+    | inl none ↦ subst (IsFeedingPart held first old s) (looked_at_all none) is.feeding
+    | inr complete ↦ (let here : IsPartComplete p = subst IsPartComplete its_player complete in absurd (omega (arith, here, incomplete)))
+  ]
+
+  -- once it is, no more is needed
+  pub passed_on : IsPartComplete p → (piece : List ℕ) (new : PartSink W) → new.outlet.ghost_name ≡ old.outlet.ghost_name → new.taps ≡ old.taps → new.start ≡ old.start → new.stop ≡ old.stop → new.came ≡ old.came → new.player.now ≡ Some p → new.outlet.now ≡ old.outlet.now → IsPlayingPart held first new s (bytes ++ piece)
+  passed_on complete piece new reference taps start stop came now outlet = let on = stays_fed held first old s is.looked_at is.feeding p was new reference taps start stop came now outlet in record {
+    looked_at = is.looked_at;
+    passed_over = is.passed_over ++ piece;
+    bytes_are = ap (λ xs. xs ++ piece) is.bytes_are ∙ append_assoc is.looked_at is.passed_over piece;
+    feeding = on;
+    all_or_complete = inr (subst IsPartComplete (sym (here held first new s is.looked_at on p now)) complete);
+  }
+
+  pub fed_or_complete : length bytes ≡ s.size → (part_fed p ≡ (part_rest p).size) ⊎ IsPartComplete p
+  fed_or_complete long = elim is.all_or_complete [
+    | inl none ↦ (
+        let by = part_player_of held first old s is.looked_at is.feeding p was in
+        let all = looked_at_all none in
+        inl (by.fed.fed.fed ∙ rest_long held first old s is.looked_at is.feeding p was is.looked_at (ap length all ∙ long)))
+    | inr complete ↦ inr (subst IsPartComplete its_player complete)
+  ]
+
+  -- what is refused of the bytes that the player was fed is refused of all
+  refused_of_all : (new : PartSink W) (f : StreamFault) → RefusesPlayedPart held first new s is.looked_at f → RefusesPlayedPart held first new s bytes f
+  refused_of_all new f refused = record {
+    same = refused.same;
+    fault = refused.fault;
+    unwritten = refused.unwritten;
+    prefix = λ rest long.
+        let on : bytes ++ rest ≡ is.looked_at ++ (is.passed_over ++ rest) = ap (λ xs. xs ++ rest) is.bytes_are ∙ append_assoc is.looked_at is.passed_over rest in
+        subst (λ xs. AppendsPrefix (held (outlet_writer first.outlet.now)) (held (outlet_writer new.outlet.now)) (part_file first.taps.now s first.start first.stop xs)) (sym on) (refused.prefix (is.passed_over ++ rest) (ap length (sym on) ∙ long));
+    failures = refused.failures;
+  }
+
+  pub rest_refuses : (new : PartSink W) → new.outlet.ghost_name ≡ old.outlet.ghost_name → (f : StreamFault) → IsWritingFault f → PutsPartPrefix p [] (held (outlet_writer old.outlet.now)) (held (outlet_writer new.outlet.now)) → outlet_failures new.outlet.now ≡ outlet_failures old.outlet.now + failed_writes {X = Unit {0}} (Err f)
+      → RefusesPlayedPart held first new s bytes f
+  rest_refuses new reference f fault out failures = refused_of_all new f (part_rest_refuses held first old s is.looked_at is.feeding p was new reference f fault out failures)
+
+  module _ (m : Option (List ℕ)) (puts : PutsPartRest p (held (outlet_writer old.outlet.now)) m) (long : length bytes ≡ s.size) (new : PartSink W) (reference : new.outlet.ghost_name ≡ old.outlet.ghost_name) (t : Sound) (frames : t ≡ frames_sound old.taps.now s (old.stop - old.start)) where
+    whole_long : length (is.looked_at ++ is.passed_over) ≡ s.size
+    whole_long = ap length (sym is.bytes_are) ∙ long
+
+    pub all_finishes : Appends m (held (outlet_writer new.outlet.now)) (pad_of old.taps.now t) → outlet_failures new.outlet.now ≡ outlet_failures old.outlet.now → FinishesPlayingPart held first new s bytes
+    all_finishes out failures = subst (λ xs. FinishesPlayingPart held first new s xs) (sym is.bytes_are) (part_finishes held first old s is.looked_at is.feeding p was m puts is.passed_over whole_long new reference t frames out failures)
+
+    pub pad_refuses : (f : StreamFault) → IsWritingFault f → AppendsPrefix m (held (outlet_writer new.outlet.now)) (pad_of old.taps.now t) → outlet_failures new.outlet.now ≡ outlet_failures old.outlet.now + failed_writes {X = Unit {0}} (Err f) → RefusesPlayedPart held first new s bytes f
+    pad_refuses f fault out failures = subst (λ xs. RefusesPlayedPart held first new s xs f) (sym is.bytes_are) (part_pad_refuses held first old s is.looked_at is.feeding p was m puts is.passed_over whole_long new reference t frames f fault out failures)
 
 -- ---- the whole file
 module _ {W : Type 0} (held : W → Option (List ℕ)) (old mid new : PartSink W) (o : Surroundings) (stated : AreStated o) where
@@ -219,8 +315,8 @@ module _ {W : Type 0} (held : W → Option (List ℕ)) (old mid new : PartSink W
     held_played : (file sound : List ℕ) → IsPlacedIn o file sound → IsPlayingPart held old mid o.sound sound → all_played file n
     held_played file sound stands is = (
       part_file old.taps.now o.sound old.start old.stop sound,
-      part_held law old.taps.now least old.start old.stop o stated file sound stands is.divided is.ordered is.inside is.fits,
-      size ∙ sym (part_size old.taps.now old.start old.stop is.ordered o.sound stated.is_sound stated.whole is.inside sound stands.sound_long (omega (arith, least))),
+      part_held law old.taps.now least old.start old.stop o stated file sound stands is.feeding.divided is.feeding.ordered is.feeding.inside is.feeding.fits,
+      size ∙ sym (part_size old.taps.now old.start old.stop is.feeding.ordered o.sound stated.is_sound stated.whole is.feeding.inside sound stands.sound_long (omega (arith, least))),
       (ends old sound is stands.sound_long).written,
     )
 
@@ -236,7 +332,7 @@ module _ {W : Type 0} (held : W → Option (List ℕ)) (old mid new : PartSink W
   part_end_requires left i j (read, reads, taken) = (old, taken.0, taken.2, taken.1.sound_long)
 
   pub part_lies_in : {R : Type 0} (left : R → Option (List ℕ)) (i j : Inlet R) → TakesGiven has left i j o → (mid.start ≤ mid.stop) × (mid.stop - mid.start ≤ total_frames mid.taps.now o.sound)
-  part_lies_in left i j (read, reads, taken) = part_lies held old mid o.sound taken.0 taken.2 taken.2.player taken.2.player_is
+  part_lies_in left i j (read, reads, taken) = part_lies held old mid o.sound taken.2.looked_at taken.2.feeding taken.2.feeding.player taken.2.feeding.player_is
 
   pub part_ended : {R : Type 0} (left : R → Option (List ℕ)) (i j : Inlet R) → TakesGiven has left i j o → ((first : PartSink W) (bytes : List ℕ) → IsPlayingPart held first mid o.sound bytes → length bytes ≡ o.sound.size → FinishesPlayingPart held first new o.sound bytes)
       → (new.outlet.ghost_name ≡ old.outlet.ghost_name) × (outlet_failures new.outlet.now ≡ outlet_failures old.outlet.now)
@@ -244,7 +340,7 @@ module _ {W : Type 0} (held : W → Option (List ℕ)) (old mid new : PartSink W
 
   pub part_size_is : {R : Type 0} (left : R → Option (List ℕ)) (i j : Inlet R) → TakesGiven has left i j o → (n : ℕ) (t : Sound) → t ≡ frames_sound mid.taps.now o.sound (mid.stop - mid.start) → n ≡ wave_file_size mid.taps.now t → n ≡ wave_file_size old.taps.now (frames_as_sound old o.sound)
   part_size_is left i j (read, reads, taken) n t frames is =
-      let p = taken.2 in
+      let p = taken.2.feeding in
       is ∙ ap₂ (λ e u. wave_file_size e.now u) p.taps (frames ∙ ap₂ (λ e k. frames_sound e.now o.sound k) p.taps (ap₂ (λ i j. i - j) p.stop p.start))
 
   abbrev pub PartStops : Option (List ℕ) → ℕ → ℕ → PartSink W → StreamFault → Type 0
@@ -284,7 +380,7 @@ module _ {W : Type 0} (held : W → Option (List ℕ)) (left : Option (List ℕ)
   pub part_same_outlet : Stops → new.outlet.ghost_name ≡ old.outlet.ghost_name
   part_same_outlet (inl none) = ap (λ (k : PartSink W). k.outlet.ghost_name) none.same
   part_same_outlet (inr some) = elim some.how [
-    | inl ends ↦ ends.taken.same
+    | inl ends ↦ ends.taken.feeding.same
     | inr refuses ↦ refuses.refuses.same
   ]
 
@@ -302,18 +398,23 @@ module _ {W : Type 0} (held : W → Option (List ℕ)) (left : Option (List ℕ)
     ended_prefix : (o : Option (List ℕ)) (s : Sound) (came : List ℕ) → IfSome o (BeginsSound s came) → length came ≤ s.size → IsPlayingPart held old new s came → WritesPrefix o (PlaysPartBy filter old.start old.stop) was now
     ended_prefix None s came begins few is = tt
     ended_prefix (Some file) s came begins few is = λ bytes plays.
-        let p = is.player in
+        let on = is.feeding in
+        let seen = is.looked_at in
+        let p = on.player in
         let n = part_start p in
         let fs = frames_as_sound old s in
         let text = part_text_came law filter least old.start old.stop s came file bytes begins few plays in
-        let whole = came ++ text.rest in
-        let all : drop n whole ≡ drop n came ++ drop (n - length came) text.rest = drop_more_of n came text.rest in
-        let more = part_header p is.is_player (drop n came) (drop (n - length came) text.rest) (ap length (sym all) ∙ rest_long held old new s came is p is.player_is whole text.long) in
-        let part : part_bytes filter s whole old.start old.stop ≡ part_due p (drop n came) ++ more.0 = sym (is.plays.gives whole text.long) ∙ ap (part_all p) all ∙ more.1 in (
-          sound_header filter fs ++ part_due p (drop n came),
+        let after = is.passed_over ++ text.rest in
+        let whole = seen ++ after in
+        let joined : came ++ text.rest ≡ whole = ap (λ xs. xs ++ text.rest) is.bytes_are ∙ append_assoc seen is.passed_over text.rest in
+        let long : length whole ≡ s.size = ap length (sym joined) ∙ text.long in
+        let all : drop n whole ≡ drop n seen ++ drop (n - length seen) after = drop_more_of n seen after in
+        let more = part_header p on.is_player (drop n seen) (drop (n - length seen) after) (ap length (sym all) ∙ rest_long held old new s seen on p on.player_is whole long) in
+        let part : part_bytes filter s whole old.start old.stop ≡ part_due p (drop n seen) ++ more.0 = sym (on.plays.gives whole long) ∙ ap (part_all p) all ∙ more.1 in (
+          sound_header filter fs ++ part_due p (drop n seen),
           more.0 ++ pad_of filter fs,
-          text.is ∙ ap (file_around filter fs) part ∙ parted (sound_header filter fs) (part_due p (drop n came)) more.0 (pad_of filter fs),
-          is.written,
+          text.is ∙ ap (λ xs. part_file filter s old.start old.stop xs) joined ∙ ap (file_around filter fs) part ∙ parted (sound_header filter fs) (part_due p (drop n seen)) more.0 (pad_of filter fs),
+          on.written,
         )
 
     pub part_fails : Stops → PartFails held left filter old.start old.stop old.outlet.now new.outlet.now f
@@ -328,7 +429,7 @@ module _ {W : Type 0} (held : W → Option (List ℕ)) (left : Option (List ℕ)
         fault = part_outline_holds left filter old.start old.stop f ends.fault;
         unwritten = λ early. absurd (outline_later left f ends.fault early);
         prefix = ended_prefix left some.sound some.came some.begins some.few ends.taken;
-        failures = omega (arith, ends.taken.failures, outline_unwritten (Unit {0}) left f ends.fault);
+        failures = omega (arith, ends.taken.feeding.failures, outline_unwritten (Unit {0}) left f ends.fault);
       }
       | inr refuses ↦ record {
         fault = refused_holds left some.sound some.came some.begins refuses.refuses.fault;

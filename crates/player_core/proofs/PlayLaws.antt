@@ -3,10 +3,7 @@ use Rattle.std.proofs.Common.{◌≡◌, ℕ, ◌+◌, ◌-◌, ◌%◌, ◌^◌
 use Rattle.std.proofs.lemmas.Bool.{cases_lt}
 use Rattle.std.proofs.lemmas.List.{drop-append-le, take_all}
 use Rattle.std.proofs.Math.Seq.{drop-append_seam, take-append_seam}
-use Rattle.dsd_bits.specs.declared.interleaving.Interleaving.{Interleaving}
-use Rattle.dsd_bits.specs.declared.interleaving.Interleaving.TheVariants.{Bytes, Blocks}
 use Rattle.dsd_bits.specs.declared.sound.Sound.{Sound}
-use Rattle.dsd_bits.specs.Contents.{Content}
 use Rattle.dsd_bits.specs.Sounds.{HasSound, sound_bytes}
 use Rattle.fir_core.specs.Decimator.{Decimator}
 use Rattle.player_core.specs.Due.{all_bytes}
@@ -15,7 +12,7 @@ use Rattle.player_core.proofs.SoundLaws.{file_has_size, frames_fill}
 use Rattle.wave_core.specs.Sizes.{FitsRiff, riff_size}
 use Rattle.sound_core.specs.Faults.{IsFromOutside}
 use Rattle.sound_core.specs.Files.{HoldsRecording, LeadsToSound}
-use Rattle.sound_core.specs.Outlines.{AreStated, HoldsIn, IsPlacedIn, Surroundings, with_sound}
+use Rattle.sound_core.specs.Outlines.{AreStated, IsPlacedIn, Surroundings, with_sound}
 use Rattle.sound_core.specs.Sinks.{BeginsSound}
 use Rattle.sound_core.specs.declared.fault.StreamFault.{StreamFault}
 use Rattle.sound_core.specs.declared.fault.StreamFault.TheVariants.{FileRefused, RateNotDivided, TooLarge, ReadFailed, WriteFailed, TurnLimit, Memory}

@@ -11,10 +11,10 @@ abbrev pub PutsPartDue : PartPlayer → PartPlayer → List ℕ → Option (List
 PutsPartDue old new bytes held_old held_new = (more : List ℕ) × Appends held_old held_new more
     × ((before : List ℕ) → IsPartFed old before → IsPartFed new (before ++ bytes) × (part_due old (before ++ bytes) ≡ part_due old before ++ more))
 
--- after all bytes of the rest, the rest of the part's frames was written
+-- the rest of the part's frames was written, of each sound whose rest begins with what the player was fed
 abbrev pub PutsPartRest : PartPlayer → Option (List ℕ) → Option (List ℕ) → Type 0
 PutsPartRest old held_old held_new = (more : List ℕ) × Appends held_old held_new more
-    × ((before : List ℕ) → IsPartFed old before → part_all old before ≡ part_due old before ++ more)
+    × ((before rest : List ℕ) → IsPartFed old before → length (before ++ rest) ≡ (part_rest old).size → part_all old (before ++ rest) ≡ part_due old before ++ more)
 
 -- whatever the sound is whose rest the player was fed a prefix of, with these bytes behind it, a prefix was written of
 -- those frames of the part that were not due

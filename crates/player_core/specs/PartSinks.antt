@@ -1,5 +1,5 @@
 -- What plays a part of a sound to an outlet while its file is read.
-use Rattle.std.specs.Prelude.{◌≡◌, ◌≢◌, ℕ, ◌+◌, ◌-◌, ◌%◌, ◌<◌, ◌≤◌, ◌^◌, List, ◌++◌, drop, length, Option, Some, Err, ⊤}
+use Rattle.std.specs.Prelude.{◌≡◌, ◌≢◌, ◌⊎◌, ℕ, ◌+◌, ◌-◌, ◌%◌, ◌<◌, ◌≤◌, ◌^◌, List, [], ◌++◌, drop, length, Option, Some, Err, ⊤}
 use Rattle.std.specs.Io.KnownBytes.{Appends}
 use Rattle.chunk_core.specs.Outlets.{AppendsPrefix, outlet_failures, outlet_writer}
 use Rattle.dsd_bits.specs.declared.sound.Sound.{Sound}
@@ -12,7 +12,7 @@ use Rattle.sound_core.specs.declared.fault.StreamFault.TheVariants.{FileRefused,
 use Rattle.player_core.specs.Laws.{total_frames}
 use Rattle.player_core.specs.PartPlaying.{IsOutside}
 use Rattle.player_core.specs.Parts.{frames_sound, part_file}
-use Rattle.player_core.specs.PartView.{IsPartFed, IsPartOf, IsPartPlayer, part_due, part_start}
+use Rattle.player_core.specs.PartView.{IsPartComplete, IsPartFed, IsPartOf, IsPartPlayer, part_due, part_start}
 use Rattle.player_core.specs.Wave.{sound_header}
 use Rattle.player_core.specs.declared.part_sink.PartSink.{PartSink}
 use Rattle.player_core.specs.declared.parts.PartPlayer.{PartPlayer}
@@ -23,7 +23,7 @@ frames_as_sound p s = frames_sound p.taps.now s (p.stop - p.start)
 
 -- after these bytes of a sound, which the factor divides and in which the part lies, whose sizes fit, the player was
 -- fed those from its start on; the header was written, and the part's frames that are due
-pub record IsPlayingPart {W : Type 0} (held : W → Option (List ℕ)) (first now : PartSink W) (s : Sound) (bytes : List ℕ) : Type 0 where
+pub record IsFeedingPart {W : Type 0} (held : W → Option (List ℕ)) (first now : PartSink W) (s : Sound) (bytes : List ℕ) : Type 0 where
   pub same : now.outlet.ghost_name ≡ first.outlet.ghost_name
   pub taps : now.taps ≡ first.taps
   pub start : now.start ≡ first.start
@@ -42,6 +42,14 @@ pub record IsPlayingPart {W : Type 0} (held : W → Option (List ℕ)) (first no
   pub written : Appends (held (outlet_writer first.outlet.now)) (held (outlet_writer now.outlet.now)) (sound_header first.taps.now (frames_as_sound first s) ++ part_due player (drop (part_start player) bytes))
   pub ready : outlet_failures first.outlet.now < 2 ^ 64 - 1
   pub failures : outlet_failures now.outlet.now ≡ outlet_failures first.outlet.now
+
+-- after these bytes of a sound the player was fed the first of them: all, or as many as the whole part needs
+pub record IsPlayingPart {W : Type 0} (held : W → Option (List ℕ)) (first now : PartSink W) (s : Sound) (bytes : List ℕ) : Type 0 where
+  pub looked_at : List ℕ
+  pub passed_over : List ℕ
+  pub bytes_are : bytes ≡ looked_at ++ passed_over
+  pub feeding : IsFeedingPart held first now s looked_at
+  pub all_or_complete : (passed_over ≡ []) ⊎ IsPartComplete feeding.player
 
 -- a fault of the part's header: the part lies outside of the sound, the factor does not divide the rate, the part's
 -- sizes do not fit, or the header is not written

@@ -1,5 +1,5 @@
 -- What a `PartPlayer` stands for.
-use Rattle.std.specs.Prelude.{◌≡◌, ℕ, ◌*◌, List, ◌++◌, drop, length, slice_range}
+use Rattle.std.specs.Prelude.{◌≡◌, ℕ, ◌*◌, ◌≤◌, List, ◌++◌, drop, length, slice_range}
 use Rattle.dsd_bits.specs.declared.sound.Sound.{Sound}
 use Rattle.fir_core.specs.Decimator.{Decimator}
 use Rattle.player_core.specs.Due.{all_bytes, due_bytes}
@@ -41,6 +41,10 @@ pub record IsPartFed (p : PartPlayer) (bytes : List ℕ) : Type 0 where
 pub record IsPartPlayer (p : PartPlayer) : Type 0 where
   pub player : IsPlayer p.player
   pub history : (bytes : List ℕ) × IsPartFed p bytes
+
+-- the bytes of all frames of the part were given
+abbrev pub IsPartComplete : PartPlayer → Type 0
+IsPartComplete p = p.stop ≤ p.given
 
 -- it plays the frames of a sound from one on, up to another that is not among them, by this filter
 pub record IsPartOf (d : Decimator) (s : Sound) (start stop : ℕ) (p : PartPlayer) : Type 0 where

@@ -1,9 +1,8 @@
 //! From sound to the frames of a RIFF WAVE file, in memory or from a reader to a writer.
 //!
-//! [`wave_spec`] is what the file says. [`wave_of`] returns the file of a recording, made tile by tile. A [`Player`]
-//! takes the bytes of a sound piece by piece, as a DSDIFF 1.5 or DSF 1.01 file holds them, and returns the bytes of
-//! each frame as soon as its place has come. Of the sound it holds a part of one group of blocks, and what each
-//! channel's filter still reads.
+//! [`wave_of`] returns the file of a recording, made tile by tile. A [`Player`] takes the bytes of a sound piece by
+//! piece, as a DSDIFF 1.5 or DSF 1.01 file holds them, and returns the bytes of each frame as soon as its place has
+//! come. Of the sound it holds a part of one group of blocks, and what each channel's filter still reads.
 //!
 //! [`play`] reads a file part by part and writes its WAVE file. `sound_core` reads the file and passes its sound to a
 //! sink (`sink.rt`), which writes the frames piece by piece (`pieces.rt`) and the bytes around them (`wave.rt`). It
@@ -90,5 +89,4 @@ pub use parts::PartPlayer;
 pub use pausing::PausedPart;
 pub use player::Player;
 pub use playing::play;
-pub use spec::wave_spec;
 pub use wave_file::wave_of;

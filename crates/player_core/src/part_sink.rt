@@ -1,6 +1,6 @@
 //! What plays a part of a sound while its file is read.
 
-ghost use Rattle.std.specs.Prelude.{◌≡◌, ◌+◌, ◌-◌, ◌<◌, ◌≤◌, ◌^◌, [], List, ℕ, IfErr, IsFalse, IsTrue, OnErr, OnOk, Some, drop, length};
+ghost use Rattle.std.specs.Prelude.{◌≡◌, ◌⊎◌, ◌+◌, ◌-◌, ◌<◌, ◌≤◌, ◌^◌, [], List, ℕ, IfErr, IsFalse, IsTrue, OnErr, OnOk, Some, drop, length};
 ghost use Rattle.chunk_core.specs.Outlets.{outlet_failures, outlet_writer};
 ghost use Rattle.dsd_bits.specs.Sounds.{IsSound};
 ghost use Rattle.fir_core.specs.Decimator.{IsWithinLimits};
@@ -8,7 +8,7 @@ ghost use Rattle.player_core.specs.Laws.{total_frames};
 ghost use Rattle.player_core.specs.PartPlaying.{IsOutside};
 ghost use Rattle.player_core.specs.PartPieces.{PutsPartDue, PutsPartPrefix, PutsPartRest};
 ghost use Rattle.player_core.specs.PartSinks.{FinishesPlayingPart, IsPlayingPart, RefusesPlayedPart};
-ghost use Rattle.player_core.specs.PartView.{IsPartPlayer, IsSamePart, part_fed, part_rest, part_start};
+ghost use Rattle.player_core.specs.PartView.{IsPartComplete, IsPartPlayer, IsSamePart, part_fed, part_rest, part_start};
 ghost use Rattle.player_core.specs.Parts as Parts;
 ghost use Rattle.player_core.specs.declared.part_sink.PartSink.{PartSink as Sink};
 ghost use Rattle.sound_core.specs.Faults.{IsWritingFault, failed_writes};
@@ -22,8 +22,8 @@ use sound_core::{SoundPart, SoundSink, StreamFault, put};
 use std::alloc::Global;
 use std::io::Write;
 
-/// What plays a part of a sound to an outlet: its header, and each of its frames when it is due. All but the numbers is
-/// lent.
+/// What plays a part of a sound to an outlet: its header, and each of its frames when it is due. It looks at no byte
+/// after the part is complete. All but the numbers is borrowed.
 #[derive(Drop)]
 pub(crate) struct PartSink<'a, 't, W> {
     /// The filter.
@@ -38,7 +38,7 @@ pub(crate) struct PartSink<'a, 't, W> {
     pub(crate) player: &'a mut Option<PartPlayer<'t>>,
     /// What is written next.
     pub(crate) out: &'a mut Vec<u8>,
-    /// How many bytes of the sound came.
+    /// How many bytes of the sound came before the part was complete.
     pub(crate) came: usize,
 }
 
@@ -96,7 +96,12 @@ impl<'a, 't, W: Write> SoundSink for PartSink<'a, 't, W> {
 
     fn take(&mut self, _alloc: Global, _part: SoundPart, bytes: &[u8]) -> Result<(), StreamFault> {
         match &mut *self.player {
-            Some(player) => put_part_due(player, bytes, self.came, self.out, self.outlet)?,
+            Some(player) => {
+                if player.is_complete() {
+                    return Ok(());
+                }
+                put_part_due(player, bytes, self.came, self.out, self.outlet)?
+            }
             None => unreachable!(),
         }
         self.came += bytes.len();
@@ -165,14 +170,14 @@ fn put_part_due<W: Write>(
     put(outlet, frames.as_slice())
 }
 
-/// Writes the rest of the part's frames.
+/// Writes the rest of the part's frames: none if it is complete.
 fn put_part_rest<W: Write>(
     player: &mut PartPlayer<'_>,
     frames: &mut Vec<u8>,
     outlet: &mut Outlet<W>,
 ) -> Result<(), StreamFault>
     requires player { IsPartPlayer player.old }
-    requires all { part_fed player.old ≡ (part_rest player.old).size }
+    requires all { (part_fed player.old ≡ (part_rest player.old).size) ⊎ IsPartComplete player.old }
     requires ready { outlet_failures outlet.old < 2 ^ 64 - 1 }
     ensures ok { OnOk result (PutsPartRest player.old (W.contents (outlet_writer outlet.old))
         (W.contents (outlet_writer outlet.new))) }
@@ -181,6 +186,9 @@ fn put_part_rest<W: Write>(
     ensures fault { IfErr result IsWritingFault }
     ensures failures { outlet_failures outlet.new ≡ outlet_failures outlet.old + failed_writes result }
 {
+    if player.is_complete() {
+        return Ok(());
+    }
     frames.clear();
     player.finish(frames)?;
     put(outlet, frames.as_slice())

@@ -34,10 +34,10 @@ struct Place {
 }
 
 impl<'a> PartPlayer<'a> {
-    ghost use Rattle.std.specs.Prelude.{◌≡◌, ◌+◌, ◌%◌, ◌≤◌, [], IfOk, OnOk, length};
+    ghost use Rattle.std.specs.Prelude.{◌≡◌, ◌+◌, ◌%◌, ◌<◌, ◌≤◌, [], IfOk, IsFalse, IsTrue, OnOk, length};
     ghost use Rattle.dsd_bits.specs.Sounds.{IsSound};
     ghost use Rattle.player_core.specs.Laws.{total_frames};
-    ghost use Rattle.player_core.specs.PartView.{FeedsPart, FinishesPart, IsPartFed, IsPartOf, IsPartPlayer, IsSamePart, part_fed, part_rest, part_start};
+    ghost use Rattle.player_core.specs.PartView.{FeedsPart, FinishesPart, IsPartComplete, IsPartFed, IsPartOf, IsPartPlayer, IsSamePart, part_fed, part_rest, part_start};
 
     /// The player of frames `start` to `stop - 1` of a sound, before the first byte that it is fed. The sound is as for
     /// [`Player::new`]. It is refused only for want of memory.
@@ -74,6 +74,15 @@ impl<'a> PartPlayer<'a> {
         ensures { result ≡ part_start self.now }
     {
         self.start
+    }
+
+    /// Whether the bytes of all frames of the part were given, so that it needs no more of the sound.
+    pub(crate) fn is_complete(&self) -> bool
+        requires ready { IsPartPlayer self.now }
+        ensures complete { IsTrue result → IsPartComplete self.now }
+        ensures incomplete { IsFalse result → self.now.given < self.now.stop }
+    {
+        self.given >= self.stop
     }
 
     /// Takes the next bytes of the sound, and appends the bytes of each frame of the part whose place lies among the

@@ -9,7 +9,7 @@ use wave_core::WaveSpec;
 
 /// What the WAVE file of `channels` channels of bits at a rate says: 1 to 6 channels, and the rate in hertz within the
 /// limits of a recording.
-pub fn wave_spec(taps: &Taps, channels: usize, rate: u32) -> WaveSpec
+pub(crate) fn wave_spec(taps: &Taps, channels: usize, rate: u32) -> WaveSpec
     requires channels { (1 ≤ channels) × (channels ≤ 6) }
     requires rate { (least_rate ≤ rate) × (rate ≤ greatest_rate) }
     ensures spec { result ≡ spec_of channels (rate / taps.now.factor) taps.now.width }

@@ -5,7 +5,7 @@ use Rattle.chunk_core.specs.declared.inlet.Inlet.{Inlet}
 use Rattle.dsd_bits.specs.declared.sound.Sound.{Sound}
 use Rattle.sound_core.specs.Causes.{HasFront, IsCause, IsCauseIn, IsNamed, IsRefusedBy, IsUnreadBy, IsUnsure}
 use Rattle.sound_core.specs.Faults.{IsReadingFault}
-use Rattle.sound_core.specs.Files.{GivesNone, IsRefused}
+use Rattle.sound_core.specs.Files.{GivesNone, IsHeaderFault, IsRefused}
 use Rattle.sound_core.specs.Naming.{IsExact, plain}
 use Rattle.sound_core.specs.Outlines.{IsOutlineFault}
 use Rattle.sound_core.specs.Readers.{IsReading}
@@ -33,6 +33,7 @@ module _ {R : Type 0} (P : Type 0) (left : R → Option (List ℕ)) (first : Inl
   prefix_stated (causes.Fault e) states = prefix_sure left first r.inlet.now r.ahead.now.items e reads states
   prefix_stated (causes.Unstated at) states = unsure (causes.Unstated at) states
   prefix_stated (causes.PastForm at) states = unsure (causes.PastForm at) states
+  prefix_stated (causes.Faulty s) states = unsure (causes.Faulty s) states
   prefix_stated causes.NoSound states = unsure causes.NoSound states
 
 -- whatever an unknown fault says
@@ -41,6 +42,7 @@ cause_on P Q left first r causes.Unknown on h = on h
 cause_on P Q left first r (causes.Fault e) on h = h
 cause_on P Q left first r (causes.Unstated at) on h = h
 cause_on P Q left first r (causes.PastForm at) on h = h
+cause_on P Q left first r (causes.Faulty s) on h = h
 cause_on P Q left first r causes.NoSound on h = h
 
 -- ---- no byte of a file that is refused for its front is of a sound
@@ -49,6 +51,7 @@ prefix_refused P left first r causes.Unknown prefix h = absurd prefix
 prefix_refused P left first r (causes.Fault e) prefix h = absurd prefix
 prefix_refused P left first r (causes.Unstated at) prefix h = after IsRefused _ _ _ h.reads.consumed h.refused
 prefix_refused P left first r (causes.PastForm at) prefix h = after IsRefused _ _ _ h.reads.consumed h.refused
+prefix_refused P left first r (causes.Faulty s) prefix h = after IsRefused _ _ _ h.reads.consumed h.refused
 prefix_refused P left first r causes.NoSound prefix h = after IsRefused _ _ _ h.reads.consumed h.refused
 
 gives_none : (left : Option (List ℕ)) (g n : ℕ) → IfSome left IsRefused → GivesNone left g n
@@ -99,3 +102,21 @@ module _ {R S : Type 0} (has : S → S → Sound → ℕ → List ℕ → Type 0
 pub exact_alone : (u : Unread) → (u ≡ answers.Stream FileRefused → (s : Sound) × (came : List ℕ) × (FileRefused ≡ Memory)) → IsExact u
 exact_alone (answers.Refused e) h = tt
 exact_alone (answers.Stream f) h = λ is. (let refuses = h (ap (λ (g : StreamFault). answers.Stream g) is) in let both : FileRefused ≡ Memory = refuses.2 in absurd cc)
+
+-- ---- why no sound is found before one, once the fault was told
+module _ {R : Type 0} (left : R → Option (List ℕ)) (first : Inlet R) (f : StreamFault) (a b : SoundReader R) (stops : IsHeaderFault (left (inlet_reader first)) f) (known : IsNamed ⊥ left first a f) where
+  header_stated : f ≡ FileRefused → (u : Unread) → IsRefusedBy a.cause u → IsHeaderFault (left (inlet_reader first)) (plain u)
+  header_stated is (answers.Refused e) how = subst (IsHeaderFault (left (inlet_reader first))) is stops
+  header_stated is (answers.Stream g) (inl reading) = by_reading (IsHeaderFault (left (inlet_reader first))) tt tt tt g reading.0
+  header_stated is (answers.Stream g) (inr unknown) = absurd (subst (IsCause ⊥ left first a) unknown.1 (known is))
+
+  pub header_unread : (u : Unread) → IsUnreadBy f a b u → IsHeaderFault (left (inlet_reader first)) (plain u)
+  header_unread u (inl same) = subst (λ v. IsHeaderFault (left (inlet_reader first)) (plain v)) (sym same.1) stops
+  header_unread u (inr refusal) = header_stated refusal.0 u refusal.1
+
+  -- none is missing
+  pub header_exact : (u : Unread) → IsUnreadBy f a b u → IsExact u
+  header_exact (answers.Refused e) how = tt
+  header_exact (answers.Stream g) (inl same) = λ is. (let e : g ≡ f = cc (same.1) in same.0 (sym e ∙ is))
+  header_exact (answers.Stream g) (inr (is, inl reading)) = λ e. absurd (subst IsReadingFault e reading.0)
+  header_exact (answers.Stream g) (inr (is, inr unknown)) = absurd (subst (IsCause ⊥ left first a) unknown.1 (known is))

@@ -15,3 +15,4 @@ pub mod FaultLaws
 pub mod HeldLaws
 pub mod SameLaws
 pub mod RelayLaws
+pub mod PassingLaws

@@ -18,9 +18,12 @@ use Rattle.dsdiff_core.specs.declared.fault.DsdiffFault.{DsdiffFault}
 use Rattle.dsdiff_core.specs.declared.fault.DsdiffFault.TheVariants as faults
 use Rattle.dsdiff_core.specs.Headers as dsdiff
 use Rattle.dsdiff_core.specs.Cuts.{GoesPastForm, last_size}
+use Rattle.dsdiff_core.specs.declared.faulty.FaultyStart.{FaultyStart}
+use Rattle.dsdiff_core.specs.Faulty.{IsFaulty}
 use Rattle.dsdiff_core.specs.Fields.{form_end}
 use Rattle.dsdiff_core.specs.Kinds.{FRM8}
 use Rattle.dsdiff_core.specs.Reading as dsdiff_reading
+use Rattle.dsdiff_core.proofs.FaultyPlaces.{faulty_fails}
 use Rattle.dsdiff_core.proofs.FileLaws.{parts_again, parts_from}
 use Rattle.dsdiff_core.proofs.HeaderLaws as form_headers
 use Rattle.dsdiff_core.specs.Located.{EndsAtHead}
@@ -101,6 +104,10 @@ past_refuses prefix at past is = form_refuses prefix (sym (take-take 4 (at + 12)
 
 pub lost_refuses : (prefix : List ℕ) → dsdiff.form_of prefix ≡ Ok tt → Refused ≡ dsdiff.sound_at prefix → (rest : List ℕ) → IsRefused (prefix ++ rest)
 lost_refuses prefix form is = form_refuses prefix (form_ok prefix form).0 is
+
+pub faulty_refuses : (file : List ℕ) (s : FaultyStart) → IsFaulty file s → IsRefused file
+faulty_refuses file s h r (inl form) = faulty_fails file s r h (parts_again file r (parts_from file r form))
+faulty_refuses file s h r (inr (order, is)) = apart (sym (form_ok file h.form).0 ∙ is.first)
 
 -- ---- by the DSF reading, of a prefix with which no DSDIFF file begins
 module _ (prefix : List ℕ) (no_form : (rest : List ℕ) → dsdiff_reading.recording_of (prefix ++ rest) ≡ Err faults.NotDsdiff) where

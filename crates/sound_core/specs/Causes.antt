@@ -3,6 +3,7 @@ use Rattle.std.specs.Prelude.{◌≡◌, ◌≢◌, ◌≤◌, ◌⊎◌, ℕ, �
 use Rattle.chunk_core.specs.Inlets.{inlet_given}
 use Rattle.chunk_core.specs.declared.inlet.Inlet.{Inlet}
 use Rattle.dsdiff_core.specs.Cuts.{GoesPastForm}
+use Rattle.dsdiff_core.specs.Faulty.{IsFaulty, next_place}
 use Rattle.dsdiff_core.specs.Headers.{form_of}
 use Rattle.dsdiff_core.specs.Located.{EndsAtHead}
 use Rattle.form_core.specs.Opening.{opened_of}
@@ -26,6 +27,7 @@ IsCauseIn prefix causes.Unknown = ⊥
 IsCauseIn prefix (causes.Fault e) = (rest : List ℕ) → opened_of (prefix ++ rest) ≡ Err e
 IsCauseIn prefix (causes.Unstated at) = (at + 12 ≤ length prefix) × EndsAtHead (take (at + 12) prefix)
 IsCauseIn prefix (causes.PastForm at) = (at + 12 ≤ length prefix) × GoesPastForm (take (at + 12) prefix)
+IsCauseIn prefix (causes.Faulty s) = (next_place s ≤ length prefix) × ((rest : List ℕ) → IsFaulty (prefix ++ rest) s)
 IsCauseIn prefix causes.NoSound = form_of prefix ≡ Ok tt
 
 -- the fault isn't known yet, but the prefix of the file is buffered, with which no file holds a recording
@@ -34,6 +36,7 @@ HasFront causes.Unknown = ⊥
 HasFront (causes.Fault e) = ⊥
 HasFront (causes.Unstated at) = ⊤
 HasFront (causes.PastForm at) = ⊤
+HasFront (causes.Faulty s) = ⊤
 HasFront causes.NoSound = ⊤
 
 -- all that was read is buffered, and this is so of each file that begins with it: none holds a recording
@@ -50,6 +53,7 @@ IsCause P left first r causes.Unknown = P
 IsCause P left first r (causes.Fault e) = NamesFault left first r.inlet.now e
 IsCause P left first r (causes.Unstated at) = IsUnsure left first r (causes.Unstated at)
 IsCause P left first r (causes.PastForm at) = IsUnsure left first r (causes.PastForm at)
+IsCause P left first r (causes.Faulty s) = IsUnsure left first r (causes.Faulty s)
 IsCause P left first r causes.NoSound = IsUnsure left first r causes.NoSound
 
 -- where a file is refused, its cause is so

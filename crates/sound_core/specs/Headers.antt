@@ -6,7 +6,7 @@ use Rattle.sound_core.specs.declared.cause.Cause.{Cause}
 use Rattle.sound_core.specs.declared.header.HeaderAnswer.{HeaderAnswer}
 use Rattle.sound_core.specs.declared.header.HeaderAnswer.TheVariants as answers
 
--- what is told, without faults and places
+-- the answer without its fault or place
 abbrev pub sound_stated : HeaderAnswer → SoundAt
 sound_stated (answers.Found s) = sounds.Found s
 sound_stated (answers.More at) = sounds.More

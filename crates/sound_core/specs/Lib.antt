@@ -12,3 +12,4 @@ pub mod Keepers
 pub mod Keeping
 pub mod Laws
 pub mod Relays
+pub mod Passing

@@ -46,7 +46,7 @@ abbrev pub IsExact : Unread → Type 0
 IsExact (answers.Refused e) = ⊤
 IsExact (answers.Stream f) = f ≢ FileRefused
 
--- the fault is want of memory
+-- whether the fault is out of memory
 abbrev pub is_memory : DsdiffFault → Bool
 is_memory dsdiffs.Memory = true
 is_memory _ = false

@@ -58,8 +58,7 @@ pub record MayBegin {W : Type 0} (k : RelayingSink W) : Type 0 where
   pub outlet : outlet_failures k.outlet.now < 2 ^ 64 - 1
   pub whole : k.target.interleaving ≡ Bytes → k.sound.count % 8 ≡ 0
 
--- after these bytes of its sound, those of so many bits of each channel, the head was written, and they, interleaved
--- otherwise
+-- the sink wrote its head and then these bytes, the first `done` bits of each channel, re-interleaved; no write failed
 pub record IsRelaying {W : Type 0} (held : W → Option (List ℕ)) (first now : RelayingSink W) (s : Sound) (done : ℕ) (bytes : List ℕ) : Type 0 where
   pub same : now.outlet.ghost_name ≡ first.outlet.ghost_name
   pub target : now.target ≡ first.target

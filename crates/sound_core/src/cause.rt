@@ -1,5 +1,6 @@
 //! What is known of the first fault of a file that holds no recording.
 
+use dsdiff_core::FaultyStart;
 use form_core::ReadFault;
 
 /// What is known of the first fault of a file that holds no recording.
@@ -15,6 +16,8 @@ pub(crate) enum Cause {
     /// The head of a chunk is at this place of the buffered bytes, and its data go past the DSDIFF form. All that was
     /// read is buffered.
     PastForm(usize),
+    /// The first chunks of the DSDIFF form tell that its file holds no recording. All that was read is buffered.
+    Faulty(FaultyStart),
     /// None of the chunks of the DSDIFF form is a sound. All that was read is buffered.
     NoSound,
 }

@@ -17,11 +17,15 @@ ghost use Rattle.sound_core.specs.Reads.{Reads};
 use crate::cause::Cause;
 use crate::fault::StreamFault;
 use crate::reader::SoundReader;
+use chunk_core::{Order, head};
 use dsd_bits::Sound;
 use dsdiff_core::DsdiffFault;
 use form_core::{ReadFault, read_any};
 use std::alloc::{AllocError, Global};
 use std::io::Read;
+
+// How many bytes of data a chunk has that takes more than one read.
+const LONG: u64 = 65_536;
 
 /// What the first bytes of a file say about its sound, in either format.
 #[derive(Clone, Copy)]
@@ -65,7 +69,7 @@ pub(crate) fn read_header<R: Read>(
             reader.cause = Cause::Fault(fault_of(alloc, reader.ahead.as_slice())?);
             return Err(StreamFault::FileRefused);
         }
-        match stated_by(alloc, reader.ahead.as_slice(), walked)? {
+        match stated_by(alloc, reader.ahead.as_slice(), walked, count)? {
             HeaderAnswer::Found(sound) => return Ok(sound),
             HeaderAnswer::More(at) => walked = at,
             HeaderAnswer::Refused(cause) => {
@@ -88,8 +92,13 @@ pub(crate) fn fault_of(alloc: Global, file: &[u8]) -> Result<ReadFault, AllocErr
     }
 }
 
-// What the prefix of a file states its sound. The chunks before a place were walked.
-fn stated_by(alloc: Global, prefix: &[u8], walked: usize) -> Result<HeaderAnswer, AllocError>
+// What the prefix of a file states its sound. The chunks before a place were walked, and so many bytes are new.
+fn stated_by(
+    alloc: Global,
+    prefix: &[u8],
+    walked: usize,
+    count: usize,
+) -> Result<HeaderAnswer, AllocError>
     requires walked { IsWalked prefix.now walked }
     ensures found { IfOk result (λ x. IfFound (sound_stated x) (LeadsToSound prefix.now)) }
     ensures refused { IfOk result (λ x. IfRefused (sound_stated x) ((rest : List ℕ) → IsRefused (prefix.now ++ rest))) }
@@ -100,11 +109,42 @@ fn stated_by(alloc: Global, prefix: &[u8], walked: usize) -> Result<HeaderAnswer
 {
     match dsdiff_core::locate(alloc, prefix, walked)? {
         dsdiff_core::Located::Found(sound) => Ok(HeaderAnswer::Found(sound)),
-        dsdiff_core::Located::More(at) => Ok(HeaderAnswer::More(at)),
+        dsdiff_core::Located::More(at) => stated_later(alloc, prefix, at, count),
         dsdiff_core::Located::Refused(fault) => Ok(stated_otherwise(prefix, walked, fault)),
         dsdiff_core::Located::Unstated(at) => Ok(HeaderAnswer::Refused(Cause::Unstated(at))),
         dsdiff_core::Located::PastForm(at) => Ok(HeaderAnswer::Refused(Cause::PastForm(at))),
         dsdiff_core::Located::NoSound => Ok(HeaderAnswer::Refused(Cause::NoSound)),
+    }
+}
+
+// The same where the chunk at a place isn't whole. If it is long, and its head has just come, the chunks before it may
+// tell already that no file that begins so holds a recording. Then its data need not be held.
+fn stated_later(
+    alloc: Global,
+    prefix: &[u8],
+    at: usize,
+    count: usize,
+) -> Result<HeaderAnswer, AllocError>
+    requires walked { IsWalked prefix.now at }
+    requires refused { IsRefused prefix.now }
+    requires before { IsBeforeSound prefix.now }
+    ensures found { IfOk result (λ x. IfFound (sound_stated x) (LeadsToSound prefix.now)) }
+    ensures refused { IfOk result (λ x. IfRefused (sound_stated x) ((rest : List ℕ) → IsRefused (prefix.now ++ rest))) }
+    ensures more { IfOk result (λ x. IfMore (sound_stated x) (IsRefused prefix.now)) }
+    ensures before { IfOk result (λ x. IfMore (sound_stated x) (IsBeforeSound prefix.now)) }
+    ensures walked { IfOk result (λ x. IfWanted x (IsWalked prefix.now)) }
+    ensures sure { IfOk result (λ x. IfSure x (IsCauseIn prefix.now)) }
+{
+    let Some(chunk) = head(Order::Big, prefix, at) else {
+        return Ok(HeaderAnswer::More(at));
+    };
+    let new = prefix.len() - at < count.saturating_add(12);
+    if chunk.size <= LONG || !new {
+        return Ok(HeaderAnswer::More(at));
+    }
+    match dsdiff_core::faulty_start(alloc, prefix, at)? {
+        Some(start) => Ok(HeaderAnswer::Refused(Cause::Faulty(start))),
+        None => Ok(HeaderAnswer::More(at)),
     }
 }
 

@@ -5,7 +5,8 @@
 //! file can be read again and written in another form at the same time. Of the sound it holds one block of 65,536
 //! bytes. The bytes before the sound are held whole, and so are those that follow it in a DSDIFF form, or the tag of a
 //! DSF file. [`read_into`] does the same, and a [`SoundSink`] takes the sound (`sink.rt`), a [`SoundPart`] of at most
-//! 65,536 bytes at a time (`part.rt`). There is one loop over a sound (`taking.rt`), whatever is made of it.
+//! 65,536 bytes at a time (`part.rt`). [`read_named`] also names the first fault of a file that holds no recording, as
+//! [`read_outline`] does. There is one loop over a sound (`taking.rt`), whatever is made of it.
 //! [`read_stretches`] keeps the bits of each channel in given ranges, with a sink (`keeper.rt`). The sink of
 //! [`read_outline`] keeps nothing (`nothing.rt`).
 //!
@@ -15,7 +16,7 @@
 //! another one now is refused; which bytes its sound has isn't compared with anything.
 //!
 //! [`read_prefix`] reads a file only until it describes its sound, and returns these first bytes (`prefix.rt`). What
-//! was read so is put before what is left, to read the file from its start.
+//! was read so is put before what is left, to read the file from its start. It names a first fault, too.
 //!
 //! A reader has the inlet, a block to read into, the limit of its reads and the buffered bytes (`reader.rt`). It is
 //! read up to the sound (`header.rt`), and then after it (`outline.rt`). A sink that writes uses [`put`].
@@ -65,6 +66,7 @@ mod naming;
 mod nothing;
 mod outline;
 mod part;
+mod passing;
 mod prefix;
 mod reader;
 mod relaying;
@@ -83,5 +85,5 @@ pub use prefix::{Front, read_prefix};
 pub use reader::can_fail;
 pub use relaying::{NewFile, relay};
 pub use sink::SoundSink;
-pub use taking::read_into;
+pub use taking::{read_into, read_named};
 pub use writing::put;

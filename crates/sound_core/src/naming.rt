@@ -18,6 +18,7 @@ ghost use Rattle.sound_core.specs.declared.reader.SoundReader.{SoundReader as Re
 use crate::cause::Cause;
 use crate::fault::{StreamFault, Unread};
 use crate::header::fault_of;
+use crate::passing::name_faulty;
 use crate::reader::SoundReader;
 use chunk_core::{Order, u64_at};
 use dsdiff_core::DsdiffFault;
@@ -62,6 +63,7 @@ fn refusal_of<R: Read>(alloc: Global, reader: &mut SoundReader<'_, R>) -> Unread
         Cause::Fault(fault) => Unread::Refused(fault),
         Cause::Unstated(at) => unread_of(name_untold(alloc, reader, at)),
         Cause::PastForm(at) => unread_of(name_past_form(alloc, reader, at)),
+        Cause::Faulty(start) => unread_of(name_faulty(reader, start)),
         Cause::NoSound => unread_of(name_soundless(alloc, reader)),
         Cause::Unknown => Unread::Stream(StreamFault::FileRefused),
     }

@@ -5,12 +5,12 @@ ghost use Rattle.chunk_core.specs.Inlets.{inlet_failures, inlet_given, inlet_rea
 ghost use Rattle.form_core.specs.Steps.{map_err};
 ghost use Rattle.sound_core.specs.Faults.{failed_reads};
 ghost use Rattle.sound_core.specs.Files.{IsHeaderFault, LeadsToSound};
-ghost use Rattle.sound_core.specs.Naming.{IfRefusedAs, NamesFault, plain};
+ghost use Rattle.sound_core.specs.Naming.{IfRefusedAs, IsExact, NamesFault, plain};
 ghost use Rattle.sound_core.specs.Reads.{Reads};
 
-use crate::cause::Cause;
 use crate::fault::{StreamFault, Unread};
 use crate::header::read_header;
+use crate::naming::unread;
 use crate::reader::{SoundReader, can_count, new_block};
 use chunk_core::Inlet;
 use dsd_bits::Sound;
@@ -27,17 +27,19 @@ pub struct Front {
 }
 
 /// Reads a file until its first bytes describe its sound, and returns both. The inlet has the rest left, so a file that
-/// can be read only once can be looked at before it is read.
+/// can be read only once can be looked at before it is read. Of a file that is refused as much more is read as tells
+/// its first fault, at most to its end or that of its DSDIFF form. Nothing of its sound is held.
 ///
 /// Refusals: `Refused` with the fault that [`form_core::read_any`] answers, where no file that begins so holds a
-/// recording and the fault is sure; `Stream` with `FileRefused` where it isn't, with `ReadFailed`, `TurnLimit` after
-/// `2^40` reads, or at once if the inlet had counted `2^63` reads or bytes, or as many failures as it can, or `Memory`.
+/// recording; `Stream` with `ReadFailed`, `TurnLimit` after `2^40` reads, or at once if the inlet had counted `2^63`
+/// reads or bytes, or as many failures as it can, or `Memory`.
 pub fn read_prefix<R: Read>(alloc: Global, inlet: &mut Inlet<R>) -> Result<Front, Unread>
     // The bytes were read, and describe the sound.
     ensures read { IfOk result (λ f. Reads R.remaining inlet.old inlet.new f.bytes.items) }
     ensures states { IfOk result (λ f. LeadsToSound f.bytes.items f.sound) }
     // The first fault of what was read, and of the reader's file.
     ensures named { IfErr result (λ u. IfRefusedAs u (NamesFault R.remaining inlet.old inlet.new)) }
+    ensures exact { IfErr result IsExact }
     ensures fault { IfErr result (λ u. IsHeaderFault (R.remaining (inlet_reader inlet.old)) (plain u)) }
     ensures read_failed { inlet_failures inlet.new ≡ inlet_failures inlet.old + failed_reads (map_err plain result) }
     // Whatever is returned, there were at most 2^40 reads.
@@ -56,17 +58,6 @@ pub fn read_prefix<R: Read>(alloc: Global, inlet: &mut Inlet<R>) -> Result<Front
             sound,
             bytes: reader.take_ahead(alloc),
         }),
-        Err(fault) => Err(named(fault, reader.cause)),
-    }
-}
-
-// Why no sound was found, as far as these bytes tell it.
-fn named(fault: StreamFault, cause: Cause) -> Unread
-    ensures plain { plain result ≡ fault }
-    ensures named { IfRefusedAs result (λ e. (fault ≡ StreamFault.FileRefused) × (cause ≡ Cause.Fault e)) }
-{
-    match (fault, cause) {
-        (StreamFault::FileRefused, Cause::Fault(cause)) => Unread::Refused(cause),
-        _ => Unread::Stream(fault),
+        Err(fault) => Err(unread(alloc, fault, &mut reader)),
     }
 }

@@ -67,8 +67,14 @@ pub fn read_into<R: Read, S: SoundSink>(
     take_file(alloc, sink, &mut reader)
 }
 
-/// The same, and the first fault of a file that holds no recording. What follows is read as far as that takes.
-pub(crate) fn read_named<R: Read, S: SoundSink>(
+/// Reads a file as [`read_into`] does, and names the first fault of one that holds no recording. Of such a file as much
+/// more is read as tells it, at most to its end or that of its DSDIFF form.
+///
+/// At entry the sink must be able to begin.
+///
+/// Refusals: `Refused` with the fault that [`form_core::read_any`] answers; `Stream` with those of reading, as
+/// [`read_into`] returns them, with those of the sink, and with `FileRefused` only if that is the sink's.
+pub fn read_named<R: Read, S: SoundSink>(
     alloc: Global,
     inlet: &mut Inlet<R>,
     sink: &mut S,
@@ -78,6 +84,7 @@ pub(crate) fn read_named<R: Read, S: SoundSink>(
         (S.has sink.old sink.new) (R.remaining (inlet_reader inlet.old)) (around_of o)) }
     ensures any_reader { IfOk result (λ o. TakesGiven
         (S.has sink.old sink.new) R.remaining inlet.old inlet.new (around_of o)) }
+    // The first fault of what was read, and of the reader's file.
     ensures named { IfErr result (λ u. IfRefusedAs u (NamesFault R.remaining inlet.old inlet.new)) }
     // None is missing, but where the sink refused the file.
     ensures exact { IfErr result (λ u. u ≡ Unread.Stream StreamFault.FileRefused

@@ -27,7 +27,7 @@ use Rattle.transfer_commands.specs.declared.fault.CommandFault.{CommandFault}
 use Rattle.transfer_commands.specs.declared.fault.CommandFault.TheVariants as faults
 use Rattle.transfer_commands.specs.Converting.{ConvertComesTo, ConvertsFile, IsUnconverted, KeepsOld, LeavesConvertedPrefix}
 use Rattle.transfer_commands.specs.Faults.{of_file}
-use Rattle.transfer_commands.specs.Outlining.{IsOutlined, IsUnoutlined, IsUnread, OutlinesRead}
+use Rattle.transfer_commands.specs.Outlining.{IsOutlined, IsUnoutlined, OutlinesRead}
 use Rattle.sound_core.proofs.HeldLaws.{channels_count}
 use Rattle.transfer_commands.proofs.ReadLaws.{last_of, unknown_view}
 use Rattle.transfer_core.proofs.FormLaws.{holds_as}
@@ -181,12 +181,6 @@ module _ (form : Form) (input output : List ℕ) (old new : View) (others : Keep
         by : left ≡ Some found.file → empty ≡ Some [] → (bytes : List ℕ) (dropped : ℕ) → Converts found.file form bytes dropped → IsGivenUp output old new written → (new.file output ≡ old.file output) ⊎ HoldsPrefix output old new bytes
         by left_is none bytes dropped converts (inl same) = inl same
         by left_is none bytes dropped converts (inr (stands, had_none)) = inr (put_prefix bytes written stands (own left_is none found.is_outline.around bytes dropped converts) had_none)
-
--- ---- a file that was not read
-pub unconverted : (form : Form) (input output : List ℕ) (old new : View) (fault : CommandFault) → new ≡ old → IsUnread fault → ConvertComesTo form input output old new (Err fault)
-unconverted form input output old new (faults.Call Memory) same is = inl same
-unconverted form input output old new faults.ReadFailed same is = inl same
-unconverted form input output old new fault same is = absurd is
 
 -- ---- a file that holds no recording
 first_fault : (file : List ℕ) (form : Form) (cause : ReadFault) (fault : calls.Fault) → Opens (Err cause) (opened_of file) → fault ≡ fault_of_file cause → FailsUnless Memory fault (converted_of file form)

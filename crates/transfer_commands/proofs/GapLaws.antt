@@ -41,3 +41,19 @@ up_to_all n part channels a g r some small is six group all c p less earlier = e
       inl (subst (λ k. (p / k * channels + c) * k + p % k < r) is (omega (arith, all below, whole, up_to_place n channels p a some earlier c less))))
   | inr most ↦ inr most
 ]
+
+-- ---- bits that a frame reads
+-- none lies far before the first frame
+pub not_before : (start factor j i tap delay : ℕ) → start ≤ j → tap ≤ 4096 → i + tap ≡ j * factor + delay → start * factor ≤ i + 4096
+not_before start factor j i tap delay ordered few at = let most : start * factor ≤ j * factor = mul-le-mul_right factor ordered in omega (arith, most, few, at)
+
+-- none lies far behind the last
+pub not_after : (stop factor j i tap delay : ℕ) → j < stop → delay ≤ 4096 → i + tap ≡ j * factor + delay → i ≤ stop * factor + 4096
+not_after stop factor j i tap delay below few at = let most : j * factor ≤ stop * factor = mul-le-mul_right factor (omega (arith, below)) in omega (arith, most, few, at)
+
+-- it lies no later than a bit after them, or than the last number
+pub is_before : (i last to : ℕ) → i ≤ last → i ≤ 2 ^ 36 → (last ≤ to) ⊎ (2 ^ 64 - 1 ≤ to) → i / 8 ≤ to / 8
+is_before i last to few low either = elim either [
+  | inl more ↦ omega (arith, few, more)
+  | inr most ↦ omega (arith, low, most)
+]

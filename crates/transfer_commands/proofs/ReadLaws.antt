@@ -2,9 +2,6 @@
 use Rattle.std.proofs.Common.{◌≡◌, ℕ, Bool, List, IsTrue, Option, Some, false, true, refl, subst, sym, ◌∙◌}
 use Rattle.std.specs.Prelude.{IfSome}
 use Rattle.folder_core.specs.Files.{OpensAs, IsGiven, IsReadOf, View}
-use Rattle.folder_core.specs.ShortFiles.{IsShort, IsShortOf}
-use Rattle.std.specs.Prelude.{Vec}
-use Rattle.std.specs.declared.alloc.Global.{Global}
 
 -- of a folder whose bytes are unknown nothing is asked
 pub unknown_view : {A : Type 0} (reported : Bool) → reported ≡ false → IsTrue reported → A
@@ -26,6 +23,8 @@ last_of view name left given file read = by view.is_known refl
     by true is = let h = given is in (h.0, (λ reported. h.1), (λ reported. h.2))
     by false is = (file, read, unknown_view view.is_known is)
 
--- the bytes of a short file were read of its name
-pub short_read : (most : ℕ) (view : View) (name : List ℕ) (bytes : Vec ℕ Global) → IsShortOf most view name (Some bytes) → IsReadOf view name bytes.items
-short_read most view name bytes short = λ reported. let h = short reported in subst (OpensAs view name) h.2.0 h.1
+-- what a reader gave to its end was read of the name that it was opened under
+pub held_read : (view : View) (name : List ℕ) (left : Option (List ℕ)) (bytes : List ℕ) → IsGiven view name left → IfSome left (λ all. bytes ≡ all) → IsReadOf view name bytes
+held_read view name left bytes given is = λ reported.
+    let g = given reported in
+    subst (OpensAs view name) (sym (subst (λ o. IfSome o (λ all. bytes ≡ all)) g.2 is)) g.1

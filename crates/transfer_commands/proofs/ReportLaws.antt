@@ -1,9 +1,11 @@
 -- What is told of a file by its outline.
-use Rattle.std.proofs.Common.{◌≡◌, ℕ, List, [], Result, Err, Option, length, sym, ap, ◌∙◌, subst}
+use Rattle.std.proofs.Common.{◌≡◌, ℕ, List, [], Result, Err, Option, inl, inr, length, refl, sym, ap, ◌∙◌, subst}
 use Rattle.std.proofs.lemmas.List.{length-replicate}
 use Rattle.dsd_bits.specs.Contents.{described}
 use Rattle.dsd_bits.specs.Sounds.{sound_channels}
 use Rattle.std.specs.Prelude.{IfSome}
+use Rattle.chunk_core.specs.Inlets.{inlet_reader}
+use Rattle.chunk_core.specs.declared.inlet.Inlet.{Inlet}
 use Rattle.form_core.specs.Forms.{form_in}
 use Rattle.form_core.specs.Opening.{Opens, opened_of}
 use Rattle.form_core.specs.declared.fault.ReadFault.{ReadFault}
@@ -11,14 +13,19 @@ use Rattle.form_core.specs.declared.fault.ReadFault.TheVariants as reads
 use Rattle.form_core.specs.declared.opening.Opened.{Opened}
 use Rattle.transfer_core.specs.Faults.{fault_of_file}
 use Rattle.transfer_core.specs.declared.fault.Fault as calls
+use Rattle.transfer_core.specs.declared.fault.Fault.TheVariants.{Memory}
 use Rattle.transfer_commands.proofs.ReadLaws.{known_or_some}
+use Rattle.sound_core.specs.Naming.{IfRefusedAs, NamesFault}
 use Rattle.sound_core.specs.Outlines.{around_of, with_sound}
+use Rattle.sound_core.specs.declared.fault.Unread.{Unread}
+use Rattle.sound_core.specs.declared.fault.Unread.TheVariants as answers
+use Rattle.sound_core.proofs.NamingLaws.{file_named}
 use Rattle.sound_core.specs.declared.outline.Outline.{Outline}
 use Rattle.sound_core.proofs.HeldLaws.{channels_count, channels_number}
 use Rattle.folder_core.specs.Files.{IsGiven, IsReadOf, View}
 use Rattle.transfer_commands.specs.declared.reporting.Reported.{Reported}
 use Rattle.transfer_core.proofs.FormLaws.{holds_as}
-use Rattle.transfer_commands.specs.Outlining.{IsOutlined, IsUnoutlined, OutlinesRead}
+use Rattle.transfer_commands.specs.Outlining.{IsFirstFault, IsOutlined, IsUnoutlined, IsUnoutlinedLeft, IsUnread, OutlinesRead}
 use Rattle.transfer_commands.specs.Reporting.{IsReportOf, IsUnreported, ReportComesTo, ReportsFile}
 use Rattle.transfer_commands.specs.declared.fault.CommandFault.{CommandFault}
 use Rattle.transfer_commands.specs.declared.fault.CommandFault.TheVariants.{Call, ReadFailed, WriteFailed}
@@ -66,3 +73,23 @@ pub unoutlined_reported : (file_name : List ℕ) (old new : View) (f : CommandFa
 unoutlined_reported file_name old new (Call fault) same is = (same, is)
 unoutlined_reported file_name old new ReadFailed same is = same
 unoutlined_reported file_name old new WriteFailed same is = absurd is
+
+-- ---- the first fault of a reader that was opened under a name
+pub unoutlined_left : (view : View) (name : List ℕ) (left : Option (List ℕ)) → IsGiven view name left → (f : CommandFault) → IsUnoutlinedLeft left f → IsUnoutlined name view f
+unoutlined_left view name left given (Call fault) (inl none) = inl none
+unoutlined_left view name left given (Call fault) (inr h) = inr (unreported_named view name left h.cause fault given h.first.0 h.first.1.0 h.first.1.1 h.named)
+unoutlined_left view name left given ReadFailed h = tt
+unoutlined_left view name left given WriteFailed h = absurd h
+
+first_named : {R : Type 0} (left : R → Option (List ℕ)) (i j : Inlet R) (u : Unread) → IfRefusedAs u (NamesFault left i j) → IfRefusedAs u (IsFirstFault (left (inlet_reader i)))
+first_named left i j (answers.Refused e) named = (file_named left i j e named, (named.read, named.sure.now))
+first_named left i j (answers.Stream f) named = tt
+
+pub first_of_reader : {R : Type 0} (left : R → Option (List ℕ)) (reader : R) (i j : Inlet R) (u : Unread) → inlet_reader i ≡ reader → IfRefusedAs u (NamesFault left i j) → IfRefusedAs u (IsFirstFault (left reader))
+first_of_reader left reader i j u is named = subst (λ r. IfRefusedAs u (IsFirstFault (left r))) is (first_named left i j u named)
+
+-- a file that was not read
+pub unread_unoutlined : (name : List ℕ) (view : View) (f : CommandFault) → IsUnread f → IsUnoutlined name view f
+unread_unoutlined name view (Call Memory) is = inl refl
+unread_unoutlined name view ReadFailed is = tt
+unread_unoutlined name view f is = absurd is

@@ -2,6 +2,7 @@ pub mod Converting
 pub mod Digesting
 pub mod Excerpts
 pub mod Faults
+pub mod Gaps
 pub mod Outlining
 pub mod Opening
 pub mod PartPlaying

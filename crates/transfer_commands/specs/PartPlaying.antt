@@ -48,8 +48,8 @@ FindsSpan project file_name old span start stop = HasSpan project file_name old 
 abbrev pub PlaysSome : List ℕ → ℕ → ℕ → ℕ → Type 0
 PlaysSome project start stop n = (read : List ℕ) × (bytes : List ℕ) × PlaysPart project start stop read bytes × (n ≡ length bytes)
 
--- the output holds so many bytes now, which are what bytes that were read of the project play of the span's part of
--- those that were read of a recording's file; no other file changed
+-- the output holds `count` bytes now: the WAVE file of the span's part of the recording that was read, as the project
+-- that was read plays it; no other file changed
 pub record PlaysPartFiles (project_name file_name output_name : List ℕ) (span : Span) (old new : View) (count : ℕ) : Type 0 where
   pub project : List ℕ
   pub file : List ℕ

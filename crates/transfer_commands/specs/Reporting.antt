@@ -31,11 +31,6 @@ pub record IsUnopened (file : List ℕ) (fault : calls.Fault) : Type 0 where
   pub reading : Opens (Err cause) (opened_of file)
   pub named : fault ≡ fault_of_file cause
 
--- the same for a call's refusal
-abbrev pub IsUnreportedOf : List ℕ → CommandFault → Type 0
-IsUnreportedOf file (Call fault) = IsUnopened file fault
-IsUnreportedOf file _ = ⊥
-
 -- bytes that were read of the file can't be read as a recording, for this fault
 pub record IsUnreported (file_name : List ℕ) (old : View) (fault : calls.Fault) : Type 0 where
   pub file : List ℕ

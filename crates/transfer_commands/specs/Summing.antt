@@ -1,13 +1,12 @@
 -- What identifies the sound of a file of a folder.
-use Rattle.std.specs.Prelude.{◌≡◌, ℕ, Bool, List, IsTrue, map, Option, Some, None, ◌⊎◌, Result, Ok, Err, ⊤}
+use Rattle.std.specs.Prelude.{◌≡◌, ℕ, Bool, List, map, ◌⊎◌, Result, Ok, Err}
 use Rattle.sha2.specs.Sha256.{sha256}
 use Rattle.dsd_bits.specs.Channels.{count_of}
 use Rattle.dsd_bits.specs.Contents.{Content}
 use Rattle.dsd_bits.specs.Packing.{packed}
 use Rattle.form_core.specs.Forms.{HoldsSome}
-use Rattle.sound_core.specs.Files.{IsRefused}
 use Rattle.transfer_core.specs.declared.fault.Fault.TheVariants.{Memory}
-use Rattle.folder_core.specs.Files.{OpensAs, IsReadOf, View}
+use Rattle.folder_core.specs.Files.{IsReadOf, View}
 use Rattle.sound_core.specs.declared.outline.Outline.{Outline}
 use Rattle.transfer_commands.specs.Digesting.{HoldEach}
 use Rattle.transfer_commands.specs.Reporting.{IsUnreported}
@@ -33,26 +32,11 @@ pub record AreSumsIn (file : List ℕ) (sums : Sums) : Type 0 where
   pub holds : HoldsSome file recording
   pub are_sums : AreSumsOf recording sums
 
--- these are the sums of a file that was read in one pass, or there are none, and it holds no recording
-abbrev pub IsSummedIn : List ℕ → Option Sums → Type 0
-IsSummedIn file (Some sums) = AreSumsIn file sums
-IsSummedIn file None = IsRefused file
-
--- some bytes have these sums
-abbrev pub IsSummedInSome : Option Sums → Type 0
-IsSummedInSome (Some sums) = (file : List ℕ) × AreSumsIn file sums
-IsSummedInSome None = ⊤
-
 -- bytes that were read of a name have these sums
 pub record SumsRead (file_name : List ℕ) (old : View) (sums : Sums) : Type 0 where
   pub file : List ℕ
   pub file_read : IsReadOf old file_name file
   pub are_sums : AreSumsIn file sums
-
--- the same, or there are none: where the folder has known bytes, an opening of the name gives no recording
-abbrev pub SumsStream : List ℕ → View → Option Sums → Type 0
-SumsStream file_name old (Some sums) = SumsRead file_name old sums
-SumsStream file_name old None = IsTrue old.is_known → (file : List ℕ) × OpensAs old file_name file × IsRefused file
 
 -- the folder before and after a file was summed came to this
 abbrev pub SumComesTo : List ℕ → View → View → Result Sums CommandFault → Type 0

@@ -10,9 +10,10 @@ ghost use Rattle.transfer_commands.specs.Converting.{ConvertComesTo};
 ghost use Rattle.transfer_commands.specs.Outlining.{OutlinesRead};
 
 use crate::fault::CommandFault;
+use crate::holding::hold_file;
 use crate::outlining::outline_file;
 use chunk_core::{Inlet, Outlet};
-use folder_core::{Folder, hand_back, read_short, write_file};
+use folder_core::{Folder, hand_back, write_file};
 use form_core::{Form, held_is_opened, written_in_parts};
 use sound_core::{Outline, StreamFault};
 use std::alloc::Global;
@@ -21,10 +22,12 @@ use transfer_core::{Fault, convert, convert_stream};
 
 /// Converts a file to the other form. Returns how many parts of its recording have no place in it.
 ///
-/// A file of fewer than `most` bytes is read whole and converted in memory, and only then the other file is created.
-/// Any other file is opened again and read in one pass, which doesn't hold its sound, and tells its fault. Then it is
-/// opened once more, the other file is created, and the one is converted to the other block by block. After a fault of
-/// that the other file may hold a prefix of what was due, but a folder that keeps old files keeps an old one.
+/// A file that can be opened again is read in one pass, which doesn't hold its sound. Then it is opened once more, the
+/// other file is created, and the one is converted to the other block by block. After a fault of that the other file
+/// may hold a prefix of what was due, but a folder that keeps old files keeps an old one.
+///
+/// Any other file, as a pipe, is opened once. If what is before its sound doesn't refuse it, it is held whole and
+/// converted in memory, and only then the other file is created.
 ///
 /// If a file was changed around its sound between its readings, the answer is `ReadFailed`. If its sound was changed,
 /// the last reading counts.
@@ -34,15 +37,15 @@ pub fn convert_file<F: Folder>(
     form: Form,
     input: &str,
     output: &str,
-    most: usize,
 ) -> Result<u64, CommandFault>
     ensures { ConvertComesTo form input.now output.now (F.view folder.old) (F.view folder.new) result }
 {
-    if let Some(file) = read_short(alloc, folder, input, most)? {
-        return convert_whole(alloc, folder, form, &file, output);
+    if folder.reopens(input) {
+        let outline = outline_file(alloc, folder, input)?;
+        return convert_outlined(alloc, folder, form, &outline, input, output);
     }
-    let outline = outline_file(alloc, folder, input)?;
-    convert_outlined(alloc, folder, form, &outline, input, output)
+    let file = hold_file(alloc, folder, input)?;
+    convert_whole(alloc, folder, form, &file, output)
 }
 
 // Converts a file that was read whole, and only then creates the other.

@@ -1,7 +1,10 @@
 //! Which bytes of a file's sound are not looked at.
 
-ghost use Rattle.std.specs.Prelude.{◌≡◌, ℕ, ◌-◌, ◌/◌, ◌<◌, ◌≤◌, ◌^◌, ◌⊎◌};
+ghost use Rattle.std.specs.Prelude.{◌≡◌, ℕ, ◌+◌, ◌-◌, ◌*◌, ◌/◌, ◌<◌, ◌≤◌, ◌^◌, ◌⊎◌};
+ghost use Rattle.dsd_bits.specs.Sounds.{IsSound};
+ghost use Rattle.folder_core.specs.GappedFiles.{LiesInGap};
 ghost use Rattle.player_core.specs.Groups.{part_size, place_in};
+ghost use Rattle.transfer_commands.specs.Gaps.{HoldNoBitOf, LieInSound};
 
 use dsd_bits::Sound;
 use folder_core::{Gap, Gaps};
@@ -13,7 +16,9 @@ const REACH: u64 = 4096;
 const BLOCK: u64 = 4096;
 
 /// All of a sound.
-pub(crate) fn sound_gap(sound: &Sound) -> Gaps {
+pub(crate) fn sound_gap(sound: &Sound) -> Gaps
+    ensures { LieInSound sound.now result }
+{
     let start = sound.start as u64;
     let stop = start.saturating_add(sound.size as u64);
     Gaps {
@@ -23,23 +28,47 @@ pub(crate) fn sound_gap(sound: &Sound) -> Gaps {
 }
 
 /// What no frame from `start` to `stop - 1` reads of a sound, of which `factor` bits of each channel make a frame.
-pub(crate) fn gaps_around(sound: &Sound, factor: u32, start: usize, stop: usize) -> Gaps {
-    let factor = factor as u64;
-    let from = (start as u64).saturating_mul(factor).saturating_sub(REACH);
-    let to = (stop as u64).saturating_mul(factor).saturating_add(REACH);
-    let before = bytes_before(sound, from);
-    let up_to = bytes_up_to(sound, to);
+pub(crate) fn gaps_around(sound: &Sound, factor: u32, start: usize, stop: usize) -> Gaps
+    ensures in_sound { LieInSound sound.now result }
+    ensures unread { IsSound sound.now → HoldNoBitOf sound.now factor start stop result }
+{
+    let before = bytes_before(sound, first_bit(start, factor));
+    let up_to = bytes_up_to(sound, last_bit(stop, factor));
+    all_but(sound, before, up_to)
+}
+
+// A bit before which no frame from this one on reads one.
+fn first_bit(start: usize, factor: u32) -> u64
+    ensures { result ≤ start * factor - 4096 }
+{
+    (start as u64)
+        .saturating_mul(factor as u64)
+        .saturating_sub(REACH)
+}
+
+// A bit after which no frame before this one reads one.
+fn last_bit(stop: usize, factor: u32) -> u64
+    ensures { (stop * factor + 4096 ≤ result) ⊎ (2 ^ 64 - 1 ≤ result) }
+{
+    (stop as u64)
+        .saturating_mul(factor as u64)
+        .saturating_add(REACH)
+}
+
+// All of a sound but for its bytes from one on, up to another that is not among them.
+fn all_but(sound: &Sound, from: u64, to: u64) -> Gaps
+    ensures in_sound { LieInSound sound.now result }
+    ensures kept { (p : ℕ) → from ≤ p → (p < to) ⊎ (2 ^ 64 - 1 ≤ to) → LiesInGap result (sound.now.start + p) 1 → ⊥ }
+{
     let begin = sound.start as u64;
     let end = begin.saturating_add(sound.size as u64);
+    let last = begin.saturating_add(from);
+    let first = begin.saturating_add(to);
+    let stop = last.min(end);
+    let start = first.min(end);
     Gaps {
-        first: Gap {
-            start: begin,
-            stop: begin.saturating_add(before).min(end),
-        },
-        second: Gap {
-            start: begin.saturating_add(up_to).min(end),
-            stop: end,
-        },
+        first: Gap { start: begin, stop },
+        second: Gap { start, stop: end },
     }
 }
 

@@ -3,13 +3,14 @@
 //!
 //! - [`play_file`] reads a project, opens a recording, and writes its WAVE file piece by piece.
 //! - [`play_part_file`] does so with a part of the recording, which it finds first by reading the recording through.
-//! - [`convert_file`] reads a recording through, and only then creates the file in the other form.
+//! - [`convert_file`] reads a recording through, and only then creates the file in the other form. What can't be read
+//!   again it holds.
 //! - [`open_file`] reads a recording to report what it holds.
 //! - [`sum_file`] reads a recording in one pass, and digests the bits of each channel.
 //! - [`source_excerpts`] reads a project and then its takes by their numbers, and keeps of them what the splice reads.
 //!
-//! All but `play_file` read a recording in one pass, but that [`convert_file`] reads a short one whole. The calls are those of `transfer_core`, the files
-//! those of `folder_core`. A command returns its first fault.
+//! All but `play_file` read a recording in one pass, but that `convert_file` holds a pipe whole. The calls are those of
+//! `transfer_core`, the files those of `folder_core`. A command returns its first fault.
 //!
 //! The words of the contracts, over any folder, of which `old` is known before and `new` after:
 //!
@@ -23,8 +24,8 @@
 //! the named files gave, and no other file changed.
 //!
 //! ```text
-//! play_file(alloc, &mut folder, "filter.toml", "in.dsf", "out.wav")?                // how many bytes out.wav has
-//! convert_file(alloc, &mut folder, Form::Dsdiff, "in.dsf", "out.dff", MOST_KEPT)?   // how many parts are dropped
+//! play_file(alloc, &mut folder, "filter.toml", "in.dsf", "out.wav")?        // how many bytes out.wav has
+//! convert_file(alloc, &mut folder, Form::Dsdiff, "in.dsf", "out.dff")?      // how many parts are dropped
 //! ```
 #![tactic(auto)]
 
@@ -33,6 +34,7 @@ mod digesting;
 mod excerpts;
 mod fault;
 mod gaps;
+mod holding;
 mod opened;
 mod outlining;
 mod parts;
@@ -43,7 +45,6 @@ mod summing;
 
 pub use converting::convert_file;
 pub use fault::CommandFault;
-pub use outlining::MOST_KEPT;
 pub use parts::{PartFault, play_part_file};
 pub use playing::play_file;
 pub use reporting::{Reported, open_file};

@@ -4,11 +4,12 @@ ghost use Rattle.std.specs.Prelude.{◌≡◌, ℕ, List, IfErr, IfOk, IfSome};
 ghost use Rattle.std.specs.Io.KnownBytes.{prepend_known};
 ghost use Rattle.folder_core.specs.Files.{IsGiven};
 ghost use Rattle.sound_core.specs.Files.{LeadsToSound};
-ghost use Rattle.transfer_commands.specs.Outlining.{IsUnread, OutlinesRead};
-ghost use Rattle.transfer_commands.specs.Opening.{IsBeforeOutput, OutlinesLeft, left_of};
+ghost use Rattle.transfer_commands.specs.Outlining.{IsUnoutlined, IsUnread, OutlinesRead};
+ghost use Rattle.transfer_commands.specs.Opening.{OutlinesLeft, left_of};
 
 use crate::fault::CommandFault;
 use crate::gaps::sound_gap;
+use crate::outlining::refusal_of;
 use chunk_core::Inlet;
 use dsd_bits::Sound;
 use folder_core::{Folder, GappedFile};
@@ -30,8 +31,8 @@ pub(crate) struct OpenedFile<R> {
 
 /// Opens a file, and reads it until its first bytes describe its sound.
 ///
-/// Refusals: `ReadFailed` if it can't be opened, a read fails, or `2^40` reads don't reach the sound; the first fault
-/// of a file that holds no recording, or `FileRefused` where these bytes don't tell it; `Memory`.
+/// Refusals: `ReadFailed` if it can't be opened, a read fails, or `2^40` reads don't reach the sound; `FileUnread` with
+/// the first fault of a file that holds no recording, whatever its sound is; `Memory`.
 pub(crate) fn open_prefix<F: Folder>(
     alloc: Global,
     folder: &mut F,
@@ -40,7 +41,7 @@ pub(crate) fn open_prefix<F: Folder>(
     ensures same { F.view folder.new ≡ F.view folder.old }
     ensures states { IfOk result (λ o. LeadsToSound o.prefix.items o.sound) }
     ensures given { IfOk result (λ o. IsGiven (F.view folder.old) name.now (left_of F.In.remaining o)) }
-    ensures fault { IfErr result IsBeforeOutput }
+    ensures fault { IfErr result (IsUnoutlined name.now (F.view folder.old)) }
 {
     let Ok(file) = folder.open(name) else {
         return Err(CommandFault::ReadFailed);
@@ -48,10 +49,7 @@ pub(crate) fn open_prefix<F: Folder>(
     let mut inlet = Inlet::new(file);
     match read_prefix(alloc, &mut inlet) {
         Ok(prefix) => Ok(opened_of(prefix, inlet.into_inner())),
-        Err(Unread::Refused(fault)) => Err(CommandFault::Call(Fault::from(fault))),
-        Err(Unread::Stream(StreamFault::ReadFailed)) => Err(CommandFault::ReadFailed),
-        Err(Unread::Stream(StreamFault::TurnLimit)) => Err(CommandFault::ReadFailed),
-        Err(Unread::Stream(fault)) => Err(CommandFault::Call(Fault::from(fault))),
+        Err(unread) => Err(refusal_of(unread)),
     }
 }
 

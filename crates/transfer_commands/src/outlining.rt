@@ -1,8 +1,9 @@
 //! Reads what a file of a folder holds besides its sound.
 
-ghost use Rattle.std.specs.Prelude.{◌≡◌, IfErr, IfOk};
+ghost use Rattle.std.specs.Prelude.{◌≡◌, List, Option, ℕ, IfErr, IfOk};
+ghost use Rattle.sound_core.specs.Naming.{IfRefusedAs};
 ghost use Rattle.sound_core.specs.Outlines.{AreStated, around_of};
-ghost use Rattle.transfer_commands.specs.Outlining.{IsUnoutlined, OutlinesRead};
+ghost use Rattle.transfer_commands.specs.Outlining.{IsFirstFault, IsUnoutlined, IsUnoutlinedLeft, OutlinesRead};
 
 use crate::fault::CommandFault;
 use chunk_core::Inlet;
@@ -10,9 +11,6 @@ use folder_core::Folder;
 use sound_core::{Outline, StreamFault, Unread, read_outline};
 use std::alloc::Global;
 use transfer_core::Fault;
-
-/// Files of fewer bytes are held whole: 2 MiB.
-pub const MOST_KEPT: usize = 1 << 21;
 
 /// What a file holds besides its sound, read in one pass.
 ///
@@ -34,8 +32,17 @@ pub(crate) fn outline_file<F: Folder>(
     let mut inlet = Inlet::new(file);
     match read_outline(alloc, &mut inlet) {
         Ok(outline) => Ok(outline),
-        Err(Unread::Refused(fault)) => Err(CommandFault::Call(Fault::from(fault))),
-        Err(Unread::Stream(StreamFault::Memory)) => Err(CommandFault::Call(Fault::Memory)),
-        Err(Unread::Stream(_)) => Err(CommandFault::ReadFailed),
+        Err(unread) => Err(refusal_of(unread)),
+    }
+}
+
+/// Why a file isn't read to what it holds, as a command returns it: the first fault of one that holds no recording.
+pub(crate) fn refusal_of(unread: Unread) -> CommandFault
+    ensures { (left : Option (List ℕ)) → IfRefusedAs unread (IsFirstFault left) → IsUnoutlinedLeft left result }
+{
+    match unread {
+        Unread::Refused(fault) => CommandFault::Call(Fault::from(fault)),
+        Unread::Stream(StreamFault::Memory) => CommandFault::Call(Fault::Memory),
+        Unread::Stream(_) => CommandFault::ReadFailed,
     }
 }

@@ -16,7 +16,7 @@ use Rattle.transfer_core.specs.declared.spans.SpanFault.{SpanFault}
 use Rattle.transfer_core.specs.declared.spans.SpanFault.TheVariants.{NoMark, PartOutside, PartReversed}
 use Rattle.transfer_core.specs.Projects.{SaysDecimator, decimator_of_text}
 
--- the frames that a project plays of so many bits a channel at a rate, which its factor divides
+-- the frames that a project plays of `count` bits a channel at this rate, which its factor divides
 pub record AreFramesOf (project : List ℕ) (rate count : ℕ) (f : PlayedFrames) : Type 0 where
   pub decimator : Decimator
   pub says : SaysDecimator project decimator

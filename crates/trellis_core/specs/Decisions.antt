@@ -1,6 +1,8 @@
 -- The decisions of a search: for each level and state which of the two states before it the way back takes, a bit each (Viterbi's algorithm). Only the search's private functions cite this.
 use Rattle.std.specs.Prelude.{◌≡◌, ℕ, ◌+◌, ◌*◌, ◌/◌, ◌%◌, ◌<◌, nat_lt, Bool, List, length, slice_index}
 use Rattle.std.specs.Int.{bit_at, div_ceil}
+use Rattle.cost_core.specs.Bridges.{Bridging}
+use Rattle.cost_core.specs.StateCosts.{trellis_of}
 use Rattle.cost_core.specs.Trellis.{Trellis, states, digit}
 use Rattle.trellis_core.specs.Best.{best, by_0, by_1}
 
@@ -20,3 +22,7 @@ AreDecisions t level bytes = (q : ℕ) → q < states t → bit_at (slice_index 
 pub record AreAllDecisions (t : Trellis) (levels : ℕ) (bytes : List ℕ) : Type 0 where
   pub long : length bytes ≡ levels * decision_bytes (states t)
   pub each : (level q : ℕ) → level < levels → q < states t → bit_at (slice_index bytes (level * decision_bytes (states t) + q / 8)) (q % 8) ≡ digit (decision t level q)
+
+-- bytes that hold the decisions of all levels of a bridge
+abbrev pub DecideAll : Bridging → List ℕ → Type 0
+DecideAll d bytes = AreAllDecisions (trellis_of d) (trellis_of d).levels bytes

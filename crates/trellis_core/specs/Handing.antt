@@ -39,3 +39,29 @@ abbrev pub CappedRowsAreValid : Type 0
 CappedRowsAreValid =
     (d : Bridging) (rows : List (List ℕ)) (x : List Bool) → IsBridging d → BestRows (trellis_of d) rows → IsLeastBridge d x
     → IsTable (trellis_of d) (map (capped_at (bridge_cost d x)) rows) × IsValid (trellis_of d) (value_in (map (capped_at (bridge_cost d x)) rows)) (bridge_cost d x) x
+
+-- ---- the rows that a sink got for a bridge; what the sink's text, spelling and kind are is given first
+-- the sink got the rows of all levels, level 0 first
+abbrev pub GotAll : {S : Type 0} → (S → Option (List ℕ)) → (ℕ → List ℕ → List ℕ) → (S → ℕ) → S → S → Bridging → Type 0
+GotAll text spelling kind old new d = HandsOverAll (trellis_of d) (spelling (kind old)) (text old) (text new)
+
+-- the sink got the rows of the first levels, perhaps of none
+abbrev pub GotSome : {S : Type 0} → (S → Option (List ℕ)) → (ℕ → List ℕ → List ℕ) → (S → ℕ) → S → S → Bridging → Type 0
+GotSome text spelling kind old new d = HandsOverSome (trellis_of d) (spelling (kind old)) (text old) (text new)
+
+-- the sink got the rows of the first levels, perhaps of none, and a prefix of the next
+abbrev pub GotUpTo : {S : Type 0} → (S → Option (List ℕ)) → (ℕ → List ℕ → List ℕ) → (S → ℕ) → S → S → Bridging → Type 0
+GotUpTo text spelling kind old new d = HandsOverUpTo (trellis_of d) (spelling (kind old)) (text old) (text new)
+
+-- the sink got the rows of all levels, capped at a cost
+abbrev pub GotCapped : {S : Type 0} → (S → Option (List ℕ)) → (ℕ → List ℕ → List ℕ) → (S → ℕ) → S → S → Bridging → ℕ → Type 0
+GotCapped text spelling kind old new d cost = HandsOverAll (trellis_of d) (capped_spelling cost (spelling (kind old))) (text old) (text new)
+
+-- the sink got the rows of the first levels, perhaps of none, and a prefix of the next, capped at a cost
+abbrev pub GotCappedUpTo : {S : Type 0} → (S → Option (List ℕ)) → (ℕ → List ℕ → List ℕ) → (S → ℕ) → S → S → Bridging → ℕ → Type 0
+GotCappedUpTo text spelling kind old new d cost = HandsOverUpTo (trellis_of d) (capped_spelling cost (spelling (kind old))) (text old) (text new)
+
+-- the sink got the rows of the first levels, perhaps of none, and a prefix of the next, capped at the cost of a least
+-- bridge
+abbrev pub GotBestUpTo : {S : Type 0} → (S → Option (List ℕ)) → (ℕ → List ℕ → List ℕ) → (S → ℕ) → S → S → Bridging → Type 0
+GotBestUpTo text spelling kind old new d = HandsOverCappedUpTo d (spelling (kind old)) (text old) (text new)

@@ -5,8 +5,8 @@ ghost use Rattle.cost_core.specs.Trellis.{states};
 ghost use Rattle.cost_core.specs.StateCosts.{trellis_of};
 ghost use Rattle.cost_core.specs.Bridges.{bridge_cost, IsFirstLeastBridge};
 ghost use Rattle.trellis_core.specs.Best.{total_row};
-ghost use Rattle.trellis_core.specs.Decisions.{AreAllDecisions};
-ghost use Rattle.trellis_core.specs.Handing.{HandsOverAll, HandsOverCappedUpTo, HandsOverSome, HandsOverUpTo, capped_spelling};
+ghost use Rattle.trellis_core.specs.Decisions.{DecideAll};
+ghost use Rattle.trellis_core.specs.Handing.{GotAll, GotBestUpTo, GotCapped, GotSome, GotUpTo};
 
 use crate::capping::hand_capped;
 use crate::discarding::Discarding;
@@ -57,12 +57,9 @@ pub fn bridge_into<S: LevelSink>(
     ensures cost { IfOk result (λ chosen. chosen.cost ≡ bridge_cost window.now chosen.bits) }
 
     // The rows that the sink got.
-    ensures rows { OnOk result (HandsOverAll (trellis_of window.now) (S.spelling (S.kind sink.old)) (S.text sink.old)
-        (S.text sink.new)) }
-    ensures memory { IsErrOf result BridgeFault.Memory
-        → HandsOverSome (trellis_of window.now) (S.spelling (S.kind sink.old)) (S.text sink.old) (S.text sink.new) }
-    ensures sink { IsErrOf result BridgeFault.Sink
-        → HandsOverUpTo (trellis_of window.now) (S.spelling (S.kind sink.old)) (S.text sink.old) (S.text sink.new) }
+    ensures rows { OnOk result (GotAll S.text S.spelling S.kind sink.old sink.new window.now) }
+    ensures memory { IsErrOf result BridgeFault.Memory → GotSome S.text S.spelling S.kind sink.old sink.new window.now }
+    ensures sink { IsErrOf result BridgeFault.Sink → GotUpTo S.text S.spelling S.kind sink.old sink.new window.now }
 
     // The state of the sink afterwards.
     ensures refused { IsErrOf result BridgeFault.Sink ↔ (S.has_refused sink.new ≡ true) }
@@ -92,11 +89,9 @@ pub fn bridge_capped_into<S: LevelSink>(
     ensures cost { IfOk result (λ chosen. chosen.cost ≡ bridge_cost window.now chosen.bits) }
 
     // The rows that the sink got.
-    ensures rows { IfOk result (λ chosen. HandsOverAll (trellis_of window.now)
-        (capped_spelling chosen.cost (S.spelling (S.kind sink.old))) (S.text sink.old) (S.text sink.new)) }
+    ensures rows { IfOk result (λ chosen. GotCapped S.text S.spelling S.kind sink.old sink.new window.now chosen.cost) }
     ensures memory { IsErrOf result BridgeFault.Memory → S.text sink.new ≡ S.text sink.old }
-    ensures sink { IsErrOf result BridgeFault.Sink
-        → HandsOverCappedUpTo window.now (S.spelling (S.kind sink.old)) (S.text sink.old) (S.text sink.new) }
+    ensures sink { IsErrOf result BridgeFault.Sink → GotBestUpTo S.text S.spelling S.kind sink.old sink.new window.now }
 
     // The state of the sink afterwards.
     ensures refused { IsErrOf result BridgeFault.Sink ↔ (S.has_refused sink.new ≡ true) }
@@ -116,8 +111,7 @@ pub fn bridge_capped_into<S: LevelSink>(
 // The bits that a search leads to, and their cost.
 fn choose(alloc: Global, window: &Window, searched: &Searched) -> Result<Chosen, AllocError>
     requires totals { searched.now.room.totals.items ≡ total_row (trellis_of window.now) }
-    requires decisions { AreAllDecisions (trellis_of window.now)
-        (trellis_of window.now).levels searched.now.decisions.items }
+    requires decisions { DecideAll window.now searched.now.decisions.items }
     ensures first_least { IfOk result (λ chosen. IsFirstLeastBridge window.now chosen.bits) }
     ensures cost { IfOk result (λ chosen. chosen.cost ≡ bridge_cost window.now chosen.bits) }
 {

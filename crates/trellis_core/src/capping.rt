@@ -3,7 +3,7 @@
 ghost use Rattle.std.specs.Prelude.{◌≡◌, ℕ, ◌+◌, ◌<◌, ◌≤◌, min, true, false, length, slice_index, OnOk, OnErr, MatchResult};
 ghost use Rattle.cost_core.specs.Trellis.{states};
 ghost use Rattle.cost_core.specs.StateCosts.{trellis_of};
-ghost use Rattle.trellis_core.specs.Handing.{HandsOverAll, HandsOverUpTo, capped_spelling};
+ghost use Rattle.trellis_core.specs.Handing.{GotCapped, GotCappedUpTo};
 ghost use Rattle.trellis_core.specs.Passes.{HasBuffers};
 
 use crate::rows::{PassRoom, next_row, write_first_row};
@@ -38,10 +38,8 @@ pub fn hand_capped<S: LevelSink>(
     ensures buffers { OnOk result (HasBuffers (states (trellis_of window.now)) room.new) }
 
     // The rows that the sink got.
-    ensures ok { OnOk result (HandsOverAll (trellis_of window.now) (capped_spelling cost (S.spelling (S.kind sink.old)))
-        (S.text sink.old) (S.text sink.new)) }
-    ensures err { OnErr result (HandsOverUpTo (trellis_of window.now) (capped_spelling cost (S.spelling (S.kind sink.old)))
-        (S.text sink.old) (S.text sink.new)) }
+    ensures ok { OnOk result (GotCapped S.text S.spelling S.kind sink.old sink.new window.now cost) }
+    ensures err { OnErr result (GotCappedUpTo S.text S.spelling S.kind sink.old sink.new window.now cost) }
 
     // The state of the sink afterwards.
     ensures refused { MatchResult result (λ _. S.has_refused sink.new ≡ false) (λ _. S.has_refused sink.new ≡ true) }

@@ -27,9 +27,9 @@
 //! - `IsBest t level q v` says that `v` is the lesser of `2^63` and the least sum of steps over all lists of `level`
 //!   bits that lead to state `q`. `BestRows t rows` says that there is a row of these for each level. There is one such
 //!   table, `least_rows t` ([`best_rows_are_least`]).
-//! - `HandsOverAll t spelling old new` says that a sink's text grew by the rows of all levels, `HandsOverSome` by those
-//!   of the first levels, `HandsOverUpTo` by those and a prefix of the next. `capped_spelling cost spelling` is the
-//!   spelling of rows that are capped at a cost.
+//! - `GotAll` says that a sink's text grew by the rows of all levels of a bridge, `GotSome` by those of the first
+//!   levels, `GotUpTo` by those and a prefix of the next. `GotCapped` and `GotCappedUpTo` say the same of rows that are
+//!   capped at a cost, `GotBestUpTo` of rows that are capped at the least one.
 //!
 //! What it promises: the bits are the first of the least, the cost is theirs, and the rows that a sink took are those
 //! of the search, capped at the cost or not. The only refusals are `Memory` and `Sink`.

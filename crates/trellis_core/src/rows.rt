@@ -4,9 +4,9 @@ ghost use Rattle.std.specs.Prelude.{◌≡◌, ◌+◌, ◌*◌, ◌<◌, ◌≤
 ghost use Rattle.cost_core.specs.Trellis.{IsBounded, states};
 ghost use Rattle.cost_core.specs.StateCosts.{trellis_of};
 ghost use Rattle.trellis_core.specs.Best.{best, best_row, total_row};
-ghost use Rattle.trellis_core.specs.Decisions.{AreAllDecisions, AreDecisions, decision_bytes};
+ghost use Rattle.trellis_core.specs.Decisions.{AreDecisions, DecideAll, decision_bytes};
 ghost use Rattle.trellis_core.specs.Passes.{HasBuffers};
-ghost use Rattle.trellis_core.specs.Handing.{HandsOverAll, HandsOverSome, HandsOverUpTo};
+ghost use Rattle.trellis_core.specs.Handing.{GotAll, GotSome, GotUpTo};
 
 use crate::choosing::{NO_WAY, choose};
 use crate::ends::write_totals;
@@ -130,15 +130,11 @@ fn search<S: LevelSink>(
     requires row_length { S.row_length sink.old ≡ states (trellis_of window.now) }
     requires ready { S.has_refused sink.old ≡ false }
     ensures totals { OnOk result (room.new.totals.items ≡ total_row (trellis_of window.now)) }
-    ensures decisions { OnOk result (AreAllDecisions (trellis_of window.now)
-        (trellis_of window.now).levels decisions.new.items) }
+    ensures decisions { OnOk result (DecideAll window.now decisions.new.items) }
     ensures buffers { OnOk result (HasBuffers (states (trellis_of window.now)) room.new) }
-    ensures rows { OnOk result (HandsOverAll (trellis_of window.now) (S.spelling (S.kind sink.old)) (S.text sink.old)
-        (S.text sink.new)) }
-    ensures memory { IsErrOf result BridgeFault.Memory
-        → HandsOverSome (trellis_of window.now) (S.spelling (S.kind sink.old)) (S.text sink.old) (S.text sink.new) }
-    ensures sink { IsErrOf result BridgeFault.Sink
-        → HandsOverUpTo (trellis_of window.now) (S.spelling (S.kind sink.old)) (S.text sink.old) (S.text sink.new) }
+    ensures rows { OnOk result (GotAll S.text S.spelling S.kind sink.old sink.new window.now) }
+    ensures memory { IsErrOf result BridgeFault.Memory → GotSome S.text S.spelling S.kind sink.old sink.new window.now }
+    ensures sink { IsErrOf result BridgeFault.Sink → GotUpTo S.text S.spelling S.kind sink.old sink.new window.now }
     ensures refused { IsErrOf result BridgeFault.Sink ↔ (S.has_refused sink.new ≡ true) }
     ensures rows_left { OnOk result (S.rows_left sink.new + (window.now.levels + 1) ≡ S.rows_left sink.old) }
     ensures row_length { S.row_length sink.new ≡ S.row_length sink.old }
@@ -176,14 +172,10 @@ pub(crate) fn forward<S: LevelSink>(
     requires ready { S.has_refused sink.old ≡ false }
     ensures totals { IfOk result (λ searched. searched.room.totals.items ≡ total_row (trellis_of window.now)) }
     ensures buffers { IfOk result (λ searched. HasBuffers (states (trellis_of window.now)) searched.room) }
-    ensures decisions { IfOk result (λ searched. AreAllDecisions (trellis_of window.now)
-        (trellis_of window.now).levels searched.decisions.items) }
-    ensures rows { OnOk result (HandsOverAll (trellis_of window.now) (S.spelling (S.kind sink.old)) (S.text sink.old)
-        (S.text sink.new)) }
-    ensures memory { IsErrOf result BridgeFault.Memory
-        → HandsOverSome (trellis_of window.now) (S.spelling (S.kind sink.old)) (S.text sink.old) (S.text sink.new) }
-    ensures sink { IsErrOf result BridgeFault.Sink
-        → HandsOverUpTo (trellis_of window.now) (S.spelling (S.kind sink.old)) (S.text sink.old) (S.text sink.new) }
+    ensures decisions { IfOk result (λ searched. DecideAll window.now searched.decisions.items) }
+    ensures rows { OnOk result (GotAll S.text S.spelling S.kind sink.old sink.new window.now) }
+    ensures memory { IsErrOf result BridgeFault.Memory → GotSome S.text S.spelling S.kind sink.old sink.new window.now }
+    ensures sink { IsErrOf result BridgeFault.Sink → GotUpTo S.text S.spelling S.kind sink.old sink.new window.now }
     ensures refused { IsErrOf result BridgeFault.Sink ↔ (S.has_refused sink.new ≡ true) }
     ensures rows_left { OnOk result (S.rows_left sink.new + (window.now.levels + 1) ≡ S.rows_left sink.old) }
     ensures row_length { S.row_length sink.new ≡ S.row_length sink.old }

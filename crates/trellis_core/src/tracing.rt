@@ -4,7 +4,7 @@ ghost use Rattle.std.specs.Prelude.{◌≡◌, ◌^◌, ◌<◌, ◌≤◌, leng
 ghost use Rattle.cost_core.specs.Trellis.{states};
 ghost use Rattle.cost_core.specs.StateCosts.{trellis_of};
 ghost use Rattle.trellis_core.specs.Best.{before, traced};
-ghost use Rattle.trellis_core.specs.Decisions.{AreAllDecisions};
+ghost use Rattle.trellis_core.specs.Decisions.{DecideAll};
 
 use cost_core::Window;
 use dsd_bits::Bits;
@@ -12,7 +12,7 @@ use std::alloc::{AllocError, Global};
 
 // The state at `level` from which `state` is reached at the next level, as it was decided.
 fn before(window: &Window, decisions: &[u8], level: usize, state: usize) -> usize
-    requires decisions { AreAllDecisions (trellis_of window.now) (trellis_of window.now).levels decisions.now }
+    requires decisions { DecideAll window.now decisions.now }
     requires level { level < (trellis_of window.now).levels }
     requires state { state < states (trellis_of window.now) }
     ensures { result ≡ before (trellis_of window.now) level state }
@@ -34,7 +34,7 @@ pub(crate) fn trace(
     decisions: &[u8],
     end: usize,
 ) -> Result<Vec<bool>, AllocError>
-    requires decisions { AreAllDecisions (trellis_of window.now) (trellis_of window.now).levels decisions.now }
+    requires decisions { DecideAll window.now decisions.now }
     requires end { end < states (trellis_of window.now) }
     ensures { IfOk result (λ bits. bits.items ≡ traced (trellis_of window.now) (trellis_of window.now).levels end) }
 {

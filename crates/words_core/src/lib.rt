@@ -1,8 +1,9 @@
 //! The words of a command line: [`task_of`] reads which [`Task`] they ask for, with the names of its files.
 //! [`sum_task_of`] reads those of `sum`, which takes any number of files.
 //!
-//! What it promises: only that it is safe. It has no words of contracts. `tests/try_commands` tests which words ask for
-//! what.
+//! What it promises, beside that it is safe: which place of frames or marks a word names (`specs/Places.antt`), that a
+//! part that is asked for has a place, and that `sum` isn't refused for a form (`specs/Asked.antt`). Which words ask for
+//! what is tested by `tests/try_commands`.
 //!
 //! ```text
 //! match task_of(alloc, &words) {

@@ -1,5 +1,11 @@
 //! A place in a recording, as a word names it.
 
+ghost use Rattle.std.specs.Prelude.{◌≡◌, ◌≢◌, ◌<◌, ◌∷◌, ℕ, IfSome, List, SomeIff, slice_index};
+ghost use Rattle.std.specs.Char.{digit_value};
+ghost use Rattle.std.specs.Str.Parse.{digits_value};
+ghost use Rattle.words_core.specs.Places.{IsNumbered, IsTime, NamesNumber};
+ghost use Rattle.words_core.specs.declared.place.Place.TheVariants as places;
+
 /// A place in a recording.
 #[derive(Clone, Copy)]
 pub enum Place {
@@ -17,17 +23,24 @@ const SECOND: u64 = 1_000_000_000;
 /// The place that a word names: `@FRAME`, `#MARK`, or a time as `SECONDS`, `MINUTES:SECONDS` or
 /// `HOURS:MINUTES:SECONDS`. Seconds may have a decimal point and up to nine digits behind it. Minutes and seconds
 /// behind a colon are below 60.
-pub fn place_named(word: &str) -> Option<Place> {
+pub fn place_named(word: &str) -> Option<Place>
+    // 64 is `@`, and 35 is `#`.
+    ensures frame { (digits : List ℕ) → word.now ≡ 64 ∷ digits → IsNumbered places.Frame digits result }
+    ensures mark { (digits : List ℕ) → word.now ≡ 35 ∷ digits → IsNumbered places.Mark digits result }
+    ensures time { slice_index word.now 0 ≢ 64 → slice_index word.now 0 ≢ 35 → IfSome result IsTime }
+{
     let bytes = word.as_bytes();
-    match bytes.first() {
-        Some(b'@') => Some(Place::Frame(number_named(&bytes[1..])?)),
-        Some(b'#') => Some(Place::Mark(number_named(&bytes[1..])?)),
+    match bytes.split_first() {
+        Some((b'@', digits)) => Some(Place::Frame(number_named(digits)?)),
+        Some((b'#', digits)) => Some(Place::Mark(number_named(digits)?)),
         _ => Some(Place::Time(time_named(bytes)?)),
     }
 }
 
 // The value of a digit.
-fn digit_of(byte: u8) -> Option<u64> {
+fn digit_of(byte: u8) -> Option<u64>
+    ensures { SomeIff result (digit_value byte < 10) (digit_value byte) }
+{
     if byte.is_ascii_digit() {
         Some(u64::from(byte - b'0'))
     } else {
@@ -36,13 +49,18 @@ fn digit_of(byte: u8) -> Option<u64> {
 }
 
 // The number that digits name.
-fn number_named(digits: &[u8]) -> Option<u64> {
+fn number_named(digits: &[u8]) -> Option<u64>
+    ensures { SomeIff result (NamesNumber digits.now) (digits_value 10 digits.now) }
+{
     if digits.is_empty() {
         return None;
     }
     let mut number: u64 = 0;
-    for byte in digits {
-        number = number.checked_mul(10)?.checked_add(digit_of(*byte)?)?;
+    let mut rest = digits;
+    while let Some((byte, after)) = rest.split_first() {
+        let digit = digit_of(*byte)?;
+        number = number.checked_mul(10)?.checked_add(digit)?;
+        rest = after;
     }
     Some(number)
 }

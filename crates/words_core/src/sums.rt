@@ -1,5 +1,8 @@
 //! The words of `sum`.
 
+ghost use Rattle.std.specs.Prelude.{IfErr};
+ghost use Rattle.words_core.specs.Asked.{IsNoForm};
+
 use crate::fault::WordsFault;
 use crate::words::matches_of;
 use clap::error::ErrorKind;
@@ -21,7 +24,9 @@ pub struct SumTask<'a> {
 pub fn sum_task_of<'a>(
     alloc: Global,
     words: &'a [String],
-) -> Result<Option<SumTask<'a>>, WordsFault> {
+) -> Result<Option<SumTask<'a>>, WordsFault>
+    ensures faults { IfErr result IsNoForm }
+{
     match matches_of(alloc, words) {
         Ok(matches) => sum_task_in(alloc, &matches),
         Err(error) if error.kind() == ErrorKind::OutOfMemory => Err(WordsFault::Memory),
@@ -33,14 +38,18 @@ pub fn sum_task_of<'a>(
 fn sum_task_in<'a>(
     alloc: Global,
     matches: &ArgMatches<'a>,
-) -> Result<Option<SumTask<'a>>, WordsFault> {
+) -> Result<Option<SumTask<'a>>, WordsFault>
+    ensures { IfErr result IsNoForm }
+{
     match matches.subcommand() {
         Some(("sum", sum)) => sum_task(alloc, sum),
         _ => Ok(None),
     }
 }
 
-fn sum_task<'a>(alloc: Global, sum: &ArgMatches<'a>) -> Result<Option<SumTask<'a>>, WordsFault> {
+fn sum_task<'a>(alloc: Global, sum: &ArgMatches<'a>) -> Result<Option<SumTask<'a>>, WordsFault>
+    ensures { IfErr result IsNoForm }
+{
     let Some(names) = sum.get_strs("FILE") else {
         return Err(WordsFault::WrongWords);
     };

@@ -1,6 +1,7 @@
 //! The words of a command line.
 
-ghost use Rattle.std.specs.Prelude.{◌≡◌, IfErr};
+ghost use Rattle.std.specs.Prelude.{◌≡◌, IfErr, IfOk};
+ghost use Rattle.words_core.specs.Asked.{HasPlaces};
 ghost use Rattle.words_core.specs.declared.fault.WordsFault.TheVariants as faults;
 
 use crate::fault::WordsFault;
@@ -28,7 +29,9 @@ const PLACES: [&str; 2] = ["from", "to"];
 ///
 /// Refusals: `WrongWords` if the words are no command, `UnknownFormName` if the form isn't `dsdiff`, `dsf` or `dsf8`,
 /// `Memory`.
-pub fn task_of<'a>(alloc: Global, words: &'a [String]) -> Result<Task<'a>, WordsFault> {
+pub fn task_of<'a>(alloc: Global, words: &'a [String]) -> Result<Task<'a>, WordsFault>
+    ensures places { IfOk result HasPlaces }
+{
     match matches_of(alloc, words) {
         Ok(matches) => task_in(&matches),
         Err(error) if error.kind() == ErrorKind::OutOfMemory => Err(WordsFault::Memory),
@@ -37,7 +40,9 @@ pub fn task_of<'a>(alloc: Global, words: &'a [String]) -> Result<Task<'a>, Words
 }
 
 // The task that the matches ask for. They are borrowed here, so that no exit has to free them.
-fn task_in<'a>(matches: &ArgMatches<'a>) -> Result<Task<'a>, WordsFault> {
+fn task_in<'a>(matches: &ArgMatches<'a>) -> Result<Task<'a>, WordsFault>
+    ensures { IfOk result HasPlaces }
+{
     match matches.subcommand() {
         Some(("info", info)) => info_task(info),
         Some(("convert", convert)) => convert_task(convert),
@@ -48,7 +53,9 @@ fn task_in<'a>(matches: &ArgMatches<'a>) -> Result<Task<'a>, WordsFault> {
     }
 }
 
-fn play_task<'a>(play: &ArgMatches<'a>) -> Result<Task<'a>, WordsFault> {
+fn play_task<'a>(play: &ArgMatches<'a>) -> Result<Task<'a>, WordsFault>
+    ensures { IfOk result HasPlaces }
+{
     let project = name_at(play, "PROJECT")?;
     let input = name_at(play, "IN")?;
     let output = name_at(play, "OUT")?;
@@ -81,7 +88,9 @@ fn place_at(play: &ArgMatches, id: &str) -> Result<Option<Place>, WordsFault> {
     }
 }
 
-fn convert_task<'a>(convert: &ArgMatches<'a>) -> Result<Task<'a>, WordsFault> {
+fn convert_task<'a>(convert: &ArgMatches<'a>) -> Result<Task<'a>, WordsFault>
+    ensures { IfOk result HasPlaces }
+{
     Ok(Task::Convert {
         form: form_at(convert)?,
         input: name_at(convert, "IN")?,
@@ -89,7 +98,9 @@ fn convert_task<'a>(convert: &ArgMatches<'a>) -> Result<Task<'a>, WordsFault> {
     })
 }
 
-fn edit_task<'a>(edit: &ArgMatches<'a>) -> Result<Task<'a>, WordsFault> {
+fn edit_task<'a>(edit: &ArgMatches<'a>) -> Result<Task<'a>, WordsFault>
+    ensures { IfOk result HasPlaces }
+{
     Ok(Task::Edit {
         form: form_at(edit)?,
         project: name_at(edit, "PROJECT")?,
@@ -98,7 +109,9 @@ fn edit_task<'a>(edit: &ArgMatches<'a>) -> Result<Task<'a>, WordsFault> {
     })
 }
 
-fn check_task<'a>(check: &ArgMatches<'a>) -> Result<Task<'a>, WordsFault> {
+fn check_task<'a>(check: &ArgMatches<'a>) -> Result<Task<'a>, WordsFault>
+    ensures { IfOk result HasPlaces }
+{
     Ok(Task::Check {
         project: name_at(check, "PROJECT")?,
         master: name_at(check, "MASTER")?,
@@ -106,7 +119,9 @@ fn check_task<'a>(check: &ArgMatches<'a>) -> Result<Task<'a>, WordsFault> {
     })
 }
 
-fn info_task<'a>(info: &ArgMatches<'a>) -> Result<Task<'a>, WordsFault> {
+fn info_task<'a>(info: &ArgMatches<'a>) -> Result<Task<'a>, WordsFault>
+    ensures { IfOk result HasPlaces }
+{
     Ok(Task::Info {
         file: name_at(info, "FILE")?,
     })

@@ -19,13 +19,13 @@ channels_of-requires-clause-in_limit c = subst (λ (ids : List (List ℕ)). 8 * 
 pub channels_of-requires-clause-whole : goal.channels_of-requires-clause-whole
 channels_of-requires-clause-whole c = subst (λ (ids : List (List ℕ)). length c.part.result.1.now % length ids ≡ 0) (sym c.ids-number.ensures.value) (fits c.args.file.now c.part.result.0 c.part.result.1.now c.part.ensures c.in_ok-description.description c.in_ok-description.ensures).0
 
-pub of-requires : goal.of-requires
-of-requires c =
+pub new-requires : goal.new-requires
+new-requires c =
     let made = c.in_ok-channels.ensures ∙ ap (λ (ids : List (List ℕ)). unlaced_all c.part.result.1.now (length ids)) c.ids-number.ensures.value in
     subst (AreDescribed c.in_ok-description.description) (sym made) (are_described c.args.file.now c.part.result.0 c.part.result.1.now c.part.ensures c.in_ok-description.description c.in_ok-description.ensures)
 
 pub returns : goal.returns
 returns c =
     let made = c.in_ok-channels.ensures ∙ ap (λ (ids : List (List ℕ)). unlaced_all c.part.result.1.now (length ids)) c.ids-number.ensures.value in
-    let is = c.of.ensures ∙ ap (with_channels c.in_ok-description.description) made in
+    let is = c.new.ensures ∙ ap (with_channels c.in_ok-description.description) made in
     read_parted c.args.file.now c.part.result.0 c.part.result.1.now c.part.ensures ∙ step_then _ _ _ _ c.in_ok-description.ensures (ap (λ (r : Content). let x : Result Content DsdiffFault = Ok r in x) (sym is))

@@ -6,11 +6,12 @@ use Rattle.sound_core.proofs.header.stated_by.Goals as goal
 pub returns-in-Found-clause-found : goal.returns-in-Found-clause-found
 returns-in-Found-clause-found c = form_found c.args.prefix.now (Found c.in-Found.sound) (rw c.in-Found.is at c.in_ok-sound.ensures.exact)
 
-pub returns-in-More-clause-more : goal.returns-in-More-clause-more
-returns-in-More-clause-more c = form_more c.args.prefix.now More (rw c.in-More.is at c.in_ok-sound.ensures.exact)
-
-pub returns-in-More-clause-before : goal.returns-in-More-clause-before
-returns-in-More-clause-before c = form_before c.args.prefix.now More (rw c.in-More.is at c.in_ok-sound.ensures.exact)
+pub stated_later-requires : goal.stated_later-requires
+stated_later-requires c = record {
+  walked = rw c.in-More.is at c.in_ok-sound.ensures.stated;
+  refused = form_more c.args.prefix.now More (rw c.in-More.is at c.in_ok-sound.ensures.exact);
+  before = form_before c.args.prefix.now More (rw c.in-More.is at c.in_ok-sound.ensures.exact);
+}
 
 pub returns-in-Unstated-clause-refused : goal.returns-in-Unstated-clause-refused
 returns-in-Unstated-clause-refused c = unstated_refuses c.args.prefix.now c.in-Unstated.at (rw c.in-Unstated.is at c.in_ok-sound.ensures.stated).1 (rw c.in-Unstated.is at c.in_ok-sound.ensures.exact)

@@ -41,6 +41,19 @@ returns-in-PastForm g c =
       counts = rw c.unread_of-in-PastForm.ensures (counts_unread c.args.reader.now c.name_past_form.new.reader r c.name_past_form.ensures.counts);
     }
 
+pub name_faulty-requires : goal.name_faulty-requires
+name_faulty-requires g c = record { known = (c.requires.known.0, subst (IsCause ⊤ g.R.Read.remaining c.requires.known.0 c.args.reader.now) c.in-Faulty.is c.requires.known.1) }
+
+pub returns-in-Faulty : goal.returns-in-Faulty
+returns-in-Faulty g c =
+    let r = c.name_faulty.result in
+    record {
+      same = c.name_faulty.ensures.same;
+      named = λ first known. rw c.unread_of-in-Faulty.ensures (stated_unread (NamesFault g.R.Read.remaining first c.name_faulty.new.reader.inlet.now) r (c.name_faulty.ensures.named first (subst (IsCause ⊤ g.R.Read.remaining first c.args.reader.now) c.in-Faulty.is known)));
+      how = rw (c.unread_of-in-Faulty.ensures, c.in-Faulty.is) (how_unread (causes.Faulty c.in-Faulty.start) r tt c.name_faulty.ensures.fault);
+      counts = rw c.unread_of-in-Faulty.ensures (counts_unread c.args.reader.now c.name_faulty.new.reader r c.name_faulty.ensures.counts);
+    }
+
 pub name_soundless-requires : goal.name_soundless-requires
 name_soundless-requires g c = record { known = (c.requires.known.0, subst (IsCause ⊤ g.R.Read.remaining c.requires.known.0 c.args.reader.now) c.in-NoSound.is c.requires.known.1) }
 

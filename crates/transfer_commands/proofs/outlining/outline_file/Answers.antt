@@ -1,9 +1,7 @@
-use Rattle.std.proofs.Common.{◌≡◌, Err, List, inr, Option, ap, subst, ℕ}
+use Rattle.std.proofs.Common.{List, Option, ap, subst, ℕ}
 use Rattle.std.specs.Prelude.{IfSome}
 use Rattle.sound_core.specs.Outlines.{AreAround, around_of}
-use Rattle.form_core.specs.Opening.{opened_of}
-use Rattle.sound_core.proofs.NamingLaws.{file_named}
-use Rattle.transfer_commands.proofs.ReportLaws.{unreported_named}
+use Rattle.transfer_commands.proofs.ReportLaws.{first_of_reader, unoutlined_left}
 use Rattle.transfer_commands.proofs.ReadLaws.{known_or_some}
 use Rattle.transfer_commands.proofs.outlining.outline_file.Goals as goal
 
@@ -26,15 +24,12 @@ returns-in-Ok-read_outline g c =
     }
 
 pub returns : goal.returns
-returns g c = record { same = c.open.ensures.same; around = tt; found = tt; fault = tt }
-
-pub returns-in-Err-Refused : goal.returns-in-Err-Refused
-returns-in-Err-Refused g c =
-    let named = rw c.in-Err-Refused.field-0-is at c.in-Err-Refused.ensures.named in
+returns g c =
+    let left = g.F.In.Read.remaining in
     record {
       same = c.open.ensures.same;
       around = tt;
       found = tt;
-      fault = inr (unreported_named (g.F.Folder.view c.args.folder.now) c.args.name.now (g.F.In.Read.remaining c.in-Ok.file) c.in-Err-Refused.fault c.from.result c.in-Ok.ensures.bytes
-          (subst (λ (o : Option (List ℕ)). IfSome o (λ file. opened_of file ≡ Err c.in-Err-Refused.fault)) (ap g.F.In.Read.remaining c.new-inlet.ensures.reader) (file_named g.F.In.Read.remaining _ _ c.in-Err-Refused.fault named)) named.read named.sure.now c.from.ensures);
+      fault = unoutlined_left (g.F.Folder.view c.args.folder.now) c.args.name.now (left c.in-Ok.file) c.in-Ok.ensures.bytes c.refusal_of.result
+          (c.refusal_of.ensures (left c.in-Ok.file) (first_of_reader left c.in-Ok.file c.new-inlet.result c.read_outline.new.inlet c.in-Err.unread c.new-inlet.ensures.reader c.in-Err.ensures.named));
     }

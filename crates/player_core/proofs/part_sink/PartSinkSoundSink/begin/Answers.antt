@@ -10,7 +10,7 @@ use Rattle.player_core.specs.PartView.{IsPartFed, part_due, part_start}
 use Rattle.player_core.specs.Wave.{IsOpeningFault, OpensWave, sound_header, pad_of}
 use Rattle.player_core.proofs.PartFaultLaws.{part_opening}
 use Rattle.player_core.proofs.PartPlayLaws.{frames_number}
-use Rattle.player_core.proofs.PartSinkLaws.{due_at_first}
+use Rattle.player_core.proofs.PartSinkLaws.{all_fed, due_at_first}
 use Rattle.player_core.proofs.PieceLaws.{prefix_more, prefix_nil, whole_prefix}
 use Rattle.player_core.proofs.part_sink.PartSinkSoundSink.begin.Goals as goal
 
@@ -76,7 +76,7 @@ returns-clause-has g c =
     let opens : OpensWave d fs a b = subst (λ (t : Sound). OpensWave d t a b) c.frames_sound-frames.ensures.sound c.in_ok-put_header.ensures.ok in
     let player = c.in_ok-player.player in
     let n = part_start player in
-    record {
+    all_fed g.W.Write.contents p _ s [] (record {
       same = refl;
       taps = refl;
       start = refl;
@@ -95,4 +95,4 @@ returns-clause-has g c =
       written = subst (Appends a b) (sym (ap (λ xs. sound_header d fs ++ xs) (ap (part_due player) (drop-nil n) ∙ due_at_first player) ∙ append-nil (sound_header d fs))) opens.written;
       ready = c.requires.ready;
       failures = omega (arith, c.in_ok-put_header.ensures.failures);
-    }
+    })

@@ -1,27 +1,36 @@
 use Rattle.std.proofs.Common.{arith, refl}
 use Rattle.sound_core.proofs.FaultLaws.{fault_is}
 use Rattle.sound_core.proofs.TakingLaws.{part_within}
-use Rattle.player_core.proofs.PartSinkLaws.{came_few, fed_few, part_playing_on, part_playing_refuses}
+use Rattle.player_core.proofs.PartSinkLaws.{all_fed, came_few, fed_few, feeding_all, part_playing_on, part_playing_refuses, passed_on}
 use Rattle.player_core.proofs.part_sink.PartSinkSoundSink.take.Goals as goal
+
+pub returns-then-is_complete-clause-has : goal.returns-then-is_complete-clause-has
+returns-then-is_complete-clause-has g c = λ first before fed is.
+    passed_on g.W.Write.contents first c.args.self.now c.args._part.sound before is c.in-Some.player c.in-Some.is (c.is_complete.ensures.complete c.if-is_complete.true) c.args.bytes.now _ refl refl refl refl refl refl refl
 
 pub put_part_due-requires-clause-few : goal.put_part_due-requires-clause-few
 put_part_due-requires-clause-few g c =
     let fed = c.requires.fed in
-    fed_few g.W.Write.contents fed.0 c.args.self.now c.args._part.sound fed.1 fed.3 c.in-Some.player c.in-Some.is c.args.bytes.now (omega (arith, part_within c.args._part fed.1 fed.2, c.requires.size))
+    let early = c.is_complete.ensures.incomplete c.if-is_complete.false in
+    fed_few g.W.Write.contents fed.0 c.args.self.now c.args._part.sound fed.1 (feeding_all g.W.Write.contents fed.0 c.args.self.now c.args._part.sound fed.1 fed.3 c.in-Some.player c.in-Some.is early) c.in-Some.player c.in-Some.is c.args.bytes.now (omega (arith, part_within c.args._part fed.1 fed.2, c.requires.size))
 
 pub returns-in_err-put_part_due-in-Some-clause-refused : goal.returns-in_err-put_part_due-in-Some-clause-refused
 returns-in_err-put_part_due-in-Some-clause-refused g c =
     let put = c.in_err-put_part_due-in-Some.ensures in
+    let early = c.is_complete.ensures.incomplete c.if-is_complete.false in
     rw (fault_is c.from_residual.result _ c.from_residual.ensures.1) (λ first before fed is.
-    part_playing_refuses g.W.Write.contents first c.args.self.now c.args._part.sound before is c.in-Some.player c.in-Some.is _ c.args.bytes.now refl c.in_err-put_part_due-in-Some.field-0.0 put.fault put.prefix put.failures)
+    part_playing_refuses g.W.Write.contents first c.args.self.now c.args._part.sound before (feeding_all g.W.Write.contents first c.args.self.now c.args._part.sound before is c.in-Some.player c.in-Some.is early) c.in-Some.player c.in-Some.is _ c.args.bytes.now refl c.in_err-put_part_due-in-Some.field-0.0 put.fault put.prefix put.failures)
 
 pub overflow_add-self : goal.overflow_add-self
 overflow_add-self g c =
     let fed = c.requires.fed in
-    omega (arith, came_few g.W.Write.contents fed.0 c.args.self.now c.args._part.sound fed.1 fed.3 c.in-Some.player c.in-Some.is c.args.bytes.now (omega (arith, part_within c.args._part fed.1 fed.2, c.requires.size)))
+    let early = c.is_complete.ensures.incomplete c.if-is_complete.false in
+    omega (arith, came_few g.W.Write.contents fed.0 c.args.self.now c.args._part.sound fed.1 (feeding_all g.W.Write.contents fed.0 c.args.self.now c.args._part.sound fed.1 fed.3 c.in-Some.player c.in-Some.is early) c.in-Some.player c.in-Some.is c.args.bytes.now (omega (arith, part_within c.args._part fed.1 fed.2, c.requires.size)))
 
 pub returns-clause-has : goal.returns-clause-has
 returns-clause-has g c =
     let put = c.in_ok-put_part_due-in-Some.ensures in
+    let early = c.is_complete.ensures.incomplete c.if-is_complete.false in
     λ first before fed is.
-    part_playing_on g.W.Write.contents first c.args.self.now c.args._part.sound before is c.in-Some.player c.in-Some.is _ c.args.bytes.now refl refl refl refl refl c.put_part_due.new.player refl put.player put.same put.ok (omega (arith, put.failures))
+    all_fed g.W.Write.contents first _ c.args._part.sound _
+    (part_playing_on g.W.Write.contents first c.args.self.now c.args._part.sound before (feeding_all g.W.Write.contents first c.args.self.now c.args._part.sound before is c.in-Some.player c.in-Some.is early) c.in-Some.player c.in-Some.is _ c.args.bytes.now refl refl refl refl refl c.put_part_due.new.player refl put.player put.same put.ok (omega (arith, put.failures)))

@@ -1,0 +1,75 @@
+-- Forms whose first chunks tell that their file holds no recording.
+use Rattle.std.specs.Prelude.{◌≡◌, ◌≤◌, ◌<◌, ◌⊎◌, ℕ, ◌+◌, Bool, true, false, List, [], ◌++◌, length, map, drop, find, is_some, Result, Ok, Err}
+use Rattle.chunk_core.specs.declared.layout.Span.{Span}
+use Rattle.chunk_core.specs.Places.{span_chunk}
+use Rattle.chunk_core.specs.Reading.{spans_in}
+use Rattle.chunk_core.specs.Steps.{◌>>=◌}
+use Rattle.dsd_bits.specs.Ids.{FVER, DSD}
+use Rattle.dsdiff_core.specs.declared.fault.DsdiffFault.{DsdiffFault}
+use Rattle.dsdiff_core.specs.declared.fault.DsdiffFault.TheVariants.{Twice}
+use Rattle.dsdiff_core.specs.declared.faulty.FaultyStart.{FaultyStart}
+use Rattle.dsdiff_core.specs.Fields.{form_end, form_size}
+use Rattle.dsdiff_core.specs.Forms.{known_version}
+use Rattle.dsdiff_core.specs.Headers.{form_of, size_at}
+use Rattle.dsdiff_core.specs.Properties.{property_of}
+use Rattle.dsdiff_core.specs.Spans.{holds_property, once_each, span_has, top_kinds}
+
+-- what chunks of a form come to by their version and by the kinds that occur once
+abbrev pub kinds_of : List ℕ → List Span → Result (Unit {0}) DsdiffFault
+kinds_of file top = known_version (map (span_chunk file) top) >>= λ known. once_each (top_kinds file) [] top
+
+-- the same, and then by their sound property
+abbrev pub judged : List ℕ → List Span → Result (Unit {0}) DsdiffFault
+judged file top = kinds_of file top >>= λ kinds. property_of file top >>= λ stated. Ok tt
+
+-- the fault of some chunks and later ones: where it is open, a later chunk that is the second of its kind comes first
+abbrev pub first_fault : DsdiffFault → Bool → Result (Unit {0}) DsdiffFault → DsdiffFault
+first_fault fault true (Err second) = second
+first_fault fault true (Ok u) = fault
+first_fault fault false later = fault
+
+-- the fault with one more chunk of this ID, which may be the second of its kind, and whether a later one may come before it
+abbrev pub fault_with : DsdiffFault → Bool → List ℕ → Bool → DsdiffFault × Bool
+fault_with fault true id true = (Twice id, false)
+fault_with fault true id false = (fault, true)
+fault_with fault false id second = (fault, false)
+
+-- some chunks have this fault: one of their kinds, or, where it is open, of their sound property
+abbrev pub TellFault : List ℕ → List Span → DsdiffFault → Bool → Type 0
+TellFault file lead fault false = (1 ≤ length lead) × (kinds_of file lead ≡ Err fault)
+TellFault file lead fault true = (kinds_of file lead ≡ Ok tt) × (is_some (find (holds_property file) lead) ≡ true) × (property_of file lead ≡ Err fault)
+
+-- whichever chunks follow these, what is told is the fault of all of them, and which kinds have come
+pub record AreJudged (file : List ℕ) (lead : List Span) (s : FaultyStart) : Type 0 where
+  pub fault : (later : List Span) → judged file (lead ++ later) ≡ Err (first_fault s.fault s.is_open (once_each (top_kinds file) lead later))
+  pub version : s.version ≡ is_some (find (span_has FVER) lead)
+  pub property : s.property ≡ is_some (find (holds_property file) lead)
+  pub sound : s.sound ≡ is_some (find (span_has DSD) lead)
+
+-- where the next chunk after the first ones begins
+abbrev pub next_place : FaultyStart → ℕ
+next_place s = s.end + s.pad
+
+-- the first chunks of the file's form end here, and tell this fault
+pub record IsFaulty (file : List ℕ) (s : FaultyStart) : Type 0 where
+  pub form : form_of file ≡ Ok tt
+  pub size : s.form ≡ form_size file
+  pub low : 16 ≤ s.end
+  pub inside : s.end ≤ form_end file
+  pub lead : List Span
+  pub found : (stop : ℕ) → s.end ≤ stop → spans_in file 16 stop ≡ (spans_in file (next_place s) stop >>= λ later. Ok (lead ++ later))
+  pub judges : AreJudged file lead s
+
+-- so many bytes are all of the file, or its form is among them
+abbrev pub IsSeen : List ℕ → ℕ → Type 0
+IsSeen file total = (length file ≡ total) ⊎ ((12 + form_size file ≤ total) × (total ≤ length file))
+
+-- the form ends within the chunk after the first ones, or before it
+abbrev pub EndsInNext : List ℕ → FaultyStart → Type 0
+EndsInNext file s = next_place s + 12 ≤ form_end file → form_end file < next_place s + 12 + size_at file (next_place s)
+
+-- these are the bytes of the file from its next chunk on: 16 of them at least, or all, or all of the form
+pub record AreNext (file : List ℕ) (s : FaultyStart) (bytes : List ℕ) : Type 0 where
+  pub more : List ℕ
+  pub are : drop (next_place s) file ≡ bytes ++ more
+  pub enough : (16 ≤ length bytes) ⊎ (more ≡ []) ⊎ (12 + form_size file ≤ next_place s + length bytes)

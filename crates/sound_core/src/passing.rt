@@ -1,0 +1,126 @@
+//! The first fault of a DSDIFF file whose first chunks tell that it holds no recording. Later chunks are passed.
+
+ghost use Rattle.std.specs.Prelude.{◌≡◌, ◌≤◌, ◌<◌, ◌-◌, ◌^◌, List, ℕ, IfErr, IfOk, OnOk, length};
+ghost use Rattle.chunk_core.specs.declared.inlet.Inlet.{Inlet};
+ghost use Rattle.dsdiff_core.specs.Faulty.{AreNext, EndsInNext, IsFaulty};
+ghost use Rattle.sound_core.specs.Causes.{IsUnsure};
+ghost use Rattle.sound_core.specs.Faults.{IsReadingFault};
+ghost use Rattle.sound_core.specs.Naming.{NamesFault};
+ghost use Rattle.sound_core.specs.Passing.{EndLater, IsOn, WalksTo};
+ghost use Rattle.sound_core.specs.Readers.{Counts, IsReading, IsSame};
+ghost use Rattle.sound_core.specs.Reads.{Reads};
+
+use crate::cause::Cause;
+use crate::fault::StreamFault;
+use crate::reader::SoundReader;
+use dsdiff_core::{FaultyStart, fault_after, next_chunk};
+use form_core::ReadFault;
+use std::io::Read;
+
+/// How far chunks of a form were passed.
+#[derive(Clone, Copy)]
+pub(crate) enum Passed {
+    /// To the next chunk: what those before it tell.
+    More(FaultyStart),
+    /// To the end of the form or the file: what all whole chunks tell.
+    All(FaultyStart),
+}
+
+/// The first fault of a DSDIFF file whose first chunks tell that it holds no recording.
+pub(crate) fn name_faulty<R: Read>(
+    reader: &mut SoundReader<'_, R>,
+    start: FaultyStart,
+) -> Result<ReadFault, StreamFault>
+    requires known { (first : Inlet R) × IsUnsure R.remaining first reader.old (Cause.Faulty start) }
+    ensures same { IsSame reader.old reader.new }
+    ensures named { (first : Inlet R) → IsUnsure R.remaining first reader.old (Cause.Faulty start)
+        → IfOk result (NamesFault R.remaining first reader.new.inlet.now) }
+    ensures counts { Counts reader.old reader.new result }
+    ensures fault { IfErr result IsReadingFault }
+{
+    reader.drop_ahead(start.end + start.pad);
+    name_passed(reader, start)
+}
+
+// The same, from the next chunk on.
+fn name_passed<R: Read>(
+    reader: &mut SoundReader<'_, R>,
+    start: FaultyStart,
+) -> Result<ReadFault, StreamFault>
+    requires reading { IsReading reader.old }
+    requires on { (file : List ℕ) × IsOn reader.old file start }
+    ensures same { IsSame reader.old reader.new }
+    ensures named { (first : Inlet R) (file : List ℕ) → IsOn reader.old file start
+        → Reads R.remaining first reader.old.inlet.now file
+        → IfOk result (NamesFault R.remaining first reader.new.inlet.now) }
+    ensures counts { Counts reader.old reader.new result }
+    ensures fault { IfErr result IsReadingFault }
+{
+    let mut now = start;
+    loop {
+        match pass_chunk(reader, now)? {
+            Passed::More(next) => now = next,
+            Passed::All(last) => {
+                let total = reader.inlet.given() - reader.given;
+                return Ok(ReadFault::from(fault_after(last, total)));
+            }
+        }
+    }
+}
+
+// Passes the next chunk, or what is there of it. Where its data go past the form, the form is passed.
+fn pass_chunk<R: Read>(
+    reader: &mut SoundReader<'_, R>,
+    start: FaultyStart,
+) -> Result<Passed, StreamFault>
+    requires reading { IsReading reader.old }
+    requires on { (file : List ℕ) × IsOn reader.old file start }
+    ensures same { IsSame reader.old reader.new }
+    ensures reading { OnOk result (IsReading reader.new) }
+    ensures passed { (file : List ℕ) → IsOn reader.old file start
+        → IfOk result (WalksTo R.remaining reader.old reader.new file) }
+    ensures later { IfOk result (EndLater start) }
+    ensures counts { Counts reader.old reader.new result }
+    ensures fault { IfErr result IsReadingFault }
+{
+    let left = left_of(start);
+    let wanted = left.min(16);
+    reader.read_until(wanted)?;
+    if (reader.ahead.len() as u64) < wanted {
+        return Ok(Passed::All(last_passed(start, reader.ahead.as_slice())));
+    }
+    let Some(next) = next_chunk(start, reader.ahead.as_slice()) else {
+        let _whole = reader.pass(left)?;
+        return Ok(Passed::All(start));
+    };
+    reader.drop_ahead(12);
+    if !reader.pass(next.size)? {
+        return Ok(Passed::All(start));
+    }
+    if !reader.pass(next.after.pad as u64)? {
+        return Ok(Passed::All(next.after));
+    }
+    Ok(Passed::More(next.after))
+}
+
+// How many bytes the form has from the next chunk on.
+fn left_of(start: FaultyStart) -> u64
+    ensures { result ≡ start.form - (start.end - 12) - start.pad }
+{
+    start
+        .form
+        .saturating_sub((start.end as u64).saturating_sub(12))
+        .saturating_sub(start.pad as u64)
+}
+
+// What all whole chunks tell of a file that ends with these bytes, which are fewer than 16 from the next chunk on.
+fn last_passed(start: FaultyStart, bytes: &[u8]) -> FaultyStart
+    requires { length bytes.now < 16 }
+    ensures { (file : List ℕ) → IsFaulty file start → AreNext file start bytes.now → length file < 2 ^ 64
+        → IsFaulty file result × EndsInNext file result }
+{
+    match next_chunk(start, bytes) {
+        Some(next) if next.size <= (bytes.len() - 12) as u64 => next.after,
+        _ => start,
+    }
+}

@@ -6,6 +6,7 @@
  * With -s each file is played from that second on. */
 #include <alsa/asoundlib.h>
 #include <dsdarc.h>
+#include <errno.h>
 #include <stdio.h>
 #include <stdlib.h>
 #include <string.h>
@@ -44,7 +45,7 @@ static int play(const char *device, const char *text, size_t text_size, double f
     dsdarc_status status = dsdarc_player_new(text, text_size, &player);
     size_t size, at, taken, given;
     int fault = 0;
-    if (!file) return told(name, "it can't be read");
+    if (!file) return dsdarc_player_drop(player), told(name, "it can't be read");
     while (status == DSDARC_OK && fault >= 0 && (size = fread(bytes, 1, BLOCK, file)) > 0)
         for (at = 0; at < size && status == DSDARC_OK && fault >= 0; at += taken) {
             if ((status = dsdarc_player_push(player, bytes + at, size - at, &taken)) != DSDARC_OK) break;
@@ -53,7 +54,8 @@ static int play(const char *device, const char *text, size_t text_size, double f
                 if ((fault = open_device(&pcm, device, &info)) < 0) break;
                 if (from > 0) {
                     status = dsdarc_player_seek(player, (uint64_t)(from * info.rate), &offset);
-                    if (status != DSDARC_OK || fseek(file, (long)offset, SEEK_SET)) break;
+                    if (status == DSDARC_OK && fseek(file, (long)offset, SEEK_SET)) fault = -errno, device = name;
+                    if (status != DSDARC_OK || fault < 0) break;
                     size = taken = at = 0;
                 }
             }

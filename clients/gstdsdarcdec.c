@@ -242,7 +242,7 @@ static gboolean seek(Dec *dec, GstEvent *event) {
     GstSegment segment = dec->segment;
     GstEvent *flush, *before;
     gint64 start, stop;
-    guint64 frame, offset;
+    guint64 frame, offset = 0;
     dsdarc_status status;
     guint32 number = gst_event_get_seqnum(event);
     gst_event_parse_seek(event, &rate, &format, &flags, &type, &start, &stop_type, &stop);

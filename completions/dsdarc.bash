@@ -64,14 +64,18 @@ _dsdarc() {
         if [ "$first" -eq 1 ]; then _dsdarc_words --explain --help --version; fi
         return
     fi
-    # The options of play come before its names, and each takes a word of its own.
-    local next=$((first + 1))
+    # The options of play come before its names, and each takes a word of its own. Bash splits words at : and @.
+    local next=$((first + 1)) width
     if [ "$command" = play ]; then
         while [ "$next" -lt "$COMP_CWORD" ]; do
             case "${COMP_WORDS[next]}" in
-                --from | --to) next=$((next + 2)) place=$((place - 2)) ;;
+                --from | --to) ;;
                 *) break ;;
             esac
+            width=2
+            if [ "${COMP_WORDS[next + 1]-}" = @ ]; then width=3; fi
+            while [ "${COMP_WORDS[next + width]-}" = : ]; do width=$((width + 2)); done
+            next=$((next + width)) place=$((place - width))
         done
         if [ "$next" -gt "$COMP_CWORD" ]; then
             compopt +o default 2>/dev/null
@@ -93,8 +97,8 @@ _dsdarc() {
             _dsdarc_stream
             ;;
         sum:*)
-            if [ "$COMP_CWORD" -eq 2 ]; then _dsdarc_words --check; fi
-            if [ "${COMP_WORDS[2]-}" = --check ]; then
+            if [ "$place" -eq 2 ]; then _dsdarc_words --check; fi
+            if [ "$place" -gt 2 ] && [ "${COMP_WORDS[next]}" = --check ]; then
                 _dsdarc_add < <(compgen -f -- "$cur")
             else
                 _dsdarc_files '[dD][fF][fF]' '[dD][sS][fF]'

@@ -1,8 +1,8 @@
 """A fade from take to take, modulated anew, that joins both without a click.
 
 From the first take a modulator goes on, and another leads up to the second (`continuing`), each through the whole
-fade. Somewhere inside both meet: several of each are tried, and all places near the middle, and where they owe most
-nearly the same the one is cut to the other. Each channel has a place of its own, as these bits belong to no take.
+fade. Somewhere inside both meet: several of each are tried, and all places near the middle, and where a few bits chosen
+anew join them best the one is cut to the other. Each channel has a place of its own, as these bits belong to no take.
 
 Two numbers of all that is owed can't be changed by choosing bits: their sum is odd or even, and so is their first
 moment. So the middle of the crossfade moves in each channel until the sum is right (`crossfades`), and what is left of
@@ -20,15 +20,17 @@ from crossfades import SETTLED as EVEN
 from crossfades import Crossfade, Sounds, above, even_middle, wrapped
 from hearing import hearing_of
 from material import modulators
-from meeting import Field
+from meeting import LINK, Field
 from owing import sounds
 from spectra import let_in
 from takes import Signals
 
-TRIED = 10  # modulators of each direction, twice as many where there are few places
-PLACES = 12_000  # around the middle at which both may meet
-TRIES = 3  # of a channel, until next to no moment is left
-SETTLED = 0.01  # of a first moment
+TRIED = 8  # modulators of each direction, twice as many where there are few places
+PLACES = 8_000  # around the middle at which both may meet
+TRIES = 3  # of a channel, until next to no moment is left and no more is heard than a modulator's noise
+SETTLED = 0.005  # of a first moment
+NOISE = 1.5e-6  # the peak of such noise
+APART = 33  # between the seeds of tries
 DOWN = 240  # dB: what a low-pass leaves of the sound in the errors adds to their moments
 
 # How much of a fade the ramp takes, and how far its middle may move from the wished place: what is tried in turn.
@@ -195,7 +197,8 @@ def bumps(length: int) -> tuple[np.ndarray, np.ndarray]:
 
 @dataclass(frozen=True)
 class Joint:
-    """The signs of one channel of a fade; how much is heard of where its halves meet, and the first moment of that."""
+    """The signs of one channel of a fade; how much is heard of where its halves meet, and what is left of the first
+    moment there."""
 
     signs: np.ndarray
     heard: float
@@ -208,15 +211,17 @@ def joined(program: Path, modulator: modulators.Modulator, rate: int, known: tup
     before, sound, after = known
     length = len(sound)
     first = max(length // 2 - PLACES // 2, length // 8)
-    field = Field(rate, length, first, length - first)
+    field = Field(rate, first, length - first)
     pasts = past_of(modulator, rate, before), past_of(modulator, rate, after[::-1])
     parts, halves = (sound[: field.stop], sound[first:][::-1]), ([], [])
     for it in range(TRIED if field.stop - first > PLACES // 2 else 2 * TRIED):
         for number, (half, past, part) in enumerate(zip(halves, pasts, parts)):
             half.append(continued(program, modulator, rate, past, part, seed + 2 * it + 1 + number))
     fronts, rears = np.stack(halves[0]), np.stack(halves[1])[:, ::-1]
-    found = field.quietest(field.fronts(before, fronts - parts[0]), field.rears(rears - sound[first:], after))
-    signs = np.concatenate([fronts[found.front, : found.place], rears[found.rear, found.place - first :]])
+    ends = field.fronts(before, fronts - parts[0]), field.rears(rears - sound[first:], after)
+    found = field.quietest((fronts, ends[0]), (rears, ends[1]))
+    ahead, behind = fronts[found.front, : found.place], rears[found.rear, found.place - first :]
+    signs = np.concatenate([ahead[: -(LINK // 2)], found.link, behind[LINK // 2 :]])
     return Joint(signs, found.heard, found.moment)
 
 
@@ -245,11 +250,11 @@ def settled(program: Path, rate: int, known: tuple, moment: float, seed: int) ->
     low frequencies has a moment too, which is seen where both halves meet, and taken up in the next try."""
     before, sound, after = known
     slope, found = bumps(len(sound))[1], []
-    for _ in range(TRIES):
+    for number in range(TRIES):
         row = sound + moment * slope
-        joint = stable(program, rate, (before, row, after), seed)
-        found.append((joint.heard, len(found), joint.signs))
-        if abs(joint.moment) < SETTLED:
+        joint = stable(program, rate, (before, row, after), seed + number * APART)
+        found.append((joint.heard, number, joint.signs))
+        if abs(joint.moment) < SETTLED and joint.heard < NOISE:
             break
         moment += joint.moment
     return min(found, key=lambda it: it[:2])[2]

@@ -1,94 +1,166 @@
 """Where bits that go on from one take meet bits that lead up to another, so that nearly nothing is heard of it.
 
-What is heard is computed from the spectrum of all errors before a place and of all from it on, as seen from there, at
-the lines of `continuing`."""
+What is heard of errors that end or begin at a place is told by some numbers (`Ends`). A link, a few bits about the
+place that are chosen anew, changes the first of them as finely as is needed, and the next ones by even multiples of a
+step: of these what is off the nearest even number stays, whatever the bits. The others it hardly changes. So first the
+meetings are found where least is left that no link changes, and then for each of them the link that leaves least.
+
+Only errors that are heard around the place count. The rest of a fade has noise of its own, elsewhere."""
 from dataclasses import dataclass
 from functools import lru_cache
 
 import numpy as np
+from scipy import fft
+from scipy.spatial import cKDTree
 
-from continuing import turns
 from hearing import hearing_of
 
-LOW = 6  # lines from which a first moment is computed
-KEPT = 512  # meetings of the least energy, of which the one with the lowest peak is taken
-STEPS = 64  # times at which a click is computed, over one period of the lines
+AROUND = 1024  # bits at 2,822,400 Hz to each side of a place, in which a click is told
+STEP = 16  # such bits between the times at which it is
+FAR = 100  # such bits to each side, of whose errors the numbers tell
+NEAR = 40  # such bits within which these count most
+NUMBERS = 12
+FREE = 3  # numbers that a link changes finely
+EVEN = 3  # numbers that it changes by even multiples: with them go the sum of the errors, and their moments
+LINK = 16  # bits of a link
+KEPT = 2048  # meetings for which a link is looked for
+
+
+class Ends:
+    """Numbers that tell what is heard of errors that end or begin at a place: the sum of their squares is as loud as
+    the click. `click` tells from numbers what is heard at some times around the place, and `reach` is how far errors
+    count."""
+
+    def __init__(self, rate: int):
+        hearing, scale = hearing_of(rate), rate / 2_822_400
+        times = np.rint(np.arange(-AROUND, AROUND + 1, STEP) * scale).astype(int)
+        self.reach = hearing.half + int(times[-1])
+        far = int(FAR * scale)
+        taps = np.pad(hearing.taps, self.reach + int(times[-1]) + far)
+        self.heard = lambda places: taps[len(taps) // 2 + times[:, None] - places]
+        near = np.arange(-far, far)
+        waves = self.heard(near)
+        basis = np.linalg.svd(waves * np.exp(-((near / (NEAR * scale)) ** 2) / 2))[0][:, :NUMBERS]
+        steps, bits = [], waves[:, far - LINK // 2 : far + LINK // 2]
+        for _ in range(FREE + EVEN):
+            steps.insert(0, bits[:, bits.shape[1] // 2])
+            bits = np.diff(bits, axis=1)
+        turn, sizes = np.linalg.qr(basis.T @ np.transpose(steps), mode="complete")
+        self.click = (basis @ turn).T
+        self.steps = sizes[FREE : FREE + EVEN, FREE : FREE + EVEN]
+        self.bits = (self.click @ waves[:, far - LINK // 2 : far + LINK // 2]).T
+        self.links = cKDTree(link(np.arange(1 << LINK)) @ self.bits)
+
+    @lru_cache(maxsize=8)
+    def spectra(self, places: tuple[int, int], size: int) -> np.ndarray:
+        """Those of the numbers of errors of 1 at places from one to another, for so many places."""
+        return fft.rfft(self.click @ self.heard(np.arange(*places, 1 if places[0] < places[1] else -1)), size, axis=1)
+
+    def told(self, errors: np.ndarray, places: tuple[int, int]) -> np.ndarray:
+        """The numbers of rows of errors, of which those count that lie at some places: a column for each place that has
+        all of these."""
+        size = fft.next_fast_len(errors.shape[1], real=True)
+        found = fft.irfft(fft.rfft(errors, size, axis=1)[:, None] * self.spectra(places, size), size, axis=2)
+        return found[:, :, self.reach - 1 : errors.shape[1]]
+
+    def before(self, errors: np.ndarray) -> np.ndarray:
+        """What is heard of rows of errors that end: for each row the numbers, a column for each place that has `reach`
+        errors before it."""
+        return self.told(errors, (-1, -1 - self.reach))
+
+    def after(self, errors: np.ndarray) -> np.ndarray:
+        """The same of errors that begin, for each place that has `reach` errors from it on."""
+        return self.told(errors[:, ::-1], (0, self.reach))[:, :, ::-1]
+
+    def left(self, numbers: np.ndarray) -> tuple[np.ndarray, np.ndarray]:
+        """How loud that is, squared, of numbers what no link changes: in rows with a column for each place. And how far
+        the first moment is from even numbers."""
+        rest = [numbers[:, FREE + it] for it in range(EVEN)]
+        fixed = numbers[:, FREE + EVEN :]
+        squares = np.einsum("inp,inp->ip", fixed, fixed)
+        for step in reversed(range(EVEN)):
+            even = 2 * np.rint(rest[step] / (2 * self.steps[step, step]))
+            for it in range(step + 1):
+                rest[it] = rest[it] - even * self.steps[it, step]
+            squares += rest[step] ** 2
+        return squares, rest[EVEN - 2] / self.steps[EVEN - 2, EVEN - 2]
 
 
 @lru_cache
-def waves(rate: int) -> np.ndarray:
-    """What is heard, at some times around a place, of the numbers of a spectrum as it is seen from there."""
-    turn, hearing = turns(rate), hearing_of(rate)
-    middle = np.arange(-hearing.half, hearing.half + 1)
-    loud = (np.cos(np.outer(turn, middle)) @ hearing.taps) * turn[1] / np.pi
-    loud[0] /= 2
-    time = (np.arange(STEPS) / STEPS - 0.5) * 2 * np.pi / turn[1]
-    found = np.exp(1j * np.outer(turn, time)) * loud[:, None]
-    return np.concatenate([found.real, -found.imag])
+def ends_of(rate: int) -> Ends:
+    return Ends(rate)
+
+
+def link(number: np.ndarray) -> np.ndarray:
+    """The signs of a link, one of each whole number."""
+    return (number[..., None] >> np.arange(LINK) & 1) * 2.0 - 1
 
 
 @dataclass(frozen=True)
 class Meeting:
-    """Which front and which rear meet, at which place; how loud the peak is that is heard of it, and the first moment
-    of that."""
+    """Which front and which rear meet, at which place, and the link about it; how loud the peak is that is heard of it;
+    and how far the first moment of nearly all meetings is from even numbers."""
 
     front: int
     rear: int
     place: int
+    link: np.ndarray
     heard: float
     moment: float
 
 
 @dataclass(frozen=True)
 class Field:
-    """The places at which both may meet in a fade of `length` bits: from `first` on and before `stop`."""
+    """The places at which both may meet in a fade: from `first` on and before `stop`."""
 
     rate: int
-    length: int
     first: int
     stop: int
 
-    def base(self, errors: np.ndarray, first: int, turn: float) -> np.ndarray:
-        """One line of the spectrum of errors that begin at a place, as seen from the start of the fade."""
-        return errors @ np.exp(-1j * turn * np.arange(first, first + errors.shape[-1]))
-
     def fronts(self, before: np.ndarray, errors: np.ndarray) -> np.ndarray:
-        """The spectra of the errors before the fade and of some fronts, up to each place, as seen from it: rows of
-        numbers for each front, a column for each place."""
-        found = np.empty((len(errors), 2 * len(turns(self.rate)), self.stop - self.first))
-        for line, turn in enumerate(turns(self.rate)):
-            base = self.base(before, -len(before), turn) + self.base(errors[:, : self.first], 0, turn)
-            self.put(found, line, base, errors[:, self.first : self.stop], turn)
-        return found
+        """The numbers of the errors before the fade and of some fronts, at each place: of all before it."""
+        ends = ends_of(self.rate)
+        low = self.first - ends.reach
+        known = np.broadcast_to(before[len(before) + min(low, 0) :], (len(errors), max(-low, 0)))
+        return ends.before(np.concatenate([known, errors[:, max(low, 0) : self.stop - 1]], axis=1))
 
     def rears(self, errors: np.ndarray, after: np.ndarray) -> np.ndarray:
-        """The same of some rears, which begin at the first place, and the errors after the fade: from each place on."""
-        found = np.empty((len(errors), 2 * len(turns(self.rate)), self.stop - self.first))
-        for line, turn in enumerate(turns(self.rate)):
-            base = self.base(errors, self.first, turn) + self.base(after, self.length, turn)
-            self.put(found, line, base, -errors[:, : self.stop - self.first], turn)
-        return found
+        """The same of some rears, which begin at the first place, and the errors after the fade: of all from it on."""
+        ends = ends_of(self.rate)
+        high = self.stop - self.first + ends.reach - 1
+        more = max(high - errors.shape[1], 0)
+        known = np.broadcast_to(after[:more], (len(errors), more))
+        return ends.after(np.concatenate([errors[:, :high], known], axis=1))
 
-    def put(self, found: np.ndarray, line: int, base: np.ndarray, errors: np.ndarray, turn: float) -> None:
-        """A line at each place: what there is at the first of them, and the errors that come to it."""
-        away = np.exp(-1j * turn * np.arange(self.first, self.stop))
-        seen = np.empty(errors.shape, complex)
-        seen[:, 0] = 0
-        np.cumsum(errors[:, :-1] * away[:-1], axis=1, out=seen[:, 1:])
-        seen += base[:, None]
-        seen *= away.conj()
-        found[:, line], found[:, line + found.shape[1] // 2] = seen.real, seen.imag
+    def suited(self, fronts: np.ndarray, rears: np.ndarray) -> tuple[np.ndarray, float]:
+        """Meetings at which least is left that no link changes, rows of a front, a rear and how far the place is from
+        the first; and how far their first moments are from even numbers."""
+        ends, found = ends_of(self.rate), []
+        for number, front in enumerate(fronts):
+            squares, moments = ends.left(front + rears)
+            best = least(squares)
+            places = np.unravel_index(best, squares.shape)
+            found.append(np.stack([squares.flat[best], moments.flat[best], np.full(len(best), number), *places]))
+        every = np.concatenate(found, axis=1)
+        kept = every[:, least(every[0])]
+        return kept[2:].T.astype(int), float(np.median(kept[1]))
 
-    def quietest(self, fronts: np.ndarray, rears: np.ndarray) -> Meeting:
-        """Which front and which rear are quietest together, and where."""
-        heard = 2 * np.einsum("inp,jnp->ijp", fronts, rears)
-        heard += np.einsum("inp,inp->ip", fronts, fronts)[:, None]
-        heard += np.einsum("jnp,jnp->jp", rears, rears)
-        best = np.argpartition(heard, KEPT, axis=None)[:KEPT]
-        i, j, place = np.unravel_index(best, heard.shape)
-        left = fronts[i, :, place] + rears[j, :, place]
-        peaks = np.abs(left @ waves(self.rate)).max(axis=1)
-        least = int(np.lexsort((best, peaks))[0])
-        imag = left[least, left.shape[1] // 2 :]
-        moment = -float(np.mean(imag[1:LOW] / turns(self.rate)[1:LOW]))
-        return Meeting(int(i[least]), int(j[least]), self.first + int(place[least]), float(peaks[least]), moment)
+    def quietest(self, fronts: tuple[np.ndarray, np.ndarray], rears: tuple[np.ndarray, np.ndarray]) -> Meeting:
+        """The quietest meeting of fronts and rears: the signs of each, and their numbers."""
+        ends, half = ends_of(self.rate), np.arange(LINK // 2)
+        meetings, moment = self.suited(fronts[1], rears[1])
+        i, j, away = meetings.T
+        ahead = fronts[0][i[:, None], self.first + away[:, None] + half - LINK // 2]
+        behind = rears[0][j[:, None], away[:, None] + half]
+        wanted = np.concatenate([ahead, behind], axis=1) @ ends.bits - fronts[1][i, :, away] - rears[1][j, :, away]
+        links = ends.links.query(wanted)[1]
+        peaks = np.abs((ends.links.data[links] - wanted) @ ends.click).max(axis=1)
+        best = int(peaks.argmin())
+        place = self.first + int(away[best])
+        return Meeting(int(i[best]), int(j[best]), place, link(links[best]), float(peaks[best]), moment)
+
+
+def least(numbers: np.ndarray) -> np.ndarray:
+    """Where the least numbers are, as many as meetings are kept."""
+    every = np.arange(numbers.size)
+    return every if numbers.size <= KEPT else np.sort(np.argpartition(numbers, KEPT, axis=None)[:KEPT])

@@ -2,12 +2,14 @@
  *
  * Each run plays a file twice: once as it comes, and once in random pushes, pulls, seeks, calls with null pointers and
  * sizes that can't be. What the second pulls from a frame on has to be what the first pulled there, and without a seek
- * the verdict at the end has to be the same. Every buffer has just the size that is told, so that AddressSanitizer sees
- * each byte beyond. */
+ * the verdict at the end has to be the same. AddressSanitizer sees what is freed twice or never. The library's own code
+ * isn't made for it, so every buffer of a call has just the size that is told, ends before a page that nothing may touch,
+ * and is gone after the call. */
 #include <dsdarc.h>
 #include <stdio.h>
 #include <stdlib.h>
 #include <string.h>
+#include <sys/mman.h>
 
 static uint64_t state;
 
@@ -33,10 +35,31 @@ static unsigned char *whole(const char *name, size_t *size) {
     return bytes;
 }
 
-static void *copied(const void *bytes, size_t size) {
-    void *copy = malloc(size ? size : 1);
-    memcpy(copy, bytes, size);
-    return copy;
+enum { PAGE = 4096, FILL = 0xa5 };
+
+/* How much is mapped for a buffer, but for the page behind it. */
+static size_t mapped(size_t size) { return (size + PAGE - 1) / PAGE * PAGE; }
+
+/* A buffer whose last byte is before a page that nothing may touch. */
+static unsigned char *fenced(size_t size) {
+    size_t whole = mapped(size);
+    unsigned char *base = mmap(NULL, whole + PAGE, PROT_READ | PROT_WRITE, MAP_PRIVATE | MAP_ANONYMOUS, -1, 0);
+    if (base == MAP_FAILED || mprotect(base + whole, PAGE, PROT_NONE)) exit(2);
+    memset(base, FILL, whole - size);
+    return base + whole - size;
+}
+
+static unsigned char *copied(const void *bytes, size_t size) {
+    return memcpy(fenced(size), bytes, size);
+}
+
+/* Gives a buffer back; nothing may have been written before it. */
+static void forget(unsigned char *bytes, size_t size, unsigned long run) {
+    size_t whole = mapped(size);
+    unsigned char *base = bytes + size - whole;
+    for (size_t n = 0; n < whole - size; n++)
+        if (base[n] != FILL) fail("something is written before a buffer", run);
+    if (munmap(base, whole + PAGE)) exit(2);
 }
 
 /* What a file plays to, taken as it comes. */
@@ -84,11 +107,11 @@ static void at_random(unsigned long run, const unsigned char *text, size_t text_
         size_t kind = below(20);
         if (kind < 9) {
             size_t step = 1 + below(most);
-            void *piece;
+            unsigned char *piece;
             if (step > size - at) step = size - at;
             piece = copied(bytes + at, step);
             status = dsdarc_player_push(player, piece, step, &taken);
-            free(piece);
+            forget(piece, step, run);
             if (status != DSDARC_OK) {
                 if (!sought && status != verdict) fail("another fault of push", run);
                 if (dsdarc_player_push(player, bytes, 0, &taken) != DSDARC_AFTER_FAULT && status != DSDARC_MEMORY)
@@ -101,7 +124,7 @@ static void at_random(unsigned long run, const unsigned char *text, size_t text_
             size_t frames = below(most);
             int as_numbers = below(3) == 0;
             size_t size_of = frames * info.channels * (as_numbers ? 4 : info.width / 8);
-            unsigned char *to = malloc(size_of ? size_of : 1);
+            unsigned char *to = fenced(size_of);
             if (dsdarc_player_pull(player, to, frames, as_numbers ? DSDARC_S32 : DSDARC_PACKED, &given) != DSDARC_OK)
                 fail("a pull is refused", run);
             if (given > frames) fail("too many given", run);
@@ -115,7 +138,7 @@ static void at_random(unsigned long run, const unsigned char *text, size_t text_
                     fail("another sample", run);
             }
             place += given * frame;
-            free(to);
+            forget(to, size_of, run);
         } else if (kind == 17 && told && below(4) == 0) {
             uint64_t to = below(info.frames + 3);
             status = dsdarc_player_seek(player, to, &offset);
@@ -140,7 +163,7 @@ static void at_random(unsigned long run, const unsigned char *text, size_t text_
             told = dsdarc_player_info(player, &info) == DSDARC_OK;
             frame = (size_t)info.width / 8 * info.channels;
         }
-        if (at == size && told && place == have && below(8) == 0) {
+        if (at == size && place == have && below(8) == 0) {
             /* Bytes behind the sound may still be taken. */
             status = dsdarc_player_end(player);
             if (!sought && status != verdict) fail("another verdict", run);
@@ -166,13 +189,14 @@ int main(int count, char **words) {
             made[below(below(2) && size > 160 ? 160 : size)] = (unsigned char)below(256);
         if (below(6) == 0) size = below(size + 1);
         bytes = copied(made, size);
-        own = copied(text, text_size);
-        if (below(50) == 0) own[below(text_size)] = (unsigned char)below(256);
         if (below(200) == 0) text_now = below(text_size);
+        own = copied(text, text_now);
+        if (text_now > 0 && below(50) == 0) own[below(text_now)] = (unsigned char)below(256);
         pcm = reference(own, text_now, bytes, size, &have, &verdict);
         played += verdict == DSDARC_OK;
         at_random(run, own, text_now, bytes, size, pcm, have, verdict);
-        free(made), free(bytes), free(pcm), free(own);
+        forget(bytes, size, run), forget(own, text_now, run);
+        free(made), free(pcm);
     }
     free(text);
     printf("%lu runs, %lu of files that are played\n", runs, played);

@@ -1,0 +1,119 @@
+"""Tries the clients of the library, where their packages are installed: the player over ALSA by its device that writes a
+file, and the element for GStreamer, also in `gst-play-1.0`, which finds it by itself."""
+import os
+import random
+import re
+import subprocess
+
+from dsdiffs import dsdiff
+from playing import BUILT, PROGRAM, ROOT, compiled, demand, frames_of, get, run
+
+
+def try_clients(folder, *last):
+    """The same by ALSA's device that writes a file, and by GStreamer, where their packages are installed."""
+    if os.path.exists("/usr/include/alsa/asoundlib.h"):
+        try_player(folder, *last)
+    else:
+        print("left out: dsdarcplay, as libasound2-dev isn't installed")
+    status, words = run("pkg-config", "--cflags", "--libs", "gobject-2.0")
+    if status == 0 and os.path.exists("/usr/include/gstreamer-1.0/gst/gst.h"):
+        try_element(folder, ["-I/usr/include/gstreamer-1.0", *words.split(), "-lgstreamer-1.0"], *last)
+    else:
+        print("left out: dsdarcdec, as libgstreamer1.0-dev isn't installed")
+
+
+def try_player(folder, dff, dsf, filter, frames, align):
+    out, player = os.path.join(folder, "client.pcm"), os.path.join(folder, "dsdarcplay")
+    compiled("clients/dsdarcplay.c", os.path.join(BUILT, "libdsdarc.a"), "-lasound", "-o", player)
+    with open(os.path.join(folder, "asoundrc"), "w", encoding="utf-8") as file:
+        file.write(f'pcm.n {{ type null }}\npcm.raw {{ type file slave.pcm n file "{out}" format "raw" }}\n')
+    os.environ["ALSA_CONFIG_PATH"] = f"/usr/share/alsa/alsa.conf:{file.name}"
+    factor = int(re.search(rb"^factor = (\d+)", get(filter), re.MULTILINE)[1])
+    at = len(frames) // align // 3
+    second = f"{(at + 0.5) * factor / 2_822_400:.9f}"
+    for name in (dff, dsf):
+        status, said = run(player, "-D", "raw", filter, name)
+        demand(status == 0 and get(out) == frames, f"dsdarcplay: other frames: {said}")
+        status, said = run(player, "-D", "raw", "-s", second, filter, name)
+        demand(status == 0 and get(out) == frames[at * align :], f"dsdarcplay: other frames from {second} s: {said}")
+    words = [player, "-D", "raw", "-s", second, filter, "/dev/stdin"]
+    done = subprocess.run(words, input=get(dff), capture_output=True, check=False)
+    is_told = done.returncode == 1 and b"/dev/stdin: Illegal seek" in done.stderr
+    demand(is_told, f"dsdarcplay: a pipe from {second} s: {done}")
+
+
+def try_element(folder, words, dff, dsf, filter, frames, align):
+    """The element plays all, goes to any frame, also while it plays, and is found by what plays files."""
+    out, made = os.path.join(folder, "client.pcm"), os.path.join(folder, "libgstdsdarc.so")
+    compiled("clients/gstdsdarcdec.c", "-shared", "-fPIC", os.path.join(BUILT, "libdsdarc.a"), *words, "-o", made)
+    os.environ |= {"GST_PLUGIN_PATH": folder, "GST_REGISTRY": os.path.join(folder, "registry")}
+    os.environ["DSDARC_FILTERS"] = os.path.join(ROOT, "filters")
+    for name in (dff, dsf):
+        ways = ["filesrc", f"location={name}", "!", "dsdarcdec", f"filter={filter}", "!", "filesink", f"location={out}"]
+        status, said = run("gst-launch-1.0", "-q", *ways)
+        demand(status == 0 and get(out) == frames, f"dsdarcdec: other frames: {said}")
+    six = os.path.join(folder, "six.dff")
+    with open(six, "wb") as file:
+        file.write(dsdiff(2822400, 6, bytes(6 * 35280)))
+    ways = [
+        "filesrc",
+        f"location={six}",
+        "!",
+        "dsdarcdec",
+        "!",
+        "audioconvert",
+        "!",
+        "audio/x-raw,channels=2",
+        "!",
+        "fakesink",
+    ]
+    status, said = run("gst-launch-1.0", "-q", *ways)
+    demand(status == 0, f"dsdarcdec: six channels aren't mixed to two: {said}")
+    seek = os.path.join(folder, "seek")
+    compiled("tests/library/seek.c", *words, "-o", seek)
+    chance, long = random.Random(3), os.path.join(folder, "long.dff")
+    with open(long, "wb") as file:
+        file.write(dsdiff(2822400, 2, chance.randbytes(2 * 352_800 * 6)))
+    run(PROGRAM, "convert", "dsf", long, long.replace(".dff", ".dsf"))
+    wave, wish = os.path.join(folder, "long.wav"), os.path.join(ROOT, "filters", "dsd64-to-88200-24.toml")
+    run(PROGRAM, "play", wish, long, wave)
+    whole = frames_of(get(wave))[0]
+    for turn in range(20):
+        name = chance.choice([long, long.replace(".dff", ".dsf")])
+        places = [str(chance.randrange(len(whole) // 6)) for _ in range(chance.randrange(1, 5))]
+        pause = str(chance.choice([0, 100, 3000, 20000]))
+        status, said = run(seek, "88200/24", name, out, pause, *places)
+        part = whole[6 * int(places[-1]) :]
+        demand(status == 0 and get(out) == part, f"dsdarcdec: other frames from {places} on, {pause} us: {said}")
+    try_keys(folder, long, out, whole)
+
+
+def try_keys(folder, name, out, whole):
+    """gst-play finds the element by itself, and its keys go on and back: filesink begins anew behind each."""
+    import pty
+    import shutil
+    import time
+
+    if not shutil.which("gst-play-1.0"):
+        print("left out: gst-play-1.0, as gstreamer1.0-plugins-base-apps isn't installed")
+        return
+    for keys in ([b"\x1b[C"], [b"\x1b[C", b"\x1b[C", b"\x1b[D"]):
+        keyboard, terminal = pty.openpty()
+        words = ["gst-play-1.0", f"--audiosink=filesink sync=true location={out}", name]
+        child = subprocess.Popen(words, stdin=terminal, stdout=terminal, stderr=terminal, start_new_session=True)
+        os.close(terminal)
+        time.sleep(1.5)
+        for key in keys:
+            os.write(keyboard, key)
+            time.sleep(0.5)
+        said = b""
+        try:
+            while more := os.read(keyboard, 1 << 16):
+                said += more
+        except OSError:
+            pass  # the end of a pseudo terminal
+        os.close(keyboard)
+        status, part = child.wait(), get(out)
+        at = len(whole) - len(part)
+        is_part = 0 < at < len(whole) and at % 6 == 0 and whole[at:] == part
+        demand(status == 0 and is_part, f"gst-play: {len(part)} bytes that no part has: {said[-300:]!r}")

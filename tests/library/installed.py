@@ -1,0 +1,186 @@
+"""Tries the library as users have it: installed, from the Debian packages, and by pip. The lines of README.md and of
+docs/LIBRARY.md are run as they are there, beside what is installed and a file `in.dsf`."""
+import os
+import shutil
+import subprocess
+import sys
+
+from playing import BUILT, PROGRAM, ROOT, demand, get
+
+PYTHON = "lib/python3/dist-packages"
+# What tells Python and others where the library is, which nothing may need here.
+NAMED = ("DSDARC", "DSDARC_LIBRARY", "DSDARC_FILTERS", "DSDARC_FILTER", "PYTHONPATH", "PKG_CONFIG_PATH")
+# What a package of those that programs in C need has, and the other has of the library.
+DEVELOPMENT = ("include/dsdarc.h", "lib/libdsdarc.a", "lib/libdsdarc.so", "lib/pkgconfig/dsdarc.pc")
+
+
+def lines_of(name, *parts):
+    """The lines of a document's programs that have one of these parts."""
+    with open(os.path.join(ROOT, name), encoding="utf-8") as file:
+        lines = [line[4:].rstrip("\n") for line in file if line.startswith("    ")]
+    return [line for line in lines if any(part in line for part in parts)]
+
+
+class Users:
+    """A folder with `in.dsf` and what is installed below a prefix, in which lines are run as a user does."""
+
+    def __init__(self, folder, prefix, sound, frames):
+        self.folder, self.prefix, self.frames = folder, prefix, frames
+        os.mkdir(folder)
+        for name in ("clients", "filters"):
+            os.symlink(f"{prefix}/share/dsdarc/{name}", f"{folder}/{name}")
+        os.symlink(f"{prefix}/share/dsdarc/clients/gstdsdarcdec.c", f"{folder}/gstdsdarcdec.c")
+        shutil.copy(sound, f"{folder}/in.dsf")
+        config = 'pcm.n { type null }\npcm.!default { type file slave.pcm n file "heard.pcm" format "raw" }\n'
+        self.put("asoundrc", config)
+        # LLVM's libunwind, which may be there in place of Debian's, has no such file, and that of GStreamer names it.
+        self.put("pc/libunwind.pc", "Name: libunwind\nDescription: none\nVersion: 1\n")
+
+    def put(self, name, text):
+        path = os.path.join(self.folder, name)
+        os.makedirs(os.path.dirname(path), exist_ok=True)
+        with open(path, "w", encoding="utf-8") as file:
+            file.write(text)
+
+    def run(self, *words, **more):
+        """Status of a command and what it prints; it knows nothing of the clone."""
+        given = {name: value for name, value in os.environ.items() if name not in NAMED}
+        given |= {
+            "PATH": f"{self.prefix}/bin:{given['PATH']}",
+            "LD_LIBRARY_PATH": f"{self.prefix}/lib",
+            "PKG_CONFIG_PATH": f"{self.prefix}/lib/pkgconfig:{self.folder}/pc",
+            "ALSA_CONFIG_PATH": f"/usr/share/alsa/alsa.conf:{self.folder}/asoundrc",
+            "GST_REGISTRY": f"{self.folder}/registry",
+            "PYTHONDONTWRITEBYTECODE": "1",
+        }
+        done = subprocess.run(words, cwd=self.folder, env=given | more, capture_output=True, check=False)
+        return done.returncode, done.stdout + done.stderr
+
+    def follow(self, what, lines, count, made):
+        """Runs these lines, of which there are so many, and asks for the frames in a file."""
+        demand(len(lines) == count, f"{what}: {len(lines)} lines are there, not {count}: {lines}")
+        for line in lines:
+            status, said = self.run("bash", "-c", line)
+            demand(status == 0, f"{what}: {line}: status {status}, {said[-300:]}")
+        path = os.path.join(self.folder, made)
+        is_right = os.path.exists(path) and get(path) == self.frames
+        demand(is_right, f"{what}: other frames in {made}")
+
+    def plays(self, source, script):
+        """The players of the documents, in C, over ALSA and by GStreamer, and the script in Python."""
+        self.put("play.c", source)
+        self.put("script.py", script)
+        lines = ["cc play.c $(pkg-config --cflags --libs dsdarc) -o play"]
+        demand(any(lines[0] in line for line in open(f"{ROOT}/README.md", encoding="utf-8")), "README: another cc")
+        lines.append('./play "$(filters/pick 88200/24 in.dsf)" <in.dsf >out.pcm')
+        self.follow("README's program in C", lines, 2, "out.pcm")
+        if os.path.exists("/usr/include/alsa/asoundlib.h"):
+            self.follow("README's player", lines_of("README.md", "dsdarcplay"), 2, "heard.pcm")
+        if os.path.exists("/usr/include/gstreamer-1.0/gst/gst.h"):
+            os.remove(f"{self.folder}/out.pcm")
+            lines = lines_of("docs/LIBRARY.md", "gstdsdarcdec.c", "gst-launch-1.0")
+            self.follow("the element", lines, 2, "out.pcm")
+        self.runs_script("Python, installed", sys.executable, PYTHONPATH=f"{self.prefix}/{PYTHON}")
+
+    def runs_script(self, what, python, **more):
+        """README's script in Python, and where its package is found."""
+        status, said = self.run(python, "script.py", **more)
+        is_right = status == 0 and said.startswith(b"Info(samplerate=88200, channels=")
+        demand(is_right, f"{what}: status {status}, {said[-300:]}")
+        words = "import dsdarc; print(dsdarc.__file__, dsdarc.version(), dsdarc.__version__)"
+        status, said = self.run(python, "-c", words, **more)
+        version = get(os.path.join(ROOT, "VERSION")).decode().strip()
+        is_own = not said.startswith(ROOT.encode()) and said.endswith(f" {version} {version}\n".encode())
+        demand(status == 0 and is_own, f"{what}: {said[-300:]}")
+
+
+def beside(folder):
+    """The program with the library beside it, as `bin/build` leaves them."""
+    os.mkdir(folder)
+    shutil.copy(PROGRAM, f"{folder}/dsdarc")
+    for name in os.listdir(BUILT):
+        if name.startswith("libdsdarc"):
+            shutil.copy(os.path.join(BUILT, name), folder, follow_symlinks=False)
+    return {"DSDARC": f"{folder}/dsdarc"}
+
+
+def files_below(folder):
+    return {os.path.relpath(os.path.join(at, name), folder) for at, folders, names in os.walk(folder) for name in names}
+
+
+def below_local(folder, users, given):
+    """Below /usr/local the Python package is where Debian's Python looks for it, and finds the library and filters."""
+    words = 'import site; print(*[it for it in site.getsitepackages() if it.startswith("/usr/local/")][:1])'
+    status, said = users.run("/usr/bin/python3", "-I", "-c", words)
+    if status != 0 or not said.strip():
+        print("left out: the Python package below /usr/local, as no /usr/bin/python3 looks there")
+        return
+    status, said_of = users.run(f"{ROOT}/bin/install", "/usr/local", DESTDIR=folder, **given)
+    demand(status == 0, f"bin/install below /usr/local: status {status}, {said_of}")
+    place = folder + said.decode().strip()
+    demand(os.path.isfile(f"{place}/dsdarc/__init__.py"), f"bin/install below /usr/local: nothing in {place}")
+    users.runs_script("Python, below /usr/local", sys.executable, PYTHONPATH=place, LD_LIBRARY_PATH="")
+
+
+def packages(folder, users, given):
+    """Both packages: each file is in one of them, and from both together a program is built."""
+    if not shutil.which("dpkg-deb"):
+        print("left out: the packages, as dpkg-deb isn't here")
+        return
+    os.mkdir(folder)
+    status, said = users.run(f"{ROOT}/tools/package", folder, **given)
+    made = said.decode().splitlines()
+    demand(status == 0 and len(made) == 2, f"tools/package: status {status}, {said[-300:]}")
+    there = []
+    for number, name in enumerate(made):
+        status, said = users.run("dpkg-deb", "-x", name, f"{folder}/{number}")
+        demand(status == 0, f"{name}: {said}")
+        there.append(files_below(f"{folder}/{number}/usr"))
+    mine = {it for it in there[-1] if not it.startswith("share/doc/")}
+    demand(mine == set(DEVELOPMENT), f"dsdarc-dev has {sorted(mine)}")
+    wanted = files_below(users.prefix) - set(DEVELOPMENT) - {"share/dsdarc/installed.txt"}
+    wanted = {it.replace("zsh/site-functions", "zsh/vendor-completions") for it in wanted}
+    demand(there[0] - {"share/doc/dsdarc/copyright"} == wanted, f"dsdarc differs in {sorted(there[0] ^ wanted)[:9]}")
+    for number in (0, 1):
+        shutil.copytree(f"{folder}/{number}/usr", f"{folder}/usr", symlinks=True, dirs_exist_ok=True)
+    line = "cc play.c $(pkg-config --cflags --libs dsdarc) -o packaged && ./packaged filters/dsd64-to-88200-24.toml"
+    more = {"PKG_CONFIG_PATH": f"{folder}/usr/lib/pkgconfig", "LD_LIBRARY_PATH": f"{folder}/usr/lib"}
+    status, said = users.run("bash", "-c", f"{line} <in.dsf", **more)
+    demand((status, said) == (0, users.frames), f"a program from the packages: status {status}, {said[-300:]}")
+
+
+def by_pip(folder, users):
+    """`pip install .` in a copy of the clone, in a virtual environment that sees Debian's packages."""
+    clone, python = f"{folder}/clone", f"{folder}/venv/bin/python3"
+    status, said = users.run("/usr/bin/python3", "-m", "venv", "--system-site-packages", f"{folder}/venv")
+    names = "import pip, setuptools, wheel, numpy"
+    if status != 0 or users.run(python, "-c", names)[0] != 0:
+        print("left out: pip install ., as python3-venv, -pip, -setuptools, -wheel or -numpy isn't installed")
+        return
+    keeps = shutil.ignore_patterns("__pycache__", "responses", "build", "*.egg-info")
+    for name in ("python", "filters"):
+        shutil.copytree(os.path.join(ROOT, name), f"{clone}/{name}", ignore=keeps)
+    for name in ("pyproject.toml", "setup.py", "VERSION", "README.md", "LICENSE"):
+        shutil.copy(os.path.join(ROOT, name), clone)
+    os.makedirs(f"{clone}/crates/dsdarc/out")
+    shutil.copy(os.path.join(BUILT, "libdsdarc.so.0"), f"{clone}/crates/dsdarc/out")
+    words = ["-m", "pip", "install", "--quiet", "--no-build-isolation", "--no-index", clone]
+    status, said = users.run(python, *words)
+    demand(status == 0, f"pip install: status {status}, {said[-500:]}")
+    shutil.rmtree(clone)
+    users.runs_script("Python, by pip", python, LD_LIBRARY_PATH="")
+
+
+def try_installed(folder, sound, frames, source, script):
+    """All of it, of a DSF file with the frames that `play` makes of it by 88200/24; and README's programs."""
+    os.mkdir(folder)
+    given = beside(f"{folder}/built")
+    users = Users(f"{folder}/user", f"{folder}/prefix", sound, frames)
+    status, said = users.run(f"{ROOT}/bin/install", users.prefix, **given)
+    demand(status == 0, f"bin/install: status {status}, {said}")
+    users.plays(source, script)
+    below_local(f"{folder}/local", users, given)
+    packages(f"{folder}/packages", users, given)
+    by_pip(f"{folder}/pip", users)
+    status, said = users.run(f"{ROOT}/bin/install", "--remove", users.prefix)
+    demand(status == 0 and not files_below(users.prefix), f"bin/install --remove: {said}, {files_below(users.prefix)}")

@@ -1,0 +1,43 @@
+"""What the trials of the library share: the program, what is built beside it, and how they say what they find."""
+import os
+import subprocess
+import sys
+
+ROOT = os.path.dirname(os.path.dirname(os.path.dirname(os.path.abspath(__file__))))
+sys.path += [os.path.join(ROOT, it) for it in ("scripts/common", "python")]
+BUILT = os.path.join(ROOT, "crates", "dsdarc", "out")
+PROGRAM = os.environ.get("DSDARC") or os.path.join(BUILT, "dsdarc")
+found = []
+
+
+def demand(holds, why):
+    if not holds:
+        found.append(why)
+        print(f"  FOUND: {why}", flush=True)
+
+
+def run(*words):
+    done = subprocess.run(words, stdout=subprocess.PIPE, stderr=subprocess.STDOUT, check=False)
+    return done.returncode, done.stdout.decode()
+
+
+def frames_of(wave):
+    """The frames of a WAVE file, and how many bytes one has."""
+    at, align = 12, 0
+    while wave[at : at + 4] != b"data":
+        if wave[at : at + 4] == b"fmt ":
+            align = int.from_bytes(wave[at + 20 : at + 22], "little")
+        at += 8 + int.from_bytes(wave[at + 4 : at + 8], "little")
+    return wave[at + 8 : at + 8 + int.from_bytes(wave[at + 4 : at + 8], "little")], align
+
+
+def get(name):
+    with open(name, "rb") as file:
+        return file.read()
+
+
+def compiled(source, *words):
+    status, said = run(
+        os.environ.get("CC", "cc"), "-I", os.path.join(ROOT, "library"), os.path.join(ROOT, source), *words
+    )
+    demand(status == 0, f"{source} isn't compiled: {said}")

@@ -45,7 +45,7 @@ pub(crate) fn explain_outcome<R: Files + Env + Eprint + AllocGlobal>(
         None => &[],
     };
     if let Some(line) = explain(rt, words, ended) {
-        let _ = eprintln!(rt; "{line}");
+        let _ = rt.eprintln(line.as_str());
     }
 }
 

@@ -240,7 +240,7 @@ fn tell_why<R: Files + Env + Eprint + AllocGlobal>(
         _ => explain_sum(rt, file, ended),
     };
     if let Some(line) = explained {
-        let _ = rt.eprintln(&line);
+        let _ = rt.eprintln(line.as_str());
     }
 }
 

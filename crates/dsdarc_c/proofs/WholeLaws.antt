@@ -20,7 +20,7 @@ use Rattle.player_core.proofs.PartSinkLaws.{due_at_first}
 use Rattle.player_core.proofs.SliceLaws.{slices_meet}
 use Rattle.dsdarc_c.specs.Playing.{HasPlayed, PlaysOn}
 use Rattle.dsdarc_c.specs.Pushing.{IsAtStage, IsPushedHeader, IsPushing}
-use Rattle.dsdarc_c.specs.Whole.{BeginsWith, ComeFirst, EndsFile, HasAt, IsBehind, IsPrefixOfFrames, PlaysPushedFile, PlaysRestOf, PlaysSoundOf, PlaysStageOf, frames_from, waiting}
+use Rattle.dsdarc_c.specs.Whole.{BeginsWith, ComeFirst, HasAt, IsPrefixOfFrames, PlaysPushedFile, PlaysRestOf, PlaysSoundOf, PlaysStageOf, frames_from, waiting}
 use Rattle.dsdarc_c.specs.declared.pushing.Pushing.{Pushing}
 use Rattle.dsdarc_c.specs.declared.pushing.Stage.{Stage}
 use Rattle.dsdarc_c.specs.declared.pushing.Stage.TheVariants as stages
@@ -214,11 +214,3 @@ failed_plays p new file start pulled keeps plays taps failed none =
     let all : pulled ≡ pulled ++ waiting new = sym (ap (λ xs. pulled ++ xs) none ∙ append-nil pulled) in
     let now = subst (λ d. IsPrefixOfFrames d file start (pulled ++ waiting new)) (sym taps) (subst (IsPrefixOfFrames p.taps file start) all first) in
     record { stage = subst (PlaysStageOf new.taps file start (pulled ++ waiting new) new.header.items new.place) (sym failed) now }
-
--- where the file ends behind its sound all frames were made
-pub ends_file : (p : Pushing) (file : List ℕ) (start : ℕ) (pulled : List ℕ) → IsPushing p → PlaysPushedFile file start pulled p → length file ≡ p.place → IsBehind p.stage → EndsFile file start pulled p
-ends_file p file start pulled keeps plays long (s, back, is) =
-    let k = subst (IsAtStage p.taps p.header.items p.place) is keeps.stage in
-    let w = stage_is p file start pulled (stages.After s back) is plays in
-    let inside : s.start + s.size ≤ length file = omega (arith, k.after, long) in
-    record { sound = s; header = header_of file p.header.items s w.0 k.header; in_file = inside; all = w.1 inside }

@@ -1,4 +1,5 @@
--- Forms whose first chunks tell that their file holds no recording.
+-- DSDIFF forms whose first chunks already show that the file holds no recording. Their fault is open while a later
+-- chunk that is the second of its kind would be reported instead of it.
 use Rattle.std.specs.Prelude.{◌≡◌, ◌≤◌, ◌<◌, ◌⊎◌, ℕ, ◌+◌, Bool, true, false, List, [], ◌++◌, length, map, drop, find, is_some, Result, Ok, Err}
 use Rattle.chunk_core.specs.declared.layout.Span.{Span}
 use Rattle.chunk_core.specs.Places.{span_chunk}
@@ -14,43 +15,45 @@ use Rattle.dsdiff_core.specs.Headers.{form_of, size_at}
 use Rattle.dsdiff_core.specs.Properties.{property_of}
 use Rattle.dsdiff_core.specs.Spans.{holds_property, once_each, span_has, top_kinds}
 
--- what chunks of a form come to by their version and by the kinds that occur once
+-- the first fault of a form's chunks in their version and in the kinds that may occur once, if there is one
 abbrev pub kinds_of : List ℕ → List Span → Result (Unit {0}) DsdiffFault
 kinds_of file top = known_version (map (span_chunk file) top) >>= λ known. once_each (top_kinds file) [] top
 
--- the same, and then by their sound property
+-- the same, and then the first fault of their sound property
 abbrev pub judged : List ℕ → List Span → Result (Unit {0}) DsdiffFault
 judged file top = kinds_of file top >>= λ kinds. property_of file top >>= λ stated. Ok tt
 
--- the fault of some chunks and later ones: where it is open, a later chunk that is the second of its kind comes first
+-- the fault of a form: that of its first chunks, or, where it is open, that of the first later chunk that is the second
+-- of its kind
 abbrev pub first_fault : DsdiffFault → Bool → Result (Unit {0}) DsdiffFault → DsdiffFault
 first_fault fault true (Err second) = second
 first_fault fault true (Ok u) = fault
 first_fault fault false later = fault
 
--- the fault with one more chunk of this ID, which may be the second of its kind, and whether a later one may come before it
+-- the fault after one more chunk with this ID, which may be the second of its kind, and whether the fault is open
 abbrev pub fault_with : DsdiffFault → Bool → List ℕ → Bool → DsdiffFault × Bool
 fault_with fault true id true = (Twice id, false)
 fault_with fault true id false = (fault, true)
 fault_with fault false id second = (fault, false)
 
--- some chunks have this fault: one of their kinds, or, where it is open, of their sound property
+-- these first chunks have this fault: one of their kinds, or, where it is open, one of their sound property
 abbrev pub TellFault : List ℕ → List Span → DsdiffFault → Bool → Type 0
 TellFault file lead fault false = (1 ≤ length lead) × (kinds_of file lead ≡ Err fault)
 TellFault file lead fault true = (kinds_of file lead ≡ Ok tt) × (is_some (find (holds_property file) lead) ≡ true) × (property_of file lead ≡ Err fault)
 
--- whichever chunks follow these, what is told is the fault of all of them, and which kinds have come
+-- whichever chunks follow these first ones, the form has the fault that `s` gives; `s` also says whether a version, a
+-- sound property and a sound are among these first chunks
 pub record AreJudged (file : List ℕ) (lead : List Span) (s : FaultyStart) : Type 0 where
   pub fault : (later : List Span) → judged file (lead ++ later) ≡ Err (first_fault s.fault s.is_open (once_each (top_kinds file) lead later))
   pub version : s.version ≡ is_some (find (span_has FVER) lead)
   pub property : s.property ≡ is_some (find (holds_property file) lead)
   pub sound : s.sound ≡ is_some (find (span_has DSD) lead)
 
--- where the next chunk after the first ones begins
+-- where the next chunk begins, after the first ones and their pad
 abbrev pub next_place : FaultyStart → ℕ
 next_place s = s.end + s.pad
 
--- the first chunks of the file's form end here, and tell this fault
+-- the first chunks of the file's form end where `s` says, and give the form the fault that `s` says
 pub record IsFaulty (file : List ℕ) (s : FaultyStart) : Type 0 where
   pub form : form_of file ≡ Ok tt
   pub size : s.form ≡ form_size file
@@ -60,15 +63,16 @@ pub record IsFaulty (file : List ℕ) (s : FaultyStart) : Type 0 where
   pub found : (stop : ℕ) → s.end ≤ stop → spans_in file 16 stop ≡ (spans_in file (next_place s) stop >>= λ later. Ok (lead ++ later))
   pub judges : AreJudged file lead s
 
--- so many bytes are all of the file, or its form is among them
+-- the first `total` bytes are the whole file, or contain its whole form
 abbrev pub IsSeen : List ℕ → ℕ → Type 0
 IsSeen file total = (length file ≡ total) ⊎ ((12 + form_size file ≤ total) × (total ≤ length file))
 
--- the form ends within the chunk after the first ones, or before it
+-- the form or the file ends before the next chunk does
 abbrev pub EndsInNext : List ℕ → FaultyStart → Type 0
 EndsInNext file s = next_place s + 12 ≤ form_end file → form_end file < next_place s + 12 + size_at file (next_place s)
 
--- these are the bytes of the file from its next chunk on: 16 of them at least, or all, or all of the form
+-- these bytes of the file begin with the next chunk: there are at least 16, or they reach the end of the file or the
+-- form
 pub record AreNext (file : List ℕ) (s : FaultyStart) (bytes : List ℕ) : Type 0 where
   pub more : List ℕ
   pub are : drop (next_place s) file ≡ bytes ++ more

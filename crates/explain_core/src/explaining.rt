@@ -1,7 +1,5 @@
 //! The line that explains what a command came to.
 
-ghost use Rattle.std.specs.Prelude.{◌≤◌, IfSome, string_len};
-
 use crate::cuts::explain_cut;
 use crate::files::{explain_error, text_of};
 use crate::line::{Line, Part};
@@ -24,7 +22,7 @@ use sound_core::StreamFault;
 use std::io::Error;
 use std::rt::{Env, Files};
 use transfer_core::{Fault, SpanFault};
-use words_core::{Task, task_of};
+use words_core::{Explanation, Task, task_of};
 
 /// What a command came to, as far as there is something to explain.
 #[derive(Clone, Copy)]
@@ -60,9 +58,7 @@ pub fn explain<R: Files + Env + AllocGlobal>(
     rt: &R,
     words: &[String],
     ended: Ended,
-) -> Option<String>
-    ensures { IfSome result (λ line. 1 ≤ string_len line) }
-{
+) -> Option<Explanation> {
     let mut line = Line::new(rt.alloc());
     explain_ended(&mut line, rt, words, ended);
     line.end()

@@ -2,9 +2,9 @@
 //! line which file, key or word it was, what was seen or what the system said, and what would fit. [`explain_sum`] does
 //! the same for a file of `sum`.
 //!
-//! What it promises: it is safe, and a line that it returns isn't empty. It has no words of contracts. It writes
-//! nothing, opens no pipe, and holds little: a few bytes of a file, and a project text or a list. What its lines say is
-//! tested (`tests/try_commands`, `tests/try_explained`).
+//! What it promises: it is safe. It has no contracts: that a line isn't empty is what its type says, `Explanation` of
+//! `words_core`. It writes nothing, opens no pipe, and holds little: a few bytes of a file, and a project text or a
+//! list. What its lines say is tested (`tests/try_commands`, `tests/try_explained`).
 //!
 //! ```text
 //! explain(rt, &words, Ended::ReadFailed)    // zeros.dff (take 1 of edit.toml): No such file or directory; ..

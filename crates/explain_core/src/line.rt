@@ -1,10 +1,9 @@
 //! The line that explains, and what stands in it.
 
-ghost use Rattle.std.specs.Prelude.{◌≤◌, IfSome, string_len};
-
 use std::alloc::{AllocError, Global};
 use std::fmt::Write;
 use std::io::Error;
+use words_core::Explanation;
 
 /// The name of a standard stream.
 pub(crate) const STANDARD: &str = "-";
@@ -65,13 +64,11 @@ impl Line {
     }
 
     /// What was said, if it is more than a name.
-    pub(crate) fn end(self) -> Option<String>
-        ensures { IfSome result (λ text. 1 ≤ string_len text) }
-    {
-        if self.is_lost || self.text.is_empty() || self.text.as_str().ends_with(": ") {
+    pub(crate) fn end(self) -> Option<Explanation> {
+        if self.is_lost || self.text.as_str().ends_with(": ") {
             None
         } else {
-            Some(self.text)
+            Explanation::new(self.text)
         }
     }
 

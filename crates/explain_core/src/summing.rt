@@ -1,7 +1,5 @@
 //! Why `sum` has no sums of a file, or can't read a list.
 
-ghost use Rattle.std.specs.Prelude.{◌≤◌, IfSome, string_len};
-
 use crate::explaining::Ended;
 use crate::files::text_of;
 use crate::line::{Line, Part};
@@ -9,6 +7,7 @@ use crate::seen::{explain_file, is_recording};
 use crate::unread::{explain_at, say_folder, trouble_of};
 use std::rt::{Env, Files};
 use transfer_core::Fault;
+use words_core::Explanation;
 
 /// A file of `sum`, and where its name stands.
 #[derive(Clone, Copy)]
@@ -26,9 +25,7 @@ pub fn explain_sum<R: Files + Env + AllocGlobal>(
     rt: &R,
     file: Summed,
     ended: Ended,
-) -> Option<String>
-    ensures { IfSome result (λ line. 1 ≤ string_len line) }
-{
+) -> Option<Explanation> {
     let mut line = Line::new(rt.alloc());
     let name = say_file(&mut line, file);
     match ended {

@@ -1,4 +1,4 @@
--- What is known of the first fault of a file that holds no recording.
+-- What is known about the first fault of a file that holds no recording.
 use Rattle.std.specs.Prelude.{◌≡◌, ◌≢◌, ◌≤◌, ◌⊎◌, ℕ, ◌+◌, List, ◌++◌, length, take, Option, Result, Ok, Err, ⊤}
 use Rattle.chunk_core.specs.Inlets.{inlet_given}
 use Rattle.chunk_core.specs.declared.inlet.Inlet.{Inlet}
@@ -21,7 +21,7 @@ use Rattle.sound_core.specs.Naming.{NamesFault}
 use Rattle.sound_core.specs.Readers.{IsReading}
 use Rattle.sound_core.specs.Reads.{Reads}
 
--- this is so of each file that begins with these bytes
+-- what the cause says is true of every file that begins with these bytes
 abbrev pub IsCauseIn : List ℕ → Cause → Type 0
 IsCauseIn prefix causes.Unknown = ⊥
 IsCauseIn prefix (causes.Fault e) = (rest : List ℕ) → opened_of (prefix ++ rest) ≡ Err e
@@ -30,7 +30,7 @@ IsCauseIn prefix (causes.PastForm at) = (at + 12 ≤ length prefix) × GoesPastF
 IsCauseIn prefix (causes.Faulty s) = (next_place s ≤ length prefix) × ((rest : List ℕ) → IsFaulty (prefix ++ rest) s)
 IsCauseIn prefix causes.NoSound = form_of prefix ≡ Ok tt
 
--- the fault isn't known yet, but the prefix of the file is buffered, with which no file holds a recording
+-- the first fault isn't known yet: the buffered prefix only shows that no file that begins with it holds a recording
 abbrev pub HasFront : Cause → Type 0
 HasFront causes.Unknown = ⊥
 HasFront (causes.Fault e) = ⊥
@@ -39,7 +39,8 @@ HasFront (causes.PastForm at) = ⊤
 HasFront (causes.Faulty s) = ⊤
 HasFront causes.NoSound = ⊤
 
--- all that was read is buffered, and this is so of each file that begins with it: none holds a recording
+-- all that was read is buffered; what the cause says is true of every file that begins with it, and none of them holds
+-- a recording
 pub record IsUnsure {R : Type 0} (left : R → Option (List ℕ)) (first : Inlet R) (r : SoundReader R) (cause : Cause) : Type 0 where
   pub reading : IsReading r
   pub reads : Reads left first r.inlet.now r.ahead.now.items
@@ -47,7 +48,7 @@ pub record IsUnsure {R : Type 0} (left : R → Option (List ℕ)) (first : Inlet
   pub states : IsCauseIn r.ahead.now.items cause
   pub refused : (rest : List ℕ) → IsRefused (r.ahead.now.items ++ rest)
 
--- what a cause says; the first one, that this has happened
+-- what the cause of a refused file says; for `Unknown` it is `P`
 abbrev pub IsCause : {R : Type 0} → Type 0 → (R → Option (List ℕ)) → Inlet R → SoundReader R → Cause → Type 0
 IsCause P left first r causes.Unknown = P
 IsCause P left first r (causes.Fault e) = NamesFault left first r.inlet.now e
@@ -56,20 +57,21 @@ IsCause P left first r (causes.PastForm at) = IsUnsure left first r (causes.Past
 IsCause P left first r (causes.Faulty s) = IsUnsure left first r (causes.Faulty s)
 IsCause P left first r causes.NoSound = IsUnsure left first r causes.NoSound
 
--- where a file is refused, its cause is so
+-- if the fault is `FileRefused`, what the reader's cause says is true
 abbrev pub IsNamed : {R : Type 0} → Type 0 → (R → Option (List ℕ)) → Inlet R → SoundReader R → StreamFault → Type 0
 IsNamed P left first r f = f ≡ FileRefused → IsCause P left first r r.cause
 
--- a fault that was told, or that of reading on for it
+-- the answer with a file's first fault, or with the fault of reading on to find it
 abbrev pub unread_of : Result ReadFault StreamFault → Unread
 unread_of (Ok e) = answers.Refused e
 unread_of (Err f) = answers.Stream f
 
--- what a refusal comes to, by its cause: the first fault, a fault of reading on for it, or nothing is known
+-- the answer for a refused file with this cause: its first fault; or a fault of reading on to find it; or, if the cause
+-- is unknown, only that the file is refused
 abbrev pub IsRefusedBy : Cause → Unread → Type 0
 IsRefusedBy cause (answers.Refused e) = ⊤
 IsRefusedBy cause (answers.Stream f) = (IsReadingFault f × HasFront cause) ⊎ ((f ≡ FileRefused) × (cause ≡ causes.Unknown))
 
--- what a fault of reading comes to: itself, and nothing was read; or what its refusal comes to
+-- the answer for a fault: the fault itself, and nothing was read; or, for a refused file, what its cause leads to
 abbrev pub IsUnreadBy : {R : Type 0} → StreamFault → SoundReader R → SoundReader R → Unread → Type 0
 IsUnreadBy f old new u = ((f ≢ FileRefused) × (u ≡ answers.Stream f) × (new ≡ old)) ⊎ ((f ≡ FileRefused) × IsRefusedBy old.cause u)

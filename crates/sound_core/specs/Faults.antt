@@ -3,7 +3,7 @@ use Rattle.std.specs.Prelude.{ℕ, Result, Ok, Err, ⊤}
 use Rattle.sound_core.specs.declared.fault.StreamFault.{StreamFault}
 use Rattle.sound_core.specs.declared.fault.StreamFault.TheVariants.{FileRefused, RateNotDivided, TooLarge, ReadFailed, WriteFailed, TurnLimit, Memory}
 
--- the number of reads that failed, by the result
+-- how many reads failed, one or none, as the result says
 abbrev pub failed_reads : {X : Type 0} → Result X StreamFault → ℕ
 failed_reads (Err ReadFailed) = 1
 failed_reads (Err FileRefused) = 0
@@ -14,7 +14,7 @@ failed_reads (Err TurnLimit) = 0
 failed_reads (Err Memory) = 0
 failed_reads (Ok x) = 0
 
--- the number of writes that failed, by the result
+-- how many writes failed, one or none, as the result says
 abbrev pub failed_writes : {X : Type 0} → Result X StreamFault → ℕ
 failed_writes (Err WriteFailed) = 1
 failed_writes (Err FileRefused) = 0
@@ -58,7 +58,7 @@ StopsReading ReadFailed = ⊤
 StopsReading TurnLimit = ⊤
 StopsReading _ = ⊥
 
--- a fault that a sink may have of its own: none of reading
+-- a fault that a sink itself may return: any but those of reading
 abbrev pub IsSinkFault : StreamFault → Type 0
 IsSinkFault ReadFailed = ⊥
 IsSinkFault TurnLimit = ⊥

@@ -1,4 +1,4 @@
--- The files that are read: what they hold, and what their first bytes say. The prefix is these first bytes.
+-- The files that are read: what they hold, and what their first bytes, the prefix, say.
 use Rattle.std.specs.Prelude.{◌≡◌, ℕ, ◌+◌, ◌%◌, ◌≤◌, ◌⊎◌, List, ◌++◌, length, Option, IfSome, ⊤}
 use Rattle.dsd_bits.specs.declared.blocks.BitOrder.{BitOrder}
 use Rattle.dsd_bits.specs.declared.interleaving.Interleaving.{Interleaving}
@@ -25,12 +25,12 @@ HoldsSomeRecording file = (r : Content) × HoldsRecording file r
 abbrev pub IsRefused : List ℕ → Type 0
 IsRefused file = (r : Content) → HoldsRecording file r → ⊥
 
--- the prefix of a DSDIFF file, or of a DSF file if the sound is in blocks, describes this sound in its format's words
+-- the prefix of a DSDIFF file, or of a DSF file if the sound is in blocks, describes this sound as its format does
 abbrev pub StatesSoundAs : Interleaving → List ℕ → Sound → Type 0
 StatesSoundAs Bytes prefix s = dsdiff.StatesSound prefix s
 StatesSoundAs (Blocks order) prefix s = dsf.StatesSound prefix s
 
--- the head of a file leads to this sound, and ends where that starts
+-- the head of a file describes this sound, and ends where the sound starts
 pub record IsHeaderOf (head : List ℕ) (s : Sound) : Type 0 where
   pub leads : StatesSoundAs s.interleaving head s
   pub start : s.start ≡ length head
@@ -44,7 +44,7 @@ pub record LeadsToSound (prefix : List ℕ) (s : Sound) : Type 0 where
   pub within : s.start ≤ length prefix
   pub has : (rest : List ℕ) (r : Content) → HoldsRecording (prefix ++ rest) r → HasSound (prefix ++ rest) r s
 
--- bytes that come before the sound of every accepted file that begins with them
+-- in every file that begins with these bytes and holds a recording, the sound starts after them
 abbrev pub IsBeforeSound : List ℕ → Type 0
 IsBeforeSound prefix = (rest : List ℕ) (s : Sound) → HoldsSomeRecording (prefix ++ rest) → LeadsToSound (prefix ++ rest) s → length prefix ≤ s.start
 
@@ -52,7 +52,7 @@ IsBeforeSound prefix = (rest : List ℕ) (s : Sound) → HoldsSomeRecording (pre
 abbrev pub GivesNone : Option (List ℕ) → ℕ → ℕ → Type 0
 GivesNone left_old given_old given_new = IfSome left_old (λ file. (s : Sound) → HoldsSomeRecording file → LeadsToSound file s → given_new ≤ given_old + s.start)
 
--- a fault of reading the prefix of a file: the reader's file holds no recording, or a fault of reading
+-- a fault where the prefix of a file is read: `FileRefused` if the file holds no recording, or a fault of reading
 abbrev pub IsHeaderFault : Option (List ℕ) → StreamFault → Type 0
 IsHeaderFault left_old FileRefused = IfSome left_old IsRefused
 IsHeaderFault left_old ReadFailed = ⊤

@@ -1,4 +1,4 @@
--- What the prefix of a file states its sound.
+-- What the prefix of a file says about its sound.
 use Rattle.std.specs.Prelude.{ℕ, ⊤}
 use Rattle.dsd_bits.specs.declared.sound.SoundAt.{SoundAt}
 use Rattle.dsd_bits.specs.declared.sound.SoundAt.TheVariants as sounds
@@ -12,13 +12,13 @@ sound_stated (answers.Found s) = sounds.Found s
 sound_stated (answers.More at) = sounds.More
 sound_stated (answers.Refused e) = sounds.Refused
 
--- where more bytes are wanted, the place up to which chunks were walked has this property
+-- if more bytes are needed, the place up to which chunks were walked has this property
 abbrev pub IfWanted : HeaderAnswer → (ℕ → Type 0) → Type 0
 IfWanted (answers.Found s) P = ⊤
 IfWanted (answers.More at) P = P at
 IfWanted (answers.Refused e) P = ⊤
 
--- where each file that begins so is refused, what is known of its fault has this property
+-- if every file that begins with the prefix is refused, what is known about its first fault has this property
 abbrev pub IfSure : HeaderAnswer → (Cause → Type 0) → Type 0
 IfSure (answers.Found s) P = ⊤
 IfSure (answers.More at) P = ⊤

@@ -1,4 +1,4 @@
--- What a keeper has of a sound that is read.
+-- What a keeper holds of a sound while it is read.
 use Rattle.std.specs.Prelude.{◌≡◌, ℕ, ◌%◌, ◌<◌, ◌≤◌, Bool, List, length}
 use Rattle.dsd_bits.specs.declared.interleaving.Interleaving.TheVariants.{Bytes}
 use Rattle.dsd_bits.specs.declared.sound.Sound.{Sound}
@@ -17,7 +17,7 @@ pub record Keeps (s : Sound) (ranges : List BitRange) (done : ℕ) (stretches : 
   pub size : length bytes ≡ sound_size s.interleaving s.channels done
   pub kept : AreStretches (sound_channels s.interleaving s.channels done bytes) ranges stretches
 
--- the keeper has the stretches of its ranges, which are the same as at first
+-- the keeper holds the stretches of its ranges, and the ranges are those of the first keeper
 pub record IsKeeping (first k : Keeper) (s : Sound) (done : ℕ) (bytes : List ℕ) : Type 0 where
   pub same : k.ranges.now ≡ first.ranges.now
   pub keeps : Keeps s k.ranges.now done (items_of k.stretches.items) bytes

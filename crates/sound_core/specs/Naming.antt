@@ -15,33 +15,34 @@ use Rattle.sound_core.specs.declared.fault.StreamFault.TheVariants.{FileRefused}
 use Rattle.sound_core.specs.declared.fault.Unread.{Unread}
 use Rattle.sound_core.specs.declared.fault.Unread.TheVariants as answers
 
--- this is the first fault of what was read, and with what is left of it
+-- this is the first fault of the bytes that were read, and also of these with the rest of the file, if that is known
 pub record IsSure (left : Option (List ℕ)) (read : List ℕ) (fault : ReadFault) : Type 0 where
   pub now : opened_of read ≡ Err fault
   pub later : IfSome left (λ rest. opened_of (read ++ rest) ≡ Err fault)
 
--- bytes were read of which this is the first fault, and of all that there are
+-- bytes were read, and this is their first fault, and that of the whole file
 pub record NamesFault {R : Type 0} (left : R → Option (List ℕ)) (old new : Inlet R) (fault : ReadFault) : Type 0 where
   pub read : List ℕ
   pub reads : Reads left old new read
   pub sure : IsSure (left (inlet_reader new)) read fault
 
--- where a file that begins with a head and a sound is refused, its cause is its first fault, by what was read behind it
+-- if a file that begins with this head and a sound is refused, the cause is its first fault, which the bytes that were
+-- read after the sound show, whichever bytes the sound has
 abbrev pub IsRestNamed : {R : Type 0} → (R → Option (List ℕ)) → Inlet R → Inlet R → Sound → List ℕ → List ℕ → Cause → StreamFault → Type 0
 IsRestNamed left old new s head back cause f = f ≡ FileRefused → (fault : ReadFault) × (cause ≡ causes.Fault fault) × ((read : List ℕ) × Reads left old new read
     × ((sound : List ℕ) → length sound ≡ s.size → IsSure (left (inlet_reader new)) (head ++ (sound ++ (back ++ read))) fault))
 
--- a fault without its cause
+-- the answer without a file's first fault: `FileRefused` in its place
 abbrev pub plain : Unread → StreamFault
 plain (answers.Refused e) = FileRefused
 plain (answers.Stream f) = f
 
--- the first fault of a file that is refused for it has this property
+-- if the answer is a file's first fault, that fault has this property
 abbrev pub IfRefusedAs : Unread → (ReadFault → Type 0) → Type 0
 IfRefusedAs (answers.Refused e) P = P e
 IfRefusedAs (answers.Stream f) P = ⊤
 
--- a refusal comes with the first fault
+-- a refused file is answered with its first fault, never with `FileRefused` alone
 abbrev pub IsExact : Unread → Type 0
 IsExact (answers.Refused e) = ⊤
 IsExact (answers.Stream f) = f ≢ FileRefused

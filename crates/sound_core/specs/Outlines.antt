@@ -59,14 +59,14 @@ pub record IsPlacedIn (o : Surroundings) (file sound : List ℕ) : Type 0 where
   pub gap_long : length gap ≡ o.gap
   pub ended : o.ends ≡ true → rest ≡ []
 
--- what is kept of the bytes behind the sound of a file: what a DSDIFF form has left there, or all of them where they
--- are fewer, and then the file ends; the tag of a DSF file, which ends with it
+-- what is kept of the bytes after a file's sound: the rest of a DSDIFF form, or all of them if they are fewer, and then
+-- the file ends after them; or the tag of a DSF file, which ends after it
 abbrev pub KeepsAfter : Interleaving → Surroundings → List ℕ → Type 0
 KeepsAfter Bytes o file = (o.gap ≡ 0) × (o.back ≡ take (left_after o.head o.sound.size) (drop (o.sound.start + o.sound.size) file)) × (o.ends ≡ nat_lt (length (drop (o.sound.start + o.sound.size) file)) (left_after o.head o.sound.size))
 KeepsAfter (Blocks order) o file = (o.back ≡ stated_tag file) × (o.ends ≡ true)
 
--- what surroundings tell: every file that is some sound in them has that kept behind it, and holds their recording,
--- with the channels of that sound
+-- the surroundings describe every file that is some sound in them: what is kept of it after its sound, and the
+-- recording that it holds, with the channels of that sound
 pub record AreStated (o : Surroundings) : Type 0 where
   pub states : LeadsToSound o.head o.sound
   pub start : o.sound.start ≡ length o.head
@@ -82,7 +82,7 @@ AreAround o file = (sound : List ℕ) × IsPlacedIn o file sound
 
 -- ---- stages
 
--- after a sound, all was read up to the tag's place, which is 0 for none, and the tag was kept, with nothing after it
+-- after a sound, the file was read to its end, and its tag was kept: the bytes from `place` on, or none if that is 0
 pub record ReadsTag {R : Type 0} (left : R → Option (List ℕ)) (old new : Inlet R) (place stop : ℕ) (back_old back_new : List ℕ) (gap : ℕ) : Type 0 where
   pub passed : List ℕ
   pub read : List ℕ
@@ -93,14 +93,15 @@ pub record ReadsTag {R : Type 0} (left : R → Option (List ℕ)) (old new : Inl
   pub none : place ≡ 0 → back_new ≡ []
   pub at_place : place ≢ 0 → stop + gap ≡ place
 
--- the tag would come before the sound's end, or after that of the file, all of which was read
+-- the tag would begin before the end of the sound, or after the end of the file, up to which all was read
 pub record StopsAtTag {R : Type 0} (left : R → Option (List ℕ)) (old new : Inlet R) (place stop : ℕ) (back : List ℕ) : Type 0 where
   pub read : List ℕ
   pub reads : Reads left old new read
   pub some : place ≢ 0
   pub how : (place < stop) ⊎ ((stop + length (back ++ read) < place) × IsAtEnd (left (inlet_reader new)))
 
--- a fault of this: the tag would come before the sound's end or after the file's, or a fault of reading
+-- a fault where a tag is read: `FileRefused` if the tag would begin before the end of the sound or after that of the
+-- file, or a fault of reading
 abbrev pub IsTagFault : Option (List ℕ) → ℕ → ℕ → List ℕ → StreamFault → Type 0
 IsTagFault left_old place stop back FileRefused = IfSome left_old (λ left. (place ≢ 0) × ((place < stop) ⊎ (stop + length (back ++ left) < place)))
 IsTagFault left_old place stop back ReadFailed = ⊤
@@ -112,8 +113,8 @@ IsTagFault left_old place stop back _ = ⊥
 abbrev pub with_ends : Sound → List ℕ → List ℕ → AfterSound → Surroundings
 with_ends s head back b = record { sound = s; head = head; gap = b.gap; back = back; ends = b.ends; recording = b.recording }
 
--- after a head and a sound, and some bytes that were read before, the rest of a file was read as far as it matters: its
--- surroundings are known, whichever bytes the sound has
+-- after a head, a sound and the bytes in `back`, the rest of the file was read as far as it matters: the surroundings
+-- describe the file, whichever bytes the sound has
 pub record Surrounds {R : Type 0} (left : R → Option (List ℕ)) (old new : Inlet R) (back : List ℕ) (o : Surroundings) : Type 0 where
   pub read : List ℕ
   pub reads : Reads left old new read
@@ -121,7 +122,8 @@ pub record Surrounds {R : Type 0} (left : R → Option (List ℕ)) (old new : In
   pub given : (sound : List ℕ) → length sound ≡ o.sound.size → IsPlacedIn o (o.head ++ (sound ++ (back ++ read))) sound
   pub stands : (sound rest : List ℕ) → length sound ≡ o.sound.size → left (inlet_reader new) ≡ Some rest → IsPlacedIn o (o.head ++ (sound ++ (back ++ (read ++ rest)))) sound
 
--- a fault of this: no file that continues like this is accepted, whichever bytes the sound has, or a fault of reading
+-- a fault where the rest of a file is read: `FileRefused` if the file holds no recording, whichever bytes the sound
+-- has, or a fault of reading
 abbrev pub IsRestFault : Option (List ℕ) → Sound → List ℕ → List ℕ → StreamFault → Type 0
 IsRestFault left_old s head back FileRefused = IfSome left_old (λ left. (sound : List ℕ) → length sound ≡ s.size → IsRefused (head ++ (sound ++ (back ++ left))))
 IsRestFault left_old s head back ReadFailed = ⊤
@@ -140,7 +142,7 @@ SurroundsFile left_old o = AreStated o × IfSome left_old (AreAround o)
 abbrev pub SurroundsGiven : {R : Type 0} → (R → Option (List ℕ)) → Inlet R → Inlet R → Surroundings → Type 0
 SurroundsGiven left old new o = (read : List ℕ) × Reads left old new read × AreAround o read
 
--- a fault of this: the file holds no recording, or a fault of reading
+-- a fault where a whole file is read: `FileRefused` if it holds no recording, or a fault of reading
 abbrev pub IsOutlineFault : Option (List ℕ) → StreamFault → Type 0
 IsOutlineFault left_old FileRefused = IfSome left_old IsRefused
 IsOutlineFault left_old ReadFailed = ⊤

@@ -22,12 +22,11 @@ pub record CanCount {R : Type 0} (inlet : Inlet R) : Type 0 where
 abbrev pub CanFail : {W : Type 0} → Outlet W → Type 0
 CanFail outlet = outlet_failures outlet < 2 ^ 64 - 1
 
--- why a file is read no further: there were 2^40 reads, or what is read could not be counted
+-- why a file is read no further: there were 2^40 reads, or what is read can't be counted
 abbrev pub RunsOut : {R : Type 0} → Inlet R → Inlet R → Type 0
 RunsOut old new = (CanCount old → ⊥) ⊎ (inlet_reads new ≡ inlet_reads old + 2 ^ 40)
 
--- a reader that may read on: one more failure can be counted, no counter reaches its end, and it has a block to read
--- into
+-- a reader that may read on: one more failure can be counted, no counter overflows, and it has a block to read into
 pub record IsReading {R : Type 0} (r : SoundReader R) : Type 0 where
   pub ready : inlet_failures r.inlet.now < 2 ^ 64 - 1
   pub budget : HasBudget r.limit r.inlet.now
@@ -77,14 +76,14 @@ pub record Fills {R : Type 0} (left : R → Option (List ℕ)) (old new : Inlet 
   pub passes : Passes left old new n ahead_old ahead_new
   pub first : take n block ≡ passes.passed
 
--- there are fewer bytes than so many, of those ahead and all that were read: the reader is at its end
+-- the buffered bytes and all that were read are fewer than n, and the reader is at its end
 pub record FallsShort {R : Type 0} (left : R → Option (List ℕ)) (old new : Inlet R) (n : ℕ) (ahead : List ℕ) : Type 0 where
   pub read : List ℕ
   pub reads : Reads left old new read
   pub few : length (ahead ++ read) < n
   pub at_end : IsAtEnd (left (inlet_reader new))
 
--- a fault of this: there are fewer, or a fault of reading
+-- a fault where n bytes are passed: `FileRefused` if there are fewer in the buffer and the file, or a fault of reading
 abbrev pub IsPassFault : Option (List ℕ) → ℕ → List ℕ → StreamFault → Type 0
 IsPassFault left_old n ahead FileRefused = IfSome left_old (λ left. length (ahead ++ left) < n)
 IsPassFault left_old n ahead ReadFailed = ⊤

@@ -4,7 +4,7 @@ use Rattle.std.specs.Io.KnownBytes.{Consumes, IsAtEnd}
 use Rattle.chunk_core.specs.Inlets.{inlet_given, inlet_reader, inlet_reads}
 use Rattle.chunk_core.specs.declared.inlet.Inlet.{Inlet}
 
--- up to `limit` reads of a block each, no counter reaches its end
+-- with at most `limit` reads of a block each, no counter overflows
 pub record HasBudget {R : Type 0} (limit : ℕ) (inlet : Inlet R) : Type 0 where
   pub reads : inlet_reads inlet ≤ limit
   pub given : inlet_given inlet + 65536 * (limit - inlet_reads inlet) < 2 ^ 64

@@ -42,7 +42,8 @@ AppendsUntil held_old held_new all fault = (prefix : List ℕ) × (back : List �
 abbrev pub RelaysPrefix : Option (List ℕ) → NewFile → Surroundings → Option (List ℕ) → Option (List ℕ) → StreamFault → Type 0
 RelaysPrefix left target o held_old held_new fault = IfSome left (λ file. (sound : List ℕ) → IsPlacedIn o file sound → AppendsUntil held_old held_new (relayed target o.sound sound) fault)
 
--- this fault stands: the file is no sound in the outline, or it is one of a device, the number of reads or memory
+-- a fault where a file is relayed: `FileRefused` if the file is no sound in the outline, or a fault of a device, the
+-- number of reads or memory
 abbrev pub IsRelayFault : Option (List ℕ) → Surroundings → StreamFault → Type 0
 IsRelayFault left o FileRefused = IfSome left (λ file. AreAround o file → ⊥)
 IsRelayFault left o ReadFailed = ⊤
@@ -51,9 +52,9 @@ IsRelayFault left o TurnLimit = ⊤
 IsRelayFault left o Memory = ⊤
 IsRelayFault left o _ = ⊥
 
--- ---- what relays a sound while its file is read
+-- ---- the sink that relays a sound while its file is read
 
--- it may begin: one more failure can be counted, and the sound ends with whole bytes where it is written in frames
+-- the sink may begin: one more failure can be counted, and a sound that is written in frames ends with whole bytes
 pub record MayBegin {W : Type 0} (k : RelayingSink W) : Type 0 where
   pub outlet : outlet_failures k.outlet.now < 2 ^ 64 - 1
   pub whole : k.target.interleaving ≡ Bytes → k.sound.count % 8 ≡ 0
@@ -67,15 +68,15 @@ pub record IsRelaying {W : Type 0} (held : W → Option (List ℕ)) (first now :
   pub written : Appends (held (outlet_writer first.outlet.now)) (held (outlet_writer now.outlet.now)) (first.target.head.now ++ reinterleaved s.interleaving first.target.interleaving s.channels done bytes)
   pub failures : outlet_failures now.outlet.now ≡ outlet_failures first.outlet.now
 
--- a fault of its own: another sound, or one of a device or memory
+-- a fault of the sink itself: `FileRefused` for another sound than its own, or a fault of a device or memory
 abbrev pub IsOwnFault : Sound → Sound → StreamFault → Type 0
 IsOwnFault own s FileRefused = s ≡ own → ⊥
 IsOwnFault own s WriteFailed = ⊤
 IsOwnFault own s Memory = ⊤
 IsOwnFault own s _ = ⊥
 
--- it refused a sound that begins with these bytes, for a fault of its own; of what is made of its sound a prefix was
--- written, and after a failed write not all of it
+-- the sink refused a sound that begins with these bytes, for a fault of its own; a prefix of what is made of the sound
+-- was written, and after a failed write not all of it
 pub record RefusesRelaying {W : Type 0} (held : W → Option (List ℕ)) (first now : RelayingSink W) (s : Sound) (came : List ℕ) (f : StreamFault) : Type 0 where
   pub same : now.outlet.ghost_name ≡ first.outlet.ghost_name
   pub fault : IsOwnFault first.sound s f
@@ -84,14 +85,14 @@ pub record RefusesRelaying {W : Type 0} (held : W → Option (List ℕ)) (first 
 
 -- ---- stages
 
--- the same bytes stand around the sound, as many of them where they do not matter
+-- the bytes around the sound are the same; of those that don't matter there are equally many
 pub record IsSameAround (o p : Surroundings) : Type 0 where
   pub gap : o.gap ≡ p.gap
   pub ends : o.ends ≡ p.ends
   pub head : o.head ≡ p.head
   pub back : o.back ≡ p.back
 
--- why a file is not relayed to its end: a fault stands, and of what is made of the file a prefix was written
+-- why a file is not relayed to its end: the fault applies, and a prefix of what is made of the file was written
 pub record RelayFails {W : Type 0} (held : W → Option (List ℕ)) (left : Option (List ℕ)) (target : NewFile) (o : Surroundings) (old new : Outlet W) (f : StreamFault) : Type 0 where
   pub fault : IsRelayFault left o f
   pub prefix : RelaysPrefix left target o (held (outlet_writer old)) (held (outlet_writer new)) f

@@ -14,7 +14,7 @@ use Rattle.sound_core.specs.declared.fault.StreamFault.{StreamFault}
 use Rattle.sound_core.specs.declared.fault.StreamFault.TheVariants.{FileRefused}
 use Rattle.sound_core.specs.declared.part.SoundPart.{SoundPart}
 
--- these bytes of a sound came, `done` bits of each channel: whole groups of blocks, or all of it
+-- these bytes of a sound came: `done` bits of each channel, which are whole groups of blocks, or all of it
 pub record IsFed (s : Sound) (done : ℕ) (bytes : List ℕ) : Type 0 where
   pub is_sound : IsSound s
   pub whole : s.interleaving ≡ Bytes → s.count % 8 ≡ 0
@@ -26,7 +26,7 @@ pub record IsFed (s : Sound) (done : ℕ) (bytes : List ℕ) : Type 0 where
 abbrev pub sound_given : Sound → ℕ → ℕ
 sound_given s given = min (given - s.start) s.size
 
--- ---- what is so where a file was read to its end
+-- ---- if a file was read to its end
 -- the file is some sound in the surroundings, and the sink has its bytes
 abbrev pub IsTakenOf : (Sound → ℕ → List ℕ → Type 0) → Surroundings → List ℕ → Type 0
 IsTakenOf has o file = (sound : List ℕ) × IsPlacedIn o file sound × has o.sound o.sound.count sound
@@ -41,7 +41,7 @@ TakesFile has left o = AreStated o × IfSome left (IsTakenOf has o)
 abbrev pub TakesGiven : {R : Type 0} → (Sound → ℕ → List ℕ → Type 0) → (R → Option (List ℕ)) → Inlet R → Inlet R → Surroundings → Type 0
 TakesGiven has left old new o = (read : List ℕ) × Reads left old new read × IsTakenOf has o read
 
--- ---- what is so where it was not
+-- ---- if it was not
 -- the file describes this sound, whose bytes begin with these
 pub record BeginsSound (s : Sound) (came file : List ℕ) : Type 0 where
   pub prefix : List ℕ

@@ -153,7 +153,7 @@ def by_pip(folder, users):
     """`pip install .` in a copy of the clone, in a virtual environment that sees Debian's packages."""
     clone, python = f"{folder}/clone", f"{folder}/venv/bin/python3"
     status, said = users.run("/usr/bin/python3", "-m", "venv", "--system-site-packages", f"{folder}/venv")
-    names = "import pip, setuptools, wheel, numpy"
+    names = 'import importlib.util as of; exit(not all(map(of.find_spec, ("pip", "setuptools", "wheel", "numpy"))))'
     if status != 0 or users.run(python, "-c", names)[0] != 0:
         print("left out: pip install ., as python3-venv, -pip, -setuptools, -wheel or -numpy isn't installed")
         return

@@ -365,18 +365,49 @@ SUMS = (
     ),
 )
 
-ALL_COMMANDS = "the commands are info, convert, play, edit, check; dsdarc --help prints the usage"
+ALL_COMMANDS = "the commands are info, convert, play, edit, check, sum; dsdarc --help prints the usage"
+
+PLAY_USAGE = "; usage: dsdarc play [--from T] [--to T] PROJECT IN OUT"
+SUM_USAGE = "; usage: dsdarc sum [--check] FILE.."
+A_PLACE = "takes a time (90, 1:30 or 1:02:03.5), a frame (@123456) or a mark of a DSDIFF file (#3)"
 
 # Words that are no command, and why.
 WORDS = (
     ("", f"no command is named: {ALL_COMMANDS}"),
     ("plya p.toml in.dff out", '"plya" is no command; did you mean play?'),
     ("Info in.dff", '"Info" is no command; did you mean info?'),
+    ("sums in.dff", '"sums" is no command; did you mean sum?'),
     ("record in.dff", f'"record" is no command: {ALL_COMMANDS}'),
+    ("-- info in.dff", f'"--" is no command: {ALL_COMMANDS}'),
+    ([""], f'"" is no command: {ALL_COMMANDS}'),
     ("info", "info takes 1 word and got 0; usage: dsdarc info FILE"),
-    ("play in.dff out", "play takes 3 words and got 2; usage: dsdarc play PROJECT IN OUT"),
+    ("info in.dff out", "info takes 1 word and got 2; usage: dsdarc info FILE"),
+    ("play in.dff out", f"play takes 3 words and got 2{PLAY_USAGE}"),
+    ("play --from 0:10 in.dff out.wav", f"play takes 3 words and got 2{PLAY_USAGE}"),
+    ("play p.toml -- in.dff out --to 5", f"play takes 3 words and got 5{PLAY_USAGE}"),
     ("edit dsdiff e.toml m.dff", "edit takes 4 words and got 3; usage: dsdarc edit FORM PROJECT MASTER CERT"),
+    ("sum", f"sum takes 1 word or more and got 0{SUM_USAGE}"),
+    ("sum --check --", f"sum takes 1 word or more and got 0{SUM_USAGE}"),
+    ("sum --check --check list", f"--check is named twice{SUM_USAGE}"),
+    ("sum --check=list", f"--check takes no value{SUM_USAGE}"),
+    ("sum -c list", f"-c begins with -; as a name it is written ./-c{SUM_USAGE}"),
     ("info -in.dff", "-in.dff begins with -; as a name it is written ./-in.dff; usage: dsdarc info FILE"),
+    ("info -h", "info has no -h; dsdarc --help prints what each command does; usage: dsdarc info FILE"),
+    ("info --explain in.dff", "--explain comes before the command; usage: dsdarc info FILE"),
+    ("info --from 1 in.dff", "--from is no option of info; it belongs to play; usage: dsdarc info FILE"),
+    ("play --check p.toml in.dff out", f"--check is no option of play; it belongs to sum{PLAY_USAGE}"),
+    ("play --form 1 p.toml in.dff out", "--form is no option of play; did you mean --from?"),
+    ("play -from=1 p.toml in.dff out", "-from=1 is no option of play; did you mean --from?"),
+    ("play --start 1 p.toml in.dff out", f"--start begins with -; as a name it is written ./--start{PLAY_USAGE}"),
+    ("play --from 5x p.toml in.dff out", f'"5x" is no place: --from {A_PLACE}{PLAY_USAGE}'),
+    ("play p.toml in.dff out --to=1:60", f'"1:60" is no place: --to {A_PLACE}{PLAY_USAGE}'),
+    ("play --from -5 p.toml in.dff out", f'"-5" is no place: --from {A_PLACE}{PLAY_USAGE}'),
+    ("play --from= p.toml in.dff out", f'"" is no place: --from {A_PLACE}{PLAY_USAGE}'),
+    (["play", "--to", "", "p.toml", "in.dff", "out"], f'"" is no place: --to {A_PLACE}{PLAY_USAGE}'),
+    ("play p.toml in.dff out --to", f"no place comes after --to, which {A_PLACE}{PLAY_USAGE}"),
+    ("play --from --to 5 p.toml in.dff out", f"no place comes after --from, which {A_PLACE}{PLAY_USAGE}"),
+    ("play --from -- p.toml in.dff out", f"no place comes after --from, which {A_PLACE}{PLAY_USAGE}"),
+    ("play --from 1 --from=2 p.toml in.dff out", f"--from is named twice{PLAY_USAGE}"),
 )
 
 # Forms that aren't known, and why.
@@ -533,6 +564,7 @@ def refusals():
     for form, more in FORMS:
         why = f'"{form}" is no form: FORM is dsdiff, dsf or dsf8{more}'
         yield {"in.dff": FILE}, f"convert {form} in.dff out", 3, "UnknownFormName", why, None
+        yield {"in.dff": FILE}, f"convert -- {form} in.dff out", 3, "UnknownFormName", why, None
     for words, status, line, why in ODD_WORDS:
         yield {"in.dff": FILE}, words, status, line, why, None
 

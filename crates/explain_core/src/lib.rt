@@ -27,6 +27,7 @@ mod splices;
 mod summing;
 mod tasks;
 mod unread;
+mod usage;
 mod verdicts;
 mod words;
 

@@ -3,7 +3,7 @@
 use crate::files::text_of;
 use crate::line::{Line, Part};
 use crate::seen::{Shape, explain_seen, shape_of};
-use project_core::read;
+use project_core::{Project, read};
 use sound_core::StreamFault;
 use std::alloc::Global;
 use std::fs;
@@ -36,18 +36,27 @@ fn tables_of<R: Files>(rt: &R, alloc: Global, name: &str) -> Option<Tables> {
 }
 
 fn tables_in(alloc: Global, source: &[u8]) -> Option<Tables> {
-    let Ok(project) = read(alloc, source) else {
-        return None;
-    };
-    let (factor, width) = match &project.decimate {
-        Some(taps) => (u64::from(taps.factor()), u64::from(taps.width())),
-        None => (0, 0),
-    };
-    Some(Tables {
+    match read(alloc, source) {
+        Ok(project) => Some(found_in(&project)),
+        Err(_) => None,
+    }
+}
+
+// The project is borrowed here, so that no exit has to free it.
+fn found_in(project: &Project) -> Tables {
+    let (factor, width) = filter_in(project);
+    Tables {
         factor,
         width,
         has_splice: project.splice.is_some(),
-    })
+    }
+}
+
+fn filter_in(project: &Project) -> (u64, u64) {
+    match &project.decimate {
+        Some(taps) => (u64::from(taps.factor()), u64::from(taps.width())),
+        None => (0, 0),
+    }
 }
 
 // What is played, and the filter.

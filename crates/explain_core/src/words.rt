@@ -2,11 +2,12 @@
 
 use crate::line::{Line, Part};
 use crate::near::{nearest, say_list};
+use crate::usage::{END, Misfit, misfit_in, options_of};
 use std::rt::Env;
 use words_core::COMMANDS;
 
 // The names of the commands.
-const NAMES: [&str; 5] = ["info", "convert", "play", "edit", "check"];
+const NAMES: [&str; 6] = ["info", "convert", "play", "edit", "check", "sum"];
 
 // The most words that are looked at, and the most bytes of one.
 const MOST_WORDS: usize = 64;
@@ -20,48 +21,113 @@ pub(crate) fn explain_words(line: &mut Line, words: &[String]) {
         return say_commands(line);
     };
     let name = name.as_str();
-    for (command, parts) in &COMMANDS {
+    if NAMES.contains(&name) {
+        explain_usage(line, name, misfit_in(name, rest));
+    } else {
+        explain_unknown(line, name);
+    }
+}
+
+fn explain_usage(line: &mut Line, name: &str, misfit: Misfit) {
+    match misfit {
+        Misfit::Names(got) => say_number(line, name, got),
+        Misfit::NoOption(word) => return explain_option(line, name, word),
+        Misfit::Twice(option) => line.say_one("--{0} is named twice", Part::Text(option)),
+        Misfit::Valued(option) => line.say_one("--{0} takes no value", Part::Text(option)),
+        Misfit::NoPlace(option) => line.say_one(NO_PLACE, Part::Text(option)),
+        Misfit::NotPlace(option, word) => {
+            line.say(NOT_PLACE, &[Part::Text(word), Part::Text(option)]);
+        }
+    }
+    say_usage(line, name);
+}
+
+// Adds how many names a command takes, and how many there are.
+fn say_number(line: &mut Line, name: &str, got: u64) {
+    let (command, got) = (Part::Text(name), Part::Number(got));
+    match names_of(name) {
+        Some(names) => {
+            let wanted = Part::Several(names.len() as u64, "word");
+            line.say("{0} takes {1} and got {2}", &[command, wanted, got]);
+        }
+        None => line.say("{0} takes 1 word or more and got {1}", &[command, got]),
+    }
+}
+
+// The names of the words of a command, if it takes a fixed number of them.
+fn names_of(name: &str) -> Option<&'static [&'static str]> {
+    for (command, names) in &COMMANDS {
         if *command == name {
-            return explain_usage(line, rest, command, parts);
-        }
-    }
-    explain_unknown(line, name);
-}
-
-fn explain_usage(line: &mut Line, rest: &[String], name: &str, parts: &[&str]) {
-    match option_in(rest) {
-        Some(word) => {
-            let word = Part::Text(word);
-            line.say_one("{0} begins with -; as a name it is written ./{0}", word);
-        }
-        None => {
-            let (wanted, got) = (parts.len() as u64, Part::Number(rest.len() as u64));
-            let wanted = Part::Several(wanted, "word");
-            line.say(
-                "{0} takes {1} and got {2}",
-                &[Part::Text(name), wanted, got],
-            );
-        }
-    }
-    line.say_one("; usage: dsdarc {0}", Part::Text(name));
-    for part in parts {
-        line.say_one(" {0}", Part::Text(part));
-    }
-}
-
-// The first word that is taken for an option.
-fn option_in(words: &[String]) -> Option<&str> {
-    for word in words {
-        let word = word.as_str();
-        if word == "--" {
-            return None;
-        }
-        if word.len() > 1 && word.starts_with('-') {
-            return Some(word);
+            return Some(*names);
         }
     }
     None
 }
+
+// Adds how a command is used.
+fn say_usage(line: &mut Line, name: &str) {
+    line.say_one("; usage: dsdarc {0}", Part::Text(name));
+    match names_of(name) {
+        Some(names) => {
+            for option in options_of(name) {
+                line.say_one(" [--{0} T]", Part::Text(option));
+            }
+            for part in names {
+                line.say_one(" {0}", Part::Text(part));
+            }
+        }
+        None => line.push(" [--check] FILE.."),
+    }
+}
+
+// Adds why a word that begins with a hyphen is none of a command, and what it is to be instead.
+fn explain_option(line: &mut Line, name: &str, word: &str) {
+    let option = bare(word);
+    let (command, word) = (Part::Text(name), Part::Text(word));
+    if let Some(meant) = nearest(option, options_of(name)) {
+        let parts = [word, command, Part::Text(meant)];
+        return line.say("{0} is no option of {1}; did you mean --{2}?", &parts);
+    }
+    match (option, home_of(option)) {
+        ("explain", _) => line.say_one("{0} comes before the command", word),
+        ("help" | "h", _) => line.say(HELP, &[command, word]),
+        (_, Some(home)) => line.say(
+            "{0} is no option of {1}; it belongs to {2}",
+            &[word, command, Part::Text(home)],
+        ),
+        _ => line.say_one("{0} begins with -; as a name it is written ./{0}", word),
+    }
+    say_usage(line, name);
+}
+
+// An option without its hyphens and its value.
+fn bare(word: &str) -> &str {
+    let option = word.trim_start_matches('-');
+    match option.split_once('=') {
+        Some((name, _)) => name,
+        None => option,
+    }
+}
+
+// The command that has an option.
+fn home_of(option: &str) -> Option<&'static str> {
+    for name in NAMES {
+        if options_of(name).contains(&option) {
+            return Some(name);
+        }
+    }
+    None
+}
+
+const NO_PLACE: &str =
+    "no place comes after --{0}, which takes a time (90, 1:30 or 1:02:03.5), a frame (@123456) or a mark \
+                        of a DSDIFF file (#3)";
+
+const NOT_PLACE: &str =
+    "\"{0}\" is no place: --{1} takes a time (90, 1:30 or 1:02:03.5), a frame (@123456) or a mark of a \
+                         DSDIFF file (#3)";
+
+const HELP: &str = "{0} has no {1}; dsdarc --help prints what each command does";
 
 fn explain_unknown(line: &mut Line, name: &str) {
     line.say_one("\"{0}\" is no command", Part::Text(name));
@@ -82,10 +148,9 @@ fn say_commands(line: &mut Line) {
 
 /// Adds which form there may be in place of one that isn't known.
 pub(crate) fn explain_form(line: &mut Line, words: &[String]) {
-    let Some((_, [_, form, ..])) = words.split_first() else {
+    let Some(form) = form_in(words) else {
         return;
     };
-    let form = form.as_str();
     line.say_one(
         "\"{0}\" is no form: FORM is dsdiff, dsf or dsf8",
         Part::Text(form),
@@ -98,6 +163,16 @@ pub(crate) fn explain_form(line: &mut Line, words: &[String]) {
                 line.say_one("; did you mean {0}?", Part::Text(meant));
             }
         }
+    }
+}
+
+// The word that names the form, which may come after the `--` that ends the options.
+fn form_in(words: &[String]) -> Option<&str> {
+    let (first, second) = (words.get(2)?.as_str(), words.get(3)?.as_str());
+    if first == END {
+        Some(second)
+    } else {
+        Some(first)
     }
 }
 

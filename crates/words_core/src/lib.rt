@@ -22,7 +22,7 @@ mod words;
 
 pub use explanation::Explanation;
 pub use fault::WordsFault;
-pub use place::Place;
+pub use place::{Place, place_named};
 pub use sums::{SumTask, sum_task_of};
 pub use task::Task;
-pub use words::{COMMANDS, task_of};
+pub use words::{COMMANDS, PLACES, task_of};

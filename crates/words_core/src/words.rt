@@ -22,8 +22,8 @@ pub const COMMANDS: [(&str, &[&str]); 5] = [
     ("check", &["PROJECT", "MASTER", "CERT"]),
 ];
 
-// The options that name the places of a part.
-const PLACES: [&str; 2] = ["from", "to"];
+/// The options of `play`, without their hyphens. Each names a place of a part.
+pub const PLACES: [&str; 2] = ["from", "to"];
 
 /// What the words ask for. The first word is the program's name.
 ///

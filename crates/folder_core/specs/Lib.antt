@@ -1,3 +1,4 @@
+pub mod Disks
 pub mod Files
 pub mod GappedFiles
 pub mod MemoryFolders

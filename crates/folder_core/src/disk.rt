@@ -1,14 +1,18 @@
 //! The folder of the operating system.
 
+ghost use Rattle.std.specs.Prelude.{◌≡◌, OnErr, OnOk};
+ghost use Rattle.folder_core.specs.Disks.{MakingFailed, CreatingFailed, IsFresh, IsRefused, MayNoteFailure, MayUseOutput, NotesFailure, kept_notes, notes_of, next_step};
 ghost use Rattle.folder_core.specs.Files.{unknown_view};
+ghost use Rattle.folder_core.specs.declared.notes.Step.TheVariants.{Second};
 
 use crate::disk_file::DiskFile;
 use crate::disk_input::DiskInput;
 use crate::folder::{Folder, FolderFault};
+use crate::notes::{Failure, Notes, Step};
 use crate::opened::{Opened, STANDARD};
 use crate::places::Place;
 use std::fs::OpenFile;
-use std::io::{Error, ErrorKind, Input, Printer};
+use std::io::{Input, Printer};
 use std::os::fd::AsFd;
 use std::rt::Files;
 use std::{fs, io};
@@ -33,28 +37,7 @@ pub struct Disk<'a, R: Files> {
     process: u32,
     opened: Opened,
     held: Option<Held>,
-    wanted_memory: bool,
-    has_used_output: bool,
-    has_kept: bool,
-    failure: Option<Failure>,
-}
-
-/// Why a file could not be created, written or put in its place.
-#[derive(Clone, Copy)]
-pub struct Failure {
-    /// Which file it was.
-    pub step: Step,
-    /// What the system said.
-    pub error: Error,
-}
-
-/// Which of the files that a command makes.
-#[derive(Clone, Copy)]
-pub enum Step {
-    /// The first.
-    First,
-    /// One after the first, or one whose place was to be held for later.
-    Second,
+    notes: Notes,
 }
 
 // A name, and where its file goes.
@@ -67,59 +50,48 @@ struct Held {
 impl<'a, R: Files + AllocGlobal> Disk<'a, R> {
     /// The files that this runtime reaches. `process` is the number of the process, which names the files that it
     /// leaves.
-    pub fn new(rt: &'a R, process: u32) -> Self {
+    pub fn new(rt: &'a R, process: u32) -> Self
+        ensures { IsFresh (notes_of result) }
+    {
+        let opened = Opened::new(rt);
+        let notes = Notes::new(opened.is_shared());
         Disk {
             rt,
             process,
-            opened: Opened::new(rt),
+            opened,
             held: None,
-            wanted_memory: false,
-            has_used_output: false,
-            has_kept: false,
-            failure: None,
+            notes,
         }
     }
 }
 
 impl<'a, R: Files> Disk<'a, R> {
     /// Whether a file was not opened or created because memory ran out.
-    pub fn has_wanted_memory(&self) -> bool {
-        self.wanted_memory
+    pub fn has_wanted_memory(&self) -> bool
+        ensures { result ≡ (notes_of self.now).wanted_memory }
+    {
+        self.notes.wanted_memory
     }
 
     /// Whether a file that was created is standard output, under whatever name, and not the null device.
-    pub fn has_used_output(&self) -> bool {
-        self.has_used_output
+    pub fn has_used_output(&self) -> bool
+        ensures { result ≡ (notes_of self.now).used_output }
+    {
+        self.notes.used_output
     }
 
     /// Whether standard error is the same file as standard output.
-    pub fn is_error_output(&self) -> bool {
-        self.opened.is_shared()
+    pub fn is_error_output(&self) -> bool
+        ensures { result ≡ (notes_of self.now).is_error_output }
+    {
+        self.notes.is_error_output
     }
 
     /// Why a file could not be created, written or put in its place, the first that could not.
-    pub fn failure(&self) -> Option<Failure> {
-        self.failure
-    }
-
-    // The fault of an error. It is remembered if the error is out of memory.
-    fn fault_of(&mut self, error: Error) -> FolderFault {
-        self.wanted_memory |= error.kind() == ErrorKind::OutOfMemory;
-        FolderFault
-    }
-
-    // Remembers why a file that is made failed.
-    fn remember(&mut self, step: Step, error: Error) {
-        self.failure = self.failure.or(Some(Failure { step, error }));
-    }
-
-    // Which file is being made.
-    fn step(&self) -> Step {
-        if self.has_kept {
-            Step::Second
-        } else {
-            Step::First
-        }
+    pub fn failure(&self) -> Option<Failure>
+        ensures { result ≡ (notes_of self.now).failure }
+    {
+        self.notes.failure
     }
 }
 
@@ -127,7 +99,9 @@ impl<'a, R: Files + Input + Print + AllocGlobal> Disk<'a, R>
 where
     R::File: AsFd,
 {
-    fn open_source(&mut self, name: &str) -> io::Result<DiskInput<R::File, R::Reader>> {
+    fn open_source(&mut self, name: &str) -> io::Result<DiskInput<R::File, R::Reader>>
+        ensures { notes_of self.new ≡ notes_of self.old }
+    {
         if name == STANDARD {
             self.opened.add_input(self.rt)?;
             return Ok(DiskInput::Standard(self.rt.reader()));
@@ -146,16 +120,22 @@ where
     }
 
     // The place that is held for a name, or else a new one.
-    fn place_of(&mut self, name: &str) -> io::Result<Place> {
+    fn place_of(&mut self, name: &str) -> io::Result<Place>
+        ensures { notes_of self.new ≡ notes_of self.old }
+    {
         match self.held.take_if(|held| held.name.as_str() == name) {
             Some(held) => Ok(held.place),
             None => Place::of(self.rt, name),
         }
     }
 
-    fn create_file(&mut self, name: &str) -> io::Result<DiskFile<R::File, Printer<'a, R>>> {
+    fn create_file(&mut self, name: &str) -> io::Result<DiskFile<R::File, Printer<'a, R>>>
+        ensures { MayUseOutput (notes_of self.old) (notes_of self.new) }
+    {
         let place = self.place_of(name)?;
-        self.has_used_output |= !self.opened.is_null() && self.opened.is_output(self.rt, name);
+        if !self.opened.is_null() && self.opened.is_output(self.rt, name) {
+            self.notes.used_output = true;
+        }
         place.create(self.rt, name, self.process, &self.opened)
     }
 }
@@ -170,10 +150,16 @@ where
 
     ghost view = { λ f. unknown_view };
 
-    fn open(&mut self, name: &str) -> Result<DiskInput<R::File, R::Reader>, FolderFault> {
+    fn open(&mut self, name: &str) -> Result<DiskInput<R::File, R::Reader>, FolderFault>
+        ensures same { OnOk result (notes_of self.new ≡ notes_of self.old) }
+        ensures refused { OnErr result (IsRefused (notes_of self.old) (notes_of self.new)) }
+    {
         match self.open_source(name) {
             Ok(file) => Ok(file),
-            Err(error) => Err(self.fault_of(error)),
+            Err(error) => {
+                self.notes.add_error(error);
+                Err(FolderFault)
+            }
         }
     }
 
@@ -198,25 +184,31 @@ where
 
     // It holds the place of one name at a time. It also fails if the file is being read and could only be written
     // directly.
-    fn hold(&mut self, name: &str) -> Result<(), FolderFault> {
+    fn hold(&mut self, name: &str) -> Result<(), FolderFault>
+        ensures same { OnOk result (notes_of self.new ≡ notes_of self.old) }
+        ensures failed { OnErr result (MakingFailed Second (notes_of self.old) (notes_of self.new)) }
+    {
         match self.held_of(name) {
             Ok(held) => {
                 self.held = Some(held);
                 Ok(())
             }
             Err(error) => {
-                self.remember(Step::Second, error);
-                Err(self.fault_of(error))
+                self.notes.add_failed(Step::Second, error);
+                Err(FolderFault)
             }
         }
     }
 
-    fn create(&mut self, name: &str) -> Result<DiskFile<R::File, Printer<'a, R>>, FolderFault> {
+    fn create(&mut self, name: &str) -> Result<DiskFile<R::File, Printer<'a, R>>, FolderFault>
+        ensures made { OnOk result (MayUseOutput (notes_of self.old) (notes_of self.new)) }
+        ensures failed { OnErr result (CreatingFailed (notes_of self.old) (notes_of self.new)) }
+    {
         match self.create_file(name) {
             Ok(file) => Ok(file),
             Err(error) => {
-                self.remember(self.step(), error);
-                Err(self.fault_of(error))
+                self.notes.add_failed(self.notes.step(), error);
+                Err(FolderFault)
             }
         }
     }
@@ -225,25 +217,31 @@ where
         &mut self,
         name: &str,
         out: DiskFile<R::File, Printer<'a, R>>,
-    ) -> Result<(), FolderFault> {
+    ) -> Result<(), FolderFault>
+        ensures kept { OnOk result (notes_of self.new ≡ kept_notes (notes_of self.old)) }
+        ensures failed { OnErr result (NotesFailure (next_step (notes_of self.old)) (notes_of self.old)
+            (notes_of self.new)) }
+    {
         let _ = name;
         match out.put_in_place(self.rt) {
             Ok(()) => {
-                self.has_kept = true;
+                self.notes.has_kept = true;
                 Ok(())
             }
             Err(error) => {
-                self.remember(self.step(), error);
+                self.notes.add_failure(self.notes.step(), error);
                 Err(FolderFault)
             }
         }
     }
 
     // An old file stays. If there is none, the new one gets the name.
-    fn give_up(&mut self, name: &str, out: DiskFile<R::File, Printer<'a, R>>) {
+    fn give_up(&mut self, name: &str, out: DiskFile<R::File, Printer<'a, R>>)
+        ensures { MayNoteFailure (notes_of self.old) (notes_of self.new) }
+    {
         let _ = name;
         if let Some(error) = out.give_up(self.rt) {
-            self.remember(self.step(), error);
+            self.notes.add_failure(self.notes.step(), error);
         }
     }
 }

@@ -1,7 +1,9 @@
 //! A file of a folder that is read but for some gaps.
 
-ghost use Rattle.std.specs.Prelude.{◌≡◌, ◌+◌, ◌<◌, ◌≤◌, IsTrue};
-ghost use Rattle.folder_core.specs.GappedFiles.{LiesInGap, gapped_file};
+ghost use Rattle.std.specs.Prelude.{◌≡◌, ◌+◌, ◌<◌, ◌≤◌, ◌⊎◌, IfOk, IsFalse, IsTrue};
+ghost use Rattle.std.specs.Io.{ReadsAtMost};
+ghost use Rattle.std.specs.Io.KnownBytes.{ReadConsumes};
+ghost use Rattle.folder_core.specs.GappedFiles.{IsMovedOn, LiesBeside, LiesInGap, LiesOutside, gapped_file, gapped_place, gaps_of};
 
 use crate::folder::Folder;
 use std::io;
@@ -38,7 +40,9 @@ pub struct GappedFile<'a, F: Folder> {
 impl<'a, F: Folder> GappedFile<'a, F> {
     /// A file of this folder, which has the bytes from a place on left.
     pub fn new(folder: &'a F, file: F::In, place: u64, gaps: Gaps) -> Self
-        ensures { gapped_file result ≡ file }
+        ensures file { gapped_file result ≡ file }
+        ensures place { gapped_place result ≡ place }
+        ensures gaps { gaps_of result ≡ gaps }
     {
         GappedFile {
             folder,
@@ -52,7 +56,16 @@ impl<'a, F: Folder> GappedFile<'a, F> {
 impl<F: Folder> Read for GappedFile<'_, F> {
     ghost remaining = { λ g. F.In.remaining (gapped_file g) };
 
-    fn read(&mut self, buffer: &mut [u8]) -> io::Result<usize> {
+    // Each read ends where a gap begins or ends, at the latest.
+    fn read(&mut self, buffer: &mut [u8]) -> io::Result<usize>
+        ensures bound { ReadsAtMost result buffer.new }
+        ensures bytes { ReadConsumes (F.In.remaining (gapped_file self.old)) (F.In.remaining (gapped_file self.new))
+            result buffer.new }
+        ensures gaps { gaps_of self.new ≡ gaps_of self.old }
+        ensures place { IsMovedOn (gapped_place self.old) (gapped_place self.new) result }
+        ensures part { IfOk result (λ count. LiesInGap (gaps_of self.old) (gapped_place self.old) count
+            ⊎ LiesOutside (gaps_of self.old) (gapped_place self.old) count) }
+    {
         let step = step_at(self.gaps, self.place, buffer.len());
         let (prefix, _) = buffer.split_at_mut(step.size);
         let got = if step.is_passed {
@@ -74,11 +87,13 @@ struct Step {
     is_passed: bool,
 }
 
-// The next step from a place on, with room for so many bytes. Only what lies in a gap is passed over.
+// The next step from a place on, with room for so many bytes. Only what lies in a gap is passed over, and nothing of a
+// gap is read.
 fn step_at(gaps: Gaps, place: u64, room: usize) -> Step
     ensures few { result.size ≤ room }
     ensures some { 0 < room → 0 < result.size }
     ensures passed { IsTrue result.is_passed → LiesInGap gaps place result.size }
+    ensures read { IsFalse result.is_passed → LiesOutside gaps place result.size }
 {
     if is_in(gaps.first, place) {
         return Step {
@@ -92,25 +107,28 @@ fn step_at(gaps: Gaps, place: u64, room: usize) -> Step
             is_passed: true,
         };
     }
+    let before = bytes_before(gaps.first, place).min(bytes_before(gaps.second, place));
     Step {
-        size: at_most(room, next_gap(gaps, place).saturating_sub(place).max(1)),
+        size: at_most(room, before),
         is_passed: false,
     }
 }
 
 // Whether a place lies in a gap.
 fn is_in(gap: Gap, place: u64) -> bool
-    ensures { IsTrue result → (gap.start ≤ place) × (place < gap.stop) }
+    ensures inside { IsTrue result → (gap.start ≤ place) × (place < gap.stop) }
+    ensures beside { IsFalse result → (place < gap.start) ⊎ (gap.stop ≤ place) }
 {
     gap.start <= place && place < gap.stop
 }
 
-// Where the next gap after a place begins.
-fn next_gap(gaps: Gaps, place: u64) -> u64 {
-    if place < gaps.first.start {
-        gaps.first.start
-    } else if place < gaps.second.start {
-        gaps.second.start
+// How many bytes lie from a place up to a gap; if the gap doesn't come any more, as many as there may be.
+fn bytes_before(gap: Gap, place: u64) -> u64
+    ensures some { 0 < result }
+    ensures few { place < gap.start → place + result ≤ gap.start }
+{
+    if place < gap.start {
+        gap.start - place
     } else {
         u64::MAX
     }

@@ -11,7 +11,7 @@
 //! - A [`WatchedFolder`] shows on a terminal how far the files of another folder are read, in per cent with the time
 //!   left if their [`KnownLength`] is known, and how far [`Work`] has come of which [`Folder::show_work`] is told.
 //!
-//! The words of the contracts, from `specs/Files.antt` but for the last two:
+//! The words of the contracts, from `specs/Files.antt` but for the last three:
 //!
 //! - `F.view` is what is known of a folder, a `View`: whether the bytes of its readers and writers are known, what an
 //!   opening of each name gives, at one time and another, what was put under each name last, and whether giving a file
@@ -22,12 +22,13 @@
 //! - `KeepsOthers name old new` says that only the file of this name may have changed. `IsPutInPart name old new bytes`
 //!   says that the file is as it was, or holds a prefix of these bytes, and this only if no old file had to be kept.
 //! - `watched_folder` and `watched_file` are what is watched (`specs/WatchedFolders.antt`), `gapped_file` is what is
-//!   read but for gaps (`specs/GappedFiles.antt`).
+//!   read but for gaps, `gapped_place` the place of its next byte, `gaps_of` its gaps (`specs/GappedFiles.antt`).
+//! - `notes_of` is what a disk remembers of its calls, its [`Notes`] (`specs/Disks.antt`).
 //!
 //! What it promises, over a folder whose bytes are known: what is read is what an opening of that name gives, and what
 //! was written is what is put under a name. A write that failed leaves the old file, or a prefix if there was none, and
 //! no other file is touched. Every reading ends: a reader that goes on for ever is given up. Nothing is known of the
-//! bytes of a disk's files, so its calls have only the clauses of any folder. What is on the disk is tested.
+//! bytes of a disk's files: its calls say what it remembers of them, and what is on the disk is tested.
 //!
 //! ```text
 //! let project = read_file(alloc, &mut folder, "project.toml")?;
@@ -49,12 +50,13 @@ mod folder;
 mod gapped_file;
 mod leftovers;
 mod memory_folder;
+mod notes;
 mod opened;
 mod places;
 mod progress;
 mod watched_folder;
 
-pub use disk::{Disk, Failure, Step};
+pub use disk::Disk;
 pub use disk_file::DiskFile;
 pub use disk_input::DiskInput;
 pub use fault::FileFault;
@@ -62,4 +64,5 @@ pub use files::{hand_back, read_file, read_files, read_whole, write_file};
 pub use folder::{Folder, FolderFault, Work};
 pub use gapped_file::{Gap, GappedFile, Gaps};
 pub use memory_folder::MemoryFolder;
+pub use notes::{Failure, Notes, Step};
 pub use watched_folder::{KnownLength, WatchedFile, WatchedFolder};

@@ -1,5 +1,6 @@
 -- What becomes of a file that another is converted to.
-use Rattle.std.proofs.Common.{arith, ◌≡◌, ℕ, ◌%◌, ◌⊎◌, ◌==◌, if◌then◌else◌, inl, inr, List, [], Bool, IsTrue, Option, None, Some, Err, false, true, refl, subst, sym, ap, ◌∙◌}
+use Rattle.std.proofs.Common.{arith, ◌≡◌, ℕ, ◌%◌, ◌⊎◌, ◌==◌, if◌then◌else◌, inl, inr, List, [], Bool, IsTrue, Option, None, Some, Result, Ok, Err, IfOk, OnErr, false, true, refl, subst, sym, ap, ◌∙◌}
+use Rattle.std.specs.Prelude.{IfErr}
 use Rattle.std.proofs.lemmas.Bool.Decides.{nat_tests}
 use Rattle.dsd_bits.specs.Channels.{count_of}
 use Rattle.dsd_bits.specs.Contents.{Content, described}
@@ -25,7 +26,7 @@ use Rattle.transfer_core.specs.Conversions as streams
 use Rattle.transfer_core.specs.declared.fault.Fault.TheVariants.{Memory, NotWholeBytes}
 use Rattle.transfer_commands.specs.declared.fault.CommandFault.{CommandFault}
 use Rattle.transfer_commands.specs.declared.fault.CommandFault.TheVariants as faults
-use Rattle.transfer_commands.specs.Converting.{ConvertComesTo, ConvertsFile, IsUnconverted, KeepsOld, LeavesConvertedPrefix}
+use Rattle.transfer_commands.specs.Converting.{ConvertComesTo, ConvertsFile, ConvertsSome, ConvertsTo, IsUnconverted, KeepsOld, LeavesConvertedPrefix}
 use Rattle.transfer_commands.specs.Faults.{of_file}
 use Rattle.transfer_commands.specs.Outlining.{IsOutlined, IsUnoutlined, OutlinesRead}
 use Rattle.sound_core.proofs.HeldLaws.{channels_count}
@@ -102,12 +103,18 @@ module _ (outline : Outline) (file : List ℕ) (form : Form) (is : IsOutlined fi
       let none = no_text form recorded (λ fits. cut (subst (FitsIn form) counted fits)) in
       inr (rw opens (rw none refl))
 
+-- ---- a reader's file
+pub converts_to : (outline : Outline) (form : Form) (left empty written : Option (List ℕ)) (came : Result ℕ calls.Fault) → IfOk came (streams.ConvertsReader left form empty written) → IfOk came (ConvertsSome form)
+    → OnErr came (streams.ConvertsPrefix left (around_of outline) form empty written) → IfErr came (streams.ConversionApplies left (around_of outline) form) → ConvertsTo outline form left empty written came
+converts_to outline form left empty written (Ok dropped) converts some prefix applies = (converts, some)
+converts_to outline form left empty written (Err fault) converts some prefix applies = (prefix, applies)
+
 -- ---- what is left of the output
 
 module _ (form : Form) (input output : List ℕ) (old new : View) (others : KeepsOthers output old new) where
   -- all was written, and handed back
   pub converts_all : (left empty written : Option (List ℕ)) (dropped : ℕ) → IsGiven old input left → (IsTrue old.is_known → empty ≡ Some []) → (IsTrue old.is_known → new.file output ≡ written) → streams.ConvertsReader left form empty written dropped
-      → (read : List ℕ) × (bytes : List ℕ) × Converts read form bytes dropped → ConvertsFile form input output old new dropped
+      → ConvertsSome form dropped → ConvertsFile form input output old new dropped
   converts_all left empty written dropped given is_empty stands converts some = by old.is_known refl
     where
       all : (file : List ℕ) (w : Option (List ℕ)) → streams.ConvertsReader (Some file) form (Some []) w dropped → (bytes : List ℕ) × Converts file form bytes dropped × (w ≡ Some bytes)

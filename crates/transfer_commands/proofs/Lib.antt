@@ -1,6 +1,7 @@
 pub mod ConvertLaws
 pub mod DigestLaws
 pub mod ExcerptLaws
+pub mod FindingLaws
 pub mod PlayLaws
 pub mod OpeningLaws
 pub mod ReadLaws

@@ -9,7 +9,7 @@ use Rattle.folder_core.specs.Files.{IsGiven, IsGivenUp, IsReadOf, KeepsOthers, V
 use Rattle.transfer_commands.specs.Playing.{EndsPlaying, HoldsPlayed, LeavesPrefix, PlayComesTo, PlayedComesTo}
 use Rattle.transfer_commands.specs.declared.fault.CommandFault.{CommandFault}
 use Rattle.transfer_commands.specs.declared.fault.CommandFault.TheVariants.{Call, ReadFailed, WriteFailed}
-use Rattle.transfer_commands.proofs.ReadLaws.{unknown_view}
+use Rattle.transfer_commands.proofs.ReadLaws.{opened_read, unknown_view}
 
 -- ---- a file that is played
 -- all of it was written, and handed back
@@ -53,9 +53,9 @@ ended project output old new remaining held written stays fault stands outside p
     by (inr (is, had_none)) = inr (holds written own (λ before. unwritten before ∙ empty) is, had_none)
 
 -- ---- the same of a project that was read
-pub play_ends : (project_name file_name output_name project : List ℕ) (old mid new : View) → IsReadOf old project_name project → mid ≡ old
+pub play_ends : (project_name file_name output_name project : List ℕ) (old mid new : View) → IsReadOf old project_name project → mid ≡ old → (left : Option (List ℕ)) → IsGiven old file_name left
     → (came : Result ℕ CommandFault) → PlayedComesTo project file_name output_name mid new came → PlayComesTo project_name file_name output_name old new came
-play_ends project_name file_name output_name project old mid new project_read same (Ok n) h =
+play_ends project_name file_name output_name project old mid new project_read same left given (Ok n) h =
     let made = subst (λ (v : View). PlayedComesTo project file_name output_name v new (Ok n)) same h in
     record {
       project = project;
@@ -68,9 +68,11 @@ play_ends project_name file_name output_name project old mid new project_read sa
       plays = made.4;
       counted = made.5;
     }
-play_ends project_name file_name output_name project old mid new project_read same (Err (Call fault)) h =
-    let left = subst (λ (v : View). PlayedComesTo project file_name output_name v new (Err (Call fault))) same h in
-    inr (record { project = project; project_read = project_read; ended = left.0; others = left.1 })
-play_ends project_name file_name output_name project old mid new project_read same (Err WriteFailed) h =
-    subst (λ (v : View). KeepsOthers output_name v new × (new.file output_name ≡ v.file output_name)) same h
-play_ends project_name file_name output_name project old mid new project_read same (Err ReadFailed) h = absurd h
+play_ends project_name file_name output_name project old mid new project_read same left given (Err (Call fault)) h =
+    let ends = subst (λ (v : View). PlayedComesTo project file_name output_name v new (Err (Call fault))) same h in
+    inr (record { project = project; project_read = project_read; ended = ends.0; others = ends.1 })
+play_ends project_name file_name output_name project old mid new project_read same left given (Err WriteFailed) h =
+    let read = opened_read old file_name left given in
+    let kept = subst (λ (v : View). KeepsOthers output_name v new × (new.file output_name ≡ v.file output_name)) same h in
+    record { project = project; file = read.0; project_read = project_read; file_read = read.1; same = kept.1; others = kept.0 }
+play_ends project_name file_name output_name project old mid new project_read same left given (Err ReadFailed) h = absurd h

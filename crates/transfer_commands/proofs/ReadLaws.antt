@@ -1,5 +1,5 @@
 -- What is known of bytes that were read under a name, whether the folder's bytes are known or not.
-use Rattle.std.proofs.Common.{◌≡◌, ℕ, Bool, List, IsTrue, Option, Some, false, true, refl, subst, sym, ◌∙◌}
+use Rattle.std.proofs.Common.{◌≡◌, ℕ, Bool, List, [], IsTrue, Option, Some, false, true, refl, subst, sym, ◌∙◌}
 use Rattle.std.specs.Prelude.{IfSome}
 use Rattle.folder_core.specs.Files.{OpensAs, IsGiven, IsReadOf, View}
 
@@ -28,3 +28,11 @@ pub held_read : (view : View) (name : List ℕ) (left : Option (List ℕ)) (byte
 held_read view name left bytes given is = λ reported.
     let g = given reported in
     subst (OpensAs view name) (sym (subst (λ o. IfSome o (λ all. bytes ≡ all)) g.2 is)) g.1
+
+-- of a name that was opened some bytes were read
+pub opened_read : (view : View) (name : List ℕ) (left : Option (List ℕ)) → IsGiven view name left → (file : List ℕ) × IsReadOf view name file
+opened_read view name left given = by view.is_known refl
+  where
+    by : (reported : Bool) → view.is_known ≡ reported → (file : List ℕ) × IsReadOf view name file
+    by true is = let h = given is in (h.0, λ reported. h.1)
+    by false is = ([], unknown_view view.is_known is)

@@ -1,11 +1,15 @@
 -- How a folder changes if one of its files is converted to another.
-use Rattle.std.specs.Prelude.{◌≡◌, ℕ, List, IsTrue, ◌⊎◌, Result, Ok, Err}
+use Rattle.std.specs.Prelude.{◌≡◌, ℕ, List, Option, IsTrue, ◌⊎◌, Result, Ok, Err}
 use Rattle.transfer_core.specs.declared.fault.Fault as calls
 use Rattle.transfer_core.specs.declared.fault.Fault.TheVariants.{Memory}
+use Rattle.sound_core.specs.Outlines.{around_of}
+use Rattle.sound_core.specs.declared.outline.Outline.{Outline}
+use Rattle.transfer_core.specs.Conversions.{ConversionApplies, ConvertsPrefix, ConvertsReader}
 use Rattle.transfer_core.specs.Converting.{Converts, converted_of}
 use Rattle.form_core.specs.Steps.{FailsUnless}
 use Rattle.form_core.specs.declared.form.Form.{Form}
 use Rattle.folder_core.specs.Files.{HadNone, IsPut, IsPutInPart, IsReadOf, KeepsOthers, View}
+use Rattle.transfer_commands.specs.Outlining.{OutlinesRead}
 use Rattle.transfer_commands.specs.declared.fault.CommandFault.{CommandFault}
 use Rattle.transfer_commands.specs.declared.fault.CommandFault.TheVariants.{Call, ReadFailed, WriteFailed}
 
@@ -54,3 +58,22 @@ ConvertComesTo form input output old new (Err (Call Memory)) = ConvertsInPart fo
 ConvertComesTo form input output old new (Err (Call fault)) = (new ≡ old) × IsUnconverted form input old fault
 ConvertComesTo form input output old new (Err ReadFailed) = ConvertsInPart form input output old new
 ConvertComesTo form input output old new (Err WriteFailed) = LeavesConvertedPrefix form input output old new
+
+-- the same of a file that was held, whichever name it was read under
+abbrev pub HeldComesTo : List ℕ → Form → List ℕ → View → View → Result ℕ CommandFault → Type 0
+HeldComesTo file form output old new came = (input : List ℕ) → IsReadOf old input file → ConvertComesTo form input output old new came
+
+-- the same of an input that was read through, and has this outline
+abbrev pub OutlinedComesTo : Outline → Form → List ℕ → List ℕ → View → View → Result ℕ CommandFault → Type 0
+OutlinedComesTo outline form input output old new came = OutlinesRead input old outline → ConvertComesTo form input output old new came
+
+-- ---- a reader's file
+-- some bytes are converted to the form, and this many parts of them have no place in it
+abbrev pub ConvertsSome : Form → ℕ → Type 0
+ConvertsSome form dropped = (file : List ℕ) × (bytes : List ℕ) × Converts file form bytes dropped
+
+-- how converting a reader's file with this outline to a writer ends: its conversion was written; or a fault is so, and
+-- what was written is a prefix
+abbrev pub ConvertsTo : Outline → Form → Option (List ℕ) → Option (List ℕ) → Option (List ℕ) → Result ℕ calls.Fault → Type 0
+ConvertsTo outline form left held written (Ok dropped) = ConvertsReader left form held written dropped × ConvertsSome form dropped
+ConvertsTo outline form left held written (Err fault) = ConvertsPrefix left (around_of outline) form held written × ConversionApplies left (around_of outline) form fault

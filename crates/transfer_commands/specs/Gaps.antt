@@ -1,5 +1,5 @@
 -- Which bytes of a file are passed over where a part of its sound is played.
-use Rattle.std.specs.Prelude.{◌≡◌, ℕ, ◌+◌, ◌*◌, ◌/◌, ◌<◌, ◌≤◌, length}
+use Rattle.std.specs.Prelude.{◌≡◌, ℕ, ◌+◌, ◌-◌, ◌*◌, ◌/◌, ◌^◌, ◌<◌, ◌≤◌, ◌⊎◌, length}
 use Rattle.dsd_bits.specs.declared.sound.Sound.{Sound}
 use Rattle.fir_core.specs.Decimator.{Decimator, IsWithinLimits}
 use Rattle.folder_core.specs.GappedFiles.{LiesInGap}
@@ -22,3 +22,18 @@ LieInSound s gaps = (place : ℕ) → LiesInGap gaps place 1 → (s.start ≤ pl
 abbrev pub HoldNoBitOf : Sound → ℕ → ℕ → ℕ → Gaps → Type 0
 HoldNoBitOf s factor start stop gaps = (d : Decimator) → IsWithinLimits d → d.factor ≡ factor → (j i c : ℕ) → start ≤ j → j < stop → ReadsBit d j i → i < s.count → c < s.channels
     → LiesInGap gaps (byte_of_bit s c i) 1 → ⊥
+
+-- ---- stages
+-- the gaps hold no byte of the sound from one on up to another that is not among them; the largest number of 64 bits
+-- stands for the sound's end
+abbrev pub HoldNoneBetween : Sound → ℕ → ℕ → Gaps → Type 0
+HoldNoneBetween s from to gaps = (p : ℕ) → from ≤ p → (p < to) ⊎ (2 ^ 64 - 1 ≤ to) → LiesInGap gaps (s.start + p) 1 → ⊥
+
+-- no byte of a channel from this one on is among the first `all` of the sound
+abbrev pub LieAfter : Sound → ℕ → ℕ → Type 0
+LieAfter s first all = (c p : ℕ) → first ≤ p → all ≤ place_in s.interleaving s.channels c p
+
+-- each byte of a channel up to this one is among the first `all` of the sound; the largest number of 64 bits stands for
+-- all
+abbrev pub LieBefore : Sound → ℕ → ℕ → Type 0
+LieBefore s last all = s.channels ≤ 6 → (c p : ℕ) → c < s.channels → p ≤ last → (place_in s.interleaving s.channels c p < all) ⊎ (2 ^ 64 - 1 ≤ all)

@@ -1,49 +1,107 @@
 -- What a folder comes to where a part of one of its files is played to another.
-use Rattle.std.specs.Prelude.{◌≡◌, ℕ, List, [], ◌++◌, length, IsTrue, Option, Some, ◌⊎◌, Result, Ok, Err, ⊤}
+use Rattle.std.specs.Prelude.{◌≡◌, ℕ, List, [], ◌++◌, length, IsTrue, Option, None, Some, ◌⊎◌, Result, Ok, Err, ⊤}
 use Rattle.dsd_bits.specs.Contents.{MarkContent}
 use Rattle.dsd_bits.specs.declared.sound.Sound.{Sound}
 use Rattle.sound_core.specs.Files.{LeadsToSound}
+use Rattle.player_core.specs.Playing.{PlaysFile, WritesPrefix}
 use Rattle.transfer_core.specs.declared.fault.Fault as calls
+use Rattle.transfer_core.specs.declared.fault.Fault.TheVariants.{Memory}
 use Rattle.transfer_core.specs.declared.frames.PlayedFrames.{PlayedFrames}
+use Rattle.transfer_core.specs.declared.spans.Place.{Place}
+use Rattle.transfer_core.specs.declared.spans.Place.TheVariants.{Time, Frame, Mark}
 use Rattle.transfer_core.specs.declared.spans.Span.{Span}
+use Rattle.transfer_core.specs.declared.spans.SpanFault.{SpanFault}
 use Rattle.transfer_core.specs.PartStreaming.{PartApplies, PartOnlyFromOutside, PlaysPart}
-use Rattle.transfer_core.specs.Spans.{AreFramesOf, IsSpanOf}
+use Rattle.transfer_core.specs.Spans.{AreFramesOf, FramesRefused, IsSpanOf, SpanRefused}
 use Rattle.transfer_core.specs.Streaming.{FailsBeforeWriting}
-use Rattle.folder_core.specs.Files.{OpensAs, HadNone, IsPut, IsReadOf, KeepsOthers, View}
-use Rattle.transfer_commands.specs.Reporting.{IsReportOf}
+use Rattle.folder_core.specs.Files.{OpensAs, HadNone, IsGiven, IsPut, IsReadOf, KeepsOthers, View}
+use Rattle.transfer_commands.specs.Opening.{left_of}
+use Rattle.transfer_commands.specs.Reporting.{IsReportOf, IsUnreported}
 use Rattle.transfer_commands.specs.declared.fault.CommandFault.{CommandFault}
 use Rattle.transfer_commands.specs.declared.fault.CommandFault.TheVariants.{Call, ReadFailed, WriteFailed}
+use Rattle.transfer_commands.specs.declared.parts.FoundPart.{FoundPart}
+use Rattle.transfer_commands.specs.declared.parts.Part.{Part}
 use Rattle.transfer_commands.specs.declared.parts.PartFault.{PartFault}
 use Rattle.transfer_commands.specs.declared.parts.PartFault.TheVariants.{Command, Span as Spans}
 use Rattle.transfer_commands.specs.declared.reporting.Reported.{Reported}
 
--- a span has these frames in bytes that were read of the file, by a project
-pub record HasSpan (project file_name : List ℕ) (old : View) (span : Span) (start stop : ℕ) : Type 0 where
+-- bytes that were read of the file hold what is reported
+pub record ReportsRead (file_name : List ℕ) (old : View) (reported : Reported) : Type 0 where
   pub file : List ℕ
-  pub reported : Reported
-  pub frames : PlayedFrames
   pub file_read : IsReadOf old file_name file
   pub is_known : IsReportOf file reported
-  pub frames_are : AreFramesOf project reported.description.rate reported.description.count frames
-  pub span_is : IsSpanOf frames reported.description.rate reported.description.marks span start stop
 
--- the first of some bytes that were read of the file describe a sound in which a span has these frames, by a project,
--- whichever marks there are
-pub record HasSpanInSound (project file_name : List ℕ) (old : View) (span : Span) (start stop : ℕ) : Type 0 where
+-- the first of some bytes that were read of the file describe a sound
+pub record DescribesRead (file_name : List ℕ) (old : View) (sound : Sound) : Type 0 where
   pub prefix : List ℕ
   pub rest : List ℕ
-  pub sound : Sound
-  pub frames : PlayedFrames
   pub file_read : IsReadOf old file_name (prefix ++ rest)
   pub states : LeadsToSound prefix sound
-  pub frames_are : AreFramesOf project sound.rate sound.count frames
-  pub span_is : (marks : List MarkContent) → IsSpanOf frames sound.rate marks span start stop
+
+-- P holds of the rate, the number of bits of a channel and the marks of a recording that was read of the file; or,
+-- whichever marks there are, of a sound that the first bytes describe
+abbrev pub HoldsOfRead : List ℕ → View → (ℕ → ℕ → List MarkContent → Type 0) → Type 0
+HoldsOfRead file_name old P = ((reported : Reported) × ReportsRead file_name old reported × P reported.description.rate reported.description.count reported.description.marks)
+    ⊎ ((sound : Sound) × DescribesRead file_name old sound × ((marks : List MarkContent) → P sound.rate sound.count marks))
+
+-- a span has these frames in a recording with this rate, number of bits and marks, by a project
+pub record HasSpan (project : List ℕ) (span : Span) (start stop rate count : ℕ) (marks : List MarkContent) : Type 0 where
+  pub frames : PlayedFrames
+  pub frames_are : AreFramesOf project rate count frames
+  pub span_is : IsSpanOf frames rate marks span start stop
+
+-- a project plays frames of such a recording, but a span has none of them: its fault is so
+pub record LacksSpan (project : List ℕ) (span : Span) (fault : SpanFault) (rate count : ℕ) (marks : List MarkContent) : Type 0 where
+  pub frames : PlayedFrames
+  pub frames_are : AreFramesOf project rate count frames
+  pub refused : SpanRefused frames rate marks span fault
+  pub none : (start stop : ℕ) → IsSpanOf frames rate marks span start stop → ⊥
 
 -- a span has these frames in bytes that were read of the file: by all that they hold, or by the sound that the first of
 -- them describe
 abbrev pub FindsSpan : List ℕ → List ℕ → View → Span → ℕ → ℕ → Type 0
-FindsSpan project file_name old span start stop = HasSpan project file_name old span start stop ⊎ HasSpanInSound project file_name old span start stop
+FindsSpan project file_name old span start stop = HoldsOfRead file_name old (HasSpan project span start stop)
 
+-- a part was found: it is played by this project, and its frames are those of the span
+abbrev pub IsFound : List ℕ → List ℕ → View → Span → Part → Type 0
+IsFound project file_name old span part = (part.project.now ≡ project) × FindsSpan project file_name old span part.start part.stop
+
+-- the project plays no frames of a recording with this rate, for this fault
+abbrev pub PlaysNone : List ℕ → calls.Fault → ℕ → ℕ → List MarkContent → Type 0
+PlaysNone project fault rate count marks = FramesRefused project rate fault
+
+-- why a part is not found by a project's text: memory ran out, the file was not read or holds no recording, the project
+-- plays none of it, or the span has no frames in it
+abbrev pub IsUnfound : List ℕ → List ℕ → View → Span → PartFault → Type 0
+IsUnfound project file_name old span (Command (Call fault)) = (fault ≡ Memory) ⊎ (IsUnreported file_name old fault ⊎ HoldsOfRead file_name old (PlaysNone project fault))
+IsUnfound project file_name old span (Command ReadFailed) = ⊤
+IsUnfound project file_name old span (Command WriteFailed) = ⊥
+IsUnfound project file_name old span (Spans fault) = HoldsOfRead file_name old (LacksSpan project span fault)
+
+-- ---- a part that is found by a sound
+-- a span has these frames in a sound, whichever marks there are
+abbrev pub HasSpanInSound : List ℕ → Sound → Span → ℕ → ℕ → Type 0
+HasSpanInSound project sound span start stop = (marks : List MarkContent) → HasSpan project span start stop sound.rate sound.count marks
+
+-- a span's place is a mark
+abbrev pub IsMark : Option Place → Type 0
+IsMark (Some (Mark number)) = ⊤
+IsMark (Some (Time nanoseconds)) = ⊥
+IsMark (Some (Frame number)) = ⊥
+IsMark None = ⊥
+
+-- a span begins or ends at a mark
+abbrev pub NamesMark : Span → Type 0
+NamesMark span = IsMark span.from ⊎ IsMark span.to
+
+-- why a span that names no mark has no frames in a sound, whichever marks there are
+abbrev pub IsNotInSound : List ℕ → Sound → Span → PartFault → Type 0
+IsNotInSound project sound span (Command (Call fault)) = FramesRefused project sound.rate fault
+IsNotInSound project sound span (Command ReadFailed) = ⊥
+IsNotInSound project sound span (Command WriteFailed) = ⊥
+IsNotInSound project sound span (Spans fault) = (NamesMark span → ⊥) → (marks : List MarkContent) → LacksSpan project span fault sound.rate sound.count marks
+
+-- ---- the files
 -- some bytes play so many of the part
 abbrev pub PlaysSome : List ℕ → ℕ → ℕ → ℕ → Type 0
 PlaysSome project start stop n = (read : List ℕ) × (bytes : List ℕ) × PlaysPart project start stop read bytes × (n ≡ length bytes)
@@ -91,6 +149,24 @@ pub record LeavesPart (project_name file_name output_name : List ℕ) (span : Sp
   pub ended : IsTrue old.is_known → (file : List ℕ) × OpensAs old file_name file × EndsPart project start stop file output_name old new fault
   pub others : KeepsOthers output_name old new
 
+-- a text was read of the project by which the span's part of the file is not found, for this fault; nothing changed
+pub record IsPartRefused (project_name file_name : List ℕ) (span : Span) (old new : View) (fault : PartFault) : Type 0 where
+  pub project : List ℕ
+  pub project_read : IsReadOf old project_name project
+  pub unfound : IsUnfound project file_name old span fault
+  pub same : new ≡ old
+
+-- the span's part was found, but the output was not created, written or kept: it is as it was, and so is each other
+-- file
+pub record IsPartUnwritten (project_name file_name output_name : List ℕ) (span : Span) (old new : View) : Type 0 where
+  pub project : List ℕ
+  pub start : ℕ
+  pub stop : ℕ
+  pub project_read : IsReadOf old project_name project
+  pub has_span : FindsSpan project file_name old span start stop
+  pub same : new.file output_name ≡ old.file output_name
+  pub others : KeepsOthers output_name old new
+
 -- a part of a file that was opened under a name is played to an empty one and came to this: it is handed back, or given
 -- up after a fault
 abbrev pub PlayedPartComesTo : List ℕ → ℕ → ℕ → List ℕ → List ℕ → View → View → Result ℕ CommandFault → Type 0
@@ -99,17 +175,34 @@ PlayedPartComesTo project start stop input output old new (Err (Call fault)) = (
 PlayedPartComesTo project start stop input output old new (Err WriteFailed) = KeepsOthers output old new × (new.file output ≡ old.file output)
 PlayedPartComesTo project start stop input output old new (Err ReadFailed) = ⊥
 
--- a fault that comes before the output is created
-abbrev pub IsPartRefused : PartFault → Type 0
-IsPartRefused (Command WriteFailed) = ⊥
-IsPartRefused (Command (Call fault)) = ⊤
-IsPartRefused (Command ReadFailed) = ⊤
-IsPartRefused (Spans fault) = ⊤
+-- the same of a part that was found, whichever name its file was opened under
+abbrev pub FoundComesTo : {R : Type 0} → (R → Option (List ℕ)) → FoundPart R → List ℕ → View → View → Result ℕ CommandFault → Type 0
+FoundComesTo left found output old new came = (input : List ℕ) → IsGiven old input (left_of left found.opened)
+    → PlayedPartComesTo found.part.project.now found.part.start found.part.stop input output old new came
 
 -- the folder before and after a part of the input was played to the output by the project came to this
 abbrev pub PlayPartComesTo : List ℕ → List ℕ → List ℕ → Span → View → View → Result ℕ PartFault → Type 0
 PlayPartComesTo project input output span old new (Ok count) = PlaysPartFiles project input output span old new count
-PlayPartComesTo project input output span old new (Err (Command (Call fault))) = (new ≡ old) ⊎ LeavesPart project input output span old new fault
+PlayPartComesTo project input output span old new (Err (Command (Call fault))) = ((new ≡ old) × (fault ≡ Memory)) ⊎ (IsPartRefused project input span old new (Command (Call fault)) ⊎ LeavesPart project input output span old new fault)
 PlayPartComesTo project input output span old new (Err (Command ReadFailed)) = new ≡ old
-PlayPartComesTo project input output span old new (Err (Command WriteFailed)) = KeepsOthers output old new × (new.file output ≡ old.file output)
-PlayPartComesTo project input output span old new (Err (Spans fault)) = new ≡ old
+PlayPartComesTo project input output span old new (Err (Command WriteFailed)) = IsPartUnwritten project input output span old new
+PlayPartComesTo project input output span old new (Err (Spans fault)) = IsPartRefused project input span old new (Spans fault)
+
+-- ---- a reader's file
+-- a part was played of a reader's file, if it is known, and of some bytes: its WAVE file of n bytes was written
+pub record WritesPart (part : Part) (left held written : Option (List ℕ)) (n : ℕ) : Type 0 where
+  pub plays : PlaysFile left (PlaysPart part.project.now part.start part.stop) held written n
+  pub some : PlaysSome part.project.now part.start part.stop n
+
+-- a fault ended the playing of a part of a reader's file, and is so: what was written is a prefix, or nothing where it
+-- comes before the first write
+pub record StopsPart (part : Part) (left held written : Option (List ℕ)) (fault : calls.Fault) : Type 0 where
+  pub stands : PartApplies left part.project.now part.start part.stop fault
+  pub outside : PartOnlyFromOutside left part.project.now part.start part.stop fault
+  pub prefix : WritesPrefix left (PlaysPart part.project.now part.start part.stop) held written
+  pub none : FailsBeforeWriting fault → written ≡ held
+
+-- how playing a part of a reader's file to a writer ends
+abbrev pub PlaysTo : {W : Type 0} → (W → Option (List ℕ)) → Part → Option (List ℕ) → W → W → Result ℕ calls.Fault → Type 0
+PlaysTo held part left old new (Ok n) = WritesPart part left (held old) (held new) n
+PlaysTo held part left old new (Err fault) = StopsPart part left (held old) (held new) fault

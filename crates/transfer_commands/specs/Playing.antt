@@ -4,7 +4,7 @@ use Rattle.transfer_core.specs.declared.fault.Fault as calls
 use Rattle.transfer_core.specs.declared.fault.Fault.TheVariants.{Memory}
 use Rattle.transfer_core.specs.Playing.{Plays}
 use Rattle.transfer_core.specs.Streaming.{FailsBeforeWriting, OnlyFromOutside, StreamApplies}
-use Rattle.folder_core.specs.Files.{OpensAs, HadNone, IsPut, IsReadOf, KeepsOthers, View}
+use Rattle.folder_core.specs.Files.{OpensAs, HadNone, IsGiven, IsPut, IsReadOf, KeepsOthers, View}
 use Rattle.transfer_commands.specs.declared.fault.CommandFault.{CommandFault}
 use Rattle.transfer_commands.specs.declared.fault.CommandFault.TheVariants.{Call, ReadFailed, WriteFailed}
 
@@ -52,9 +52,23 @@ PlayedComesTo project input output old new (Err (Call fault)) = (IsTrue old.is_k
 PlayedComesTo project input output old new (Err WriteFailed) = KeepsOthers output old new × (new.file output ≡ old.file output)
 PlayedComesTo project input output old new (Err ReadFailed) = ⊥
 
+-- the same of what a reader has left, whichever name it was opened under
+abbrev pub OpenComesTo : List ℕ → Option (List ℕ) → List ℕ → View → View → Result ℕ CommandFault → Type 0
+OpenComesTo project left output old new came = (input : List ℕ) → IsGiven old input left → PlayedComesTo project input output old new came
+
+-- project and recording were opened, but the output was not created, written or kept: it is as it was, and so is each
+-- other file
+pub record IsUnwritten (project_name file_name output_name : List ℕ) (old new : View) : Type 0 where
+  pub project : List ℕ
+  pub file : List ℕ
+  pub project_read : IsReadOf old project_name project
+  pub file_read : IsReadOf old file_name file
+  pub same : new.file output_name ≡ old.file output_name
+  pub others : KeepsOthers output_name old new
+
 -- how playing the input to the output by the project changes the folder
 abbrev pub PlayComesTo : List ℕ → List ℕ → List ℕ → View → View → Result ℕ CommandFault → Type 0
 PlayComesTo project input output old new (Ok count) = PlaysFiles project input output old new count
 PlayComesTo project input output old new (Err (Call fault)) = ((new ≡ old) × (fault ≡ Memory)) ⊎ LeavesOutput project input output old new fault
 PlayComesTo project input output old new (Err ReadFailed) = new ≡ old
-PlayComesTo project input output old new (Err WriteFailed) = KeepsOthers output old new × (new.file output ≡ old.file output)
+PlayComesTo project input output old new (Err WriteFailed) = IsUnwritten project input output old new

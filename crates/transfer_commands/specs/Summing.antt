@@ -1,6 +1,7 @@
 -- What identifies the sound of a file of a folder.
 use Rattle.std.specs.Prelude.{◌≡◌, ℕ, Bool, List, map, ◌⊎◌, Result, Ok, Err}
 use Rattle.sha2.specs.Sha256.{sha256}
+use Rattle.sha2.specs.declared.Sha256.{Sha256}
 use Rattle.dsd_bits.specs.Channels.{count_of}
 use Rattle.dsd_bits.specs.Contents.{Content}
 use Rattle.dsd_bits.specs.Packing.{packed}
@@ -19,6 +20,10 @@ use Rattle.transfer_commands.specs.declared.fault.CommandFault.TheVariants.{Call
 -- last
 abbrev pub digests_of : List (List Bool) → List (List ℕ)
 digests_of channels = map (λ (bits : List Bool). sha256 (packed bits)) channels
+
+-- the digests are those of whatever channels the hashers hold
+abbrev pub AreDigestsBy : List Sha256 → List (List ℕ) → Type 0
+AreDigestsBy hashers digests = (channels : List (List Bool)) → HoldEach hashers channels → digests ≡ digests_of channels
 
 -- these are the rate of a recording, how many bits each of its channels has, and their digests
 pub record AreSumsOf (r : Content) (sums : Sums) : Type 0 where
@@ -50,4 +55,4 @@ SumComesTo file old new (Err WriteFailed) = ⊥
 pub record IsMadeOf (outline : Outline) (k : Digester) (sums : Sums) : Type 0 where
   pub rate : sums.rate ≡ outline.recording.rate
   pub count : sums.count ≡ outline.sound.count
-  pub digests : (channels : List (List Bool)) → HoldEach k.hashers.items channels → sums.digests.items ≡ digests_of channels
+  pub digests : AreDigestsBy k.hashers.items sums.digests.items

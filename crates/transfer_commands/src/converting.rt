@@ -1,13 +1,9 @@
 //! Converts a file of a folder to another.
 
-ghost use Rattle.std.specs.Prelude.{◌↔◌, List, ℕ, IfErr, IfOk, IsTrue, OnErr};
-ghost use Rattle.folder_core.specs.Files.{IsReadOf};
+ghost use Rattle.std.specs.Prelude.{◌↔◌, IsTrue};
 ghost use Rattle.form_core.specs.Parts.{FitsIn};
 ghost use Rattle.sound_core.specs.Outlines.{AreStated, around_of};
-ghost use Rattle.transfer_core.specs.Converting.{Converts};
-ghost use Rattle.transfer_core.specs.Conversions.{ConversionApplies, ConvertsReader, ConvertsPrefix};
-ghost use Rattle.transfer_commands.specs.Converting.{ConvertComesTo};
-ghost use Rattle.transfer_commands.specs.Outlining.{OutlinesRead};
+ghost use Rattle.transfer_commands.specs.Converting.{ConvertComesTo, ConvertsTo, HeldComesTo, OutlinedComesTo};
 
 use crate::fault::CommandFault;
 use crate::holding::hold_file;
@@ -56,9 +52,7 @@ fn convert_whole<F: Folder>(
     file: &[u8],
     output: &str,
 ) -> Result<u64, CommandFault>
-    // Whichever name it was read under.
-    ensures { (input : List ℕ) → IsReadOf (F.view folder.old) input file.now
-        → ConvertComesTo form input output.now (F.view folder.old) (F.view folder.new) result }
+    ensures { HeldComesTo file.now form output.now (F.view folder.old) (F.view folder.new) result }
 {
     let converted = convert(alloc, file, form)?;
     write_file(folder, output, &converted.bytes)?;
@@ -76,8 +70,7 @@ fn convert_outlined<F: Folder>(
     output: &str,
 ) -> Result<u64, CommandFault>
     requires reported { AreStated (around_of outline.now) }
-    ensures { OutlinesRead input.now (F.view folder.old) outline.now
-        → ConvertComesTo form input.now output.now (F.view folder.old) (F.view folder.new) result }
+    ensures { OutlinedComesTo outline.now form input.now output.now (F.view folder.old) (F.view folder.new) result }
 {
     held_is_opened();
     written_in_parts();
@@ -112,12 +105,7 @@ fn convert_between<R: Read + Drop, W: Write>(
     made: W,
 ) -> (Result<u64, Fault>, W)
     requires reported { AreStated (around_of outline.now) }
-    ensures ok { IfOk result.0 (ConvertsReader (R.remaining file) form (W.contents made) (W.contents result.1)) }
-    // If the reader's bytes aren't known, the same holds of some bytes that were read.
-    ensures any_reader { IfOk result.0 (λ dropped. (read : List ℕ) × (bytes : List ℕ) × Converts read form bytes dropped) }
-    ensures prefix { OnErr result.0 (ConvertsPrefix (R.remaining file) (around_of outline.now) form (W.contents made)
-        (W.contents result.1)) }
-    ensures refused { IfErr result.0 (ConversionApplies (R.remaining file) (around_of outline.now) form) }
+    ensures { ConvertsTo outline.now form (R.remaining file) (W.contents made) (W.contents result.1) result.0 }
 {
     let mut inlet = Inlet::new(file);
     let mut outlet = Outlet::new(made);

@@ -1,10 +1,10 @@
 //! Digests a sound while its file is read: a hasher for each channel.
 
-ghost use Rattle.std.specs.Prelude.{◌≡◌, ◌<◌, [], Bool, List, ℕ, IfOk, get_or, length};
+ghost use Rattle.std.specs.Prelude.{◌≡◌, ◌<◌, [], ℕ, IfOk, get_or, length};
 ghost use Rattle.sha2.specs.Hashers.{Holds256};
 ghost use Rattle.sha2.specs.declared.Sha256.{Sha256 as Hasher};
-ghost use Rattle.transfer_commands.specs.Digesting.{AreUpdated, HoldEach, HoldNothing};
-ghost use Rattle.transfer_commands.specs.Summing.{digests_of};
+ghost use Rattle.transfer_commands.specs.Digesting.{AreUpdated, HoldNothing};
+ghost use Rattle.transfer_commands.specs.Summing.{AreDigestsBy};
 
 use dsd_bits::{Bits, Sound};
 use interleave_core::unlace;
@@ -28,8 +28,7 @@ impl Digester {
 
     /// The SHA-256 of each channel's packed bits.
     pub(crate) fn finish(self, alloc: Global) -> Result<Vec<[u8; 32]>, AllocError>
-        ensures { IfOk result (λ made. (channels : List (List Bool)) → HoldEach self.hashers.items channels
-            → made.items ≡ digests_of channels) }
+        ensures { IfOk result (λ made. AreDigestsBy self.hashers.items made.items) }
     {
         let Digester { hashers } = self;
         let mut made = Vec::new(alloc);

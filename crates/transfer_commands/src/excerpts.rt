@@ -1,12 +1,9 @@
 //! Reads what a splice needs of the files of its takes.
 
-ghost use Rattle.std.specs.Prelude.{◌≡◌, ◌<◌, [], ℕ, List, IfErr, IfOk, IfSome, length, slice_index_or};
-ghost use Rattle.splice_core.specs.Splices.{SpliceContent, splice_content};
-ghost use Rattle.cut_core.specs.Excerpts.{ranges_of};
-ghost use Rattle.cut_core.specs.Opening.{IsOfTake, IsOfTakes, fault_of_take};
-ghost use Rattle.sound_core.specs.Keeping.{IsKeptOf, stretches_in};
-ghost use Rattle.sound_core.specs.Outlines.{AreStated, around_of};
-ghost use Rattle.transfer_commands.specs.Excerpts.{ReadsExcerpts, ReadsAllExcerpts, HoldsExcerpts, AreExcerptsIn, AreExcerptsInSome, StreamsRead};
+ghost use Rattle.std.specs.Prelude.{◌≡◌, ◌<◌, IfErr, IfOk, length};
+ghost use Rattle.splice_core.specs.Splices.{splice_content};
+ghost use Rattle.cut_core.specs.Opening.{IsOfTake, fault_of_take};
+ghost use Rattle.transfer_commands.specs.Excerpts.{AreExcerptsInSome, AreExcerptsLeft, AreOfTakes, KeepsExcerpts, ReadsTake, ReadsTakes, StreamsRead};
 ghost use Rattle.transfer_commands.specs.Outlining.{IsUnread};
 
 use crate::fault::CommandFault;
@@ -32,9 +29,8 @@ pub(crate) fn read_excerpts<F: Folder>(
     splice: &Splice,
 ) -> Result<Result<Vec<Excerpts>, CutFault>, CommandFault>
     ensures same { F.view folder.new ≡ F.view folder.old }
-    ensures excerpts { IfOk result (ReadsAllExcerpts (F.view folder.old) (splice_content splice.now)
-        (splice_content splice.now).takes) }
-    ensures of { IfOk result (IsOfTakes (splice_content splice.now) (length (splice_content splice.now).takes)) }
+    ensures excerpts { IfOk result (ReadsTakes (F.view folder.old) (splice_content splice.now)) }
+    ensures of { IfOk result (AreOfTakes (splice_content splice.now)) }
     ensures fault { IfErr result IsUnread }
 {
     let mut excerpts = Ok(Vec::new(alloc));
@@ -54,8 +50,7 @@ fn named_excerpts<F: Folder>(
 ) -> Result<Result<Excerpts, CutFault>, CommandFault>
     requires { number < length (splice_content splice.now).takes }
     ensures same { F.view folder.new ≡ F.view folder.old }
-    ensures excerpts { IfOk result (ReadsExcerpts (F.view folder.old) (splice_content splice.now) number
-        (slice_index_or (splice_content splice.now).takes number [])) }
+    ensures excerpts { IfOk result (ReadsTake (F.view folder.old) (splice_content splice.now) number) }
     ensures of { IfOk result (IsOfTake (splice_content splice.now) number) }
     ensures fault { IfErr result IsUnread }
 {
@@ -90,8 +85,7 @@ fn reader_excerpts<R: Read + Drop>(
     number: usize,
     file: R,
 ) -> Result<Result<Excerpts, CutFault>, CommandFault>
-    ensures excerpts { IfOk result (λ found. IfSome (R.remaining file) (λ left. AreExcerptsIn
-        (splice_content splice.now) number left found)) }
+    ensures excerpts { IfOk result (AreExcerptsLeft (R.remaining file) (splice_content splice.now) number) }
     // If the reader's bytes aren't known, some bytes that were read hold what the splice reads.
     ensures any_reader { IfOk result (AreExcerptsInSome (splice_content splice.now) number) }
     ensures of { IfOk result (IsOfTake (splice_content splice.now) number) }
@@ -121,9 +115,7 @@ fn take_unread(number: usize, fault: ReadFault) -> CutFault
 
 // What a splice reads, from what was kept of a file.
 fn excerpts_by(kept: Kept) -> Excerpts
-    ensures { (splice : SpliceContent) (number : ℕ) (file : List ℕ) → AreStated (around_of kept.outline)
-        → IsKeptOf (around_of kept.outline) (ranges_of splice number) (stretches_in kept) file
-        → HoldsExcerpts splice number file result }
+    ensures { KeepsExcerpts kept result }
 {
     let Kept { outline, stretches } = kept;
     has_shape(&outline.recording);

@@ -1,15 +1,15 @@
 //! Which bytes of a file's sound are not looked at.
 
-ghost use Rattle.std.specs.Prelude.{◌≡◌, ℕ, ◌+◌, ◌-◌, ◌*◌, ◌/◌, ◌<◌, ◌≤◌, ◌^◌, ◌⊎◌};
+ghost use Rattle.std.specs.Prelude.{◌≡◌, ◌+◌, ◌-◌, ◌*◌, ◌/◌, ◌≤◌, ◌^◌, ◌⊎◌};
 ghost use Rattle.dsd_bits.specs.Sounds.{IsSound};
-ghost use Rattle.folder_core.specs.GappedFiles.{LiesInGap};
-ghost use Rattle.player_core.specs.Groups.{part_size, place_in};
-ghost use Rattle.transfer_commands.specs.Gaps.{HoldNoBitOf, LieInSound};
+ghost use Rattle.player_core.specs.Groups.{part_size};
+ghost use Rattle.transfer_commands.specs.Gaps.{HoldNoBitOf, HoldNoneBetween, LieAfter, LieBefore, LieInSound};
 
 use dsd_bits::Sound;
 use folder_core::{Gap, Gaps};
 
-// A frame reads only bits from so many before its first on, up to as many behind its last: filters have at most 4096 taps.
+// A frame reads only bits from so many before its first on, up to as many behind its last: filters have at most 4096
+// taps.
 const REACH: u64 = 4096;
 
 // The bytes of a block of one channel.
@@ -58,7 +58,7 @@ fn last_bit(stop: usize, factor: u32) -> u64
 // All of a sound but for its bytes from one on, up to another that is not among them.
 fn all_but(sound: &Sound, from: u64, to: u64) -> Gaps
     ensures in_sound { LieInSound sound.now result }
-    ensures kept { (p : ℕ) → from ≤ p → (p < to) ⊎ (2 ^ 64 - 1 ≤ to) → LiesInGap result (sound.now.start + p) 1 → ⊥ }
+    ensures kept { HoldNoneBetween sound.now from to result }
 {
     let begin = sound.start as u64;
     let end = begin.saturating_add(sound.size as u64);
@@ -74,7 +74,7 @@ fn all_but(sound: &Sound, from: u64, to: u64) -> Gaps
 
 // How many of the first bytes of a sound hold no bit of any channel from this one on.
 fn bytes_before(sound: &Sound, bit: u64) -> u64
-    ensures { (c : ℕ) (p : ℕ) → bit / 8 ≤ p → result ≤ place_in sound.now.interleaving sound.now.channels c p }
+    ensures { LieAfter sound.now (bit / 8) result }
 {
     let size = neighbours(sound);
     let group = size.saturating_mul(sound.channels as u64);
@@ -83,8 +83,7 @@ fn bytes_before(sound: &Sound, bit: u64) -> u64
 
 // How many of the first bytes of a sound hold all bits of each channel up to this one.
 fn bytes_up_to(sound: &Sound, bit: u64) -> u64
-    ensures { sound.now.channels ≤ 6 → (c : ℕ) (p : ℕ) → c < sound.now.channels → p ≤ bit / 8
-        → (place_in sound.now.interleaving sound.now.channels c p < result) ⊎ (2 ^ 64 - 1 ≤ result) }
+    ensures { LieBefore sound.now (bit / 8) result }
 {
     let size = neighbours(sound);
     let group = size.saturating_mul(sound.channels as u64);

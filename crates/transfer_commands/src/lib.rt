@@ -14,11 +14,13 @@
 //!
 //! The words of the contracts, over any folder, of which `old` is known before and `new` after:
 //!
-//! - `PlayComesTo`, `ConvertComesTo`, `ReportComesTo` and `SumComesTo` say what became of the files by a command and
-//!   what it returned, whether it was done or refused, by bytes that were read of them (`specs/Playing.antt`,
-//!   `specs/Converting.antt`, `specs/Reporting.antt`, `specs/Summing.antt`).
+//! - `PlayComesTo`, `PlayPartComesTo`, `ConvertComesTo`, `ReportComesTo` and `SumComesTo` say what became of the files
+//!   by a command and what it returned, whether it was done or refused, by bytes that were read of them
+//!   (`specs/Playing.antt`, `specs/PartPlaying.antt`, `specs/Converting.antt`, `specs/Reporting.antt`,
+//!   `specs/Summing.antt`).
+//! - `FindsSpan` says which part a span names, and `IsUnfound` why it names none (`specs/PartPlaying.antt`).
 //! - `AreSources` says which bytes were read of a project and its takes, `SourcesUnread` why they weren't
-//!   (`specs/Sources.antt`), and `ReadsSourceExcerpts` what the splice reads of them (`specs/Excerpts.antt`).
+//!   (`specs/Sources.antt`), and `ReadsSources` what the splice reads of them (`specs/Excerpts.antt`).
 //!
 //! What it promises: an answer is true of bytes that were read. In a folder with known bytes these are the bytes that
 //! the named files gave, and no other file changed.

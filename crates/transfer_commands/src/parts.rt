@@ -1,17 +1,10 @@
 //! Plays a part of a file of a folder to another.
 
-ghost use Rattle.std.specs.Prelude.{◌≡◌, ℕ, List, [], IfErr, IfOk, IsTrue, OnErr, Some, length};
-ghost use Rattle.dsd_bits.specs.Contents.{MarkContent};
+ghost use Rattle.std.specs.Prelude.{◌≡◌, ◌↔◌, IfErr, IfOk, IsTrue};
 ghost use Rattle.folder_core.specs.Files.{IsGiven};
-ghost use Rattle.player_core.specs.Playing.{PlaysFile, WritesPrefix};
-ghost use Rattle.sound_core.specs.Files.{LeadsToSound};
-ghost use Rattle.transfer_core.specs.PartStreaming.{PartApplies, PartOnlyFromOutside, PlaysPart};
-ghost use Rattle.transfer_core.specs.Spans.{AreFramesOf, IsSpanOf};
-ghost use Rattle.transfer_core.specs.Streaming.{FailsBeforeWriting};
-ghost use Rattle.transfer_core.specs.declared.frames.PlayedFrames.{PlayedFrames};
 ghost use Rattle.transfer_commands.specs.Faults.{of_file};
 ghost use Rattle.transfer_commands.specs.Opening.{left_of};
-ghost use Rattle.transfer_commands.specs.PartPlaying.{FindsSpan, HasSpan, IsPartRefused, PlayPartComesTo, PlayedPartComesTo, PlaysSome};
+ghost use Rattle.transfer_commands.specs.PartPlaying.{FoundComesTo, HasSpanInSound, IsFound, IsMark, IsNotInSound, IsUnfound, NamesMark, PlayPartComesTo, PlaysTo};
 ghost use Rattle.transfer_commands.specs.declared.fault.CommandFault.TheVariants as commands;
 ghost use Rattle.transfer_commands.specs.declared.parts.PartFault.TheVariants as faults;
 
@@ -84,8 +77,12 @@ struct FoundPart<'a, R> {
 }
 
 /// Reads the project, finds the part in the recording, creates the WAVE file and plays the part to it. Returns how many
-/// bytes the WAVE file has. A part that isn't there is refused before the WAVE file is created. After a fault of
-/// playing the WAVE file may hold a prefix of what was due, but a folder that keeps old files keeps an old one.
+/// bytes the WAVE file has. After a fault of playing the WAVE file may hold a prefix of what was due, but a folder that
+/// keeps old files keeps an old one.
+///
+/// Refusals before the WAVE file is created, in this order: `ReadFailed` of the project, `ReadFailed` of the recording,
+/// `FileUnread`, `Project`, `NoDecimation`, `RateNotDivided`, `NoMark`, `PartOutside`, `PartReversed`. Then
+/// `WriteFailed` if it can't be created, and those of [`play_part_stream`]. Out of memory is always `Memory`.
 ///
 /// A recording that can be read again is opened and read through first, and then opened again to be played. Any other
 /// is opened once: its part is found by what its first bytes say, so that a mark is not found in it (`ReadFailed`). The
@@ -102,10 +99,7 @@ pub fn play_part_file<F: Folder>(
 {
     let project = read_file(alloc, folder, project)?;
     let found = find_part(alloc, folder, &project, input, span)?;
-    let Ok(wave) = folder.create(output) else {
-        return Err(PartFault::Command(CommandFault::WriteFailed));
-    };
-    Ok(play_part_to(alloc, folder, found, output, wave)?)
+    Ok(play_part_to(alloc, folder, found, output)?)
 }
 
 // The part of a file that a span names, by a project's text, and the file, opened to be played.
@@ -117,10 +111,9 @@ fn find_part<'a, F: Folder>(
     span: Span,
 ) -> Result<FoundPart<'a, F::In>, PartFault>
     ensures same { F.view folder.new ≡ F.view folder.old }
-    ensures project { IfOk result (λ f. f.part.project.now ≡ project.now) }
-    ensures found { IfOk result (λ f. FindsSpan project.now input.now (F.view folder.old) span f.part.start f.part.stop) }
+    ensures found { IfOk result (λ f. IsFound project.now input.now (F.view folder.old) span f.part) }
     ensures given { IfOk result (λ f. IsGiven (F.view folder.old) input.now (left_of F.In.remaining f.opened)) }
-    ensures refused { IfErr result IsPartRefused }
+    ensures refused { IfErr result (IsUnfound project.now input.now (F.view folder.old) span) }
 {
     if folder.reopens(input) {
         let part = part_of(alloc, folder, project, input, span)?;
@@ -144,9 +137,8 @@ fn part_of<'a, F: Folder>(
     span: Span,
 ) -> Result<Part<'a>, PartFault>
     ensures same { F.view folder.new ≡ F.view folder.old }
-    ensures project { IfOk result (λ part. part.project.now ≡ project.now) }
-    ensures found { IfOk result (λ part. HasSpan project.now input.now (F.view folder.old) span part.start part.stop) }
-    ensures refused { IfErr result IsPartRefused }
+    ensures found { IfOk result (IsFound project.now input.now (F.view folder.old) span) }
+    ensures refused { IfErr result (IsUnfound project.now input.now (F.view folder.old) span) }
 {
     let reported = open_past_sound(alloc, folder, input)?;
     let rate = reported.description.rate();
@@ -169,9 +161,8 @@ fn part_in<'a>(
     span: Span,
 ) -> Result<Part<'a>, PartFault>
     ensures project { IfOk result (λ part. part.project.now ≡ project.now) }
-    ensures found { IfOk result (λ part. (frames : PlayedFrames) × AreFramesOf project.now sound.now.rate sound.now.count frames
-        × ((marks : List MarkContent) → IsSpanOf frames sound.now.rate marks span part.start part.stop)) }
-    ensures refused { IfErr result IsPartRefused }
+    ensures found { IfOk result (λ part. HasSpanInSound project.now sound.now span part.start part.stop) }
+    ensures refused { IfErr result (IsNotInSound project.now sound.now span) }
 {
     let frames = frames_of(alloc, project, sound.rate, sound.count)?;
     let (start, stop) = span_of(span, frames, sound.rate, &[])?;
@@ -184,29 +175,34 @@ fn part_in<'a>(
 }
 
 // Whether a span names a mark.
-fn names_mark(span: Span) -> bool {
+fn names_mark(span: Span) -> bool
+    ensures { IsTrue result ↔ NamesMark span }
+{
     is_mark(span.from) || is_mark(span.to)
 }
 
-fn is_mark(place: Option<Place>) -> bool {
+// Whether a place is a mark.
+fn is_mark(place: Option<Place>) -> bool
+    ensures { IsTrue result ↔ IsMark place }
+{
     match place {
         Some(Place::Mark(_)) => true,
         _ => false,
     }
 }
 
-// Plays a part of a file to one that was created, and keeps this one, or gives it up after a fault.
+// Creates a file, plays a part of another to it, and keeps it, or gives it up after a fault.
 fn play_part_to<F: Folder>(
     alloc: Global,
     folder: &mut F,
     found: FoundPart<'_, F::In>,
     output: &str,
-    wave: F::Out,
 ) -> Result<u64, CommandFault>
-    ensures { (input : List ℕ) → IsGiven (F.view folder.old) input (left_of F.In.remaining found.entry.opened)
-        → (IsTrue (F.view folder.old).is_known → F.Out.contents wave ≡ Some [])
-        → PlayedPartComesTo found.entry.part.project.now found.entry.part.start found.entry.part.stop input output.now (F.view folder.old) (F.view folder.new) result }
+    ensures { FoundComesTo F.In.remaining found.entry output.now (F.view folder.old) (F.view folder.new) result }
 {
+    let Ok(wave) = folder.create(output) else {
+        return Err(CommandFault::WriteFailed);
+    };
     let FoundPart { part, opened } = found;
     let (played, wave) = play_opened(alloc, folder, part, opened, wave);
     let handed = hand_back(folder, output, &played, wave);
@@ -228,14 +224,7 @@ fn play_opened<F: Folder>(
     opened: OpenedFile<F::In>,
     wave: F::Out,
 ) -> (Result<u64, Fault>, F::Out)
-    ensures ok { IfOk result.0 (PlaysFile (left_of F.In.remaining opened) (PlaysPart part.entry.project.now part.entry.start part.entry.stop)
-        (F.Out.contents wave) (F.Out.contents result.1)) }
-    ensures some { IfOk result.0 (PlaysSome part.entry.project.now part.entry.start part.entry.stop) }
-    ensures cause { IfErr result.0 (PartOnlyFromOutside (left_of F.In.remaining opened) part.entry.project.now part.entry.start part.entry.stop) }
-    ensures prefix { OnErr result.0 (WritesPrefix (left_of F.In.remaining opened) (PlaysPart part.entry.project.now part.entry.start part.entry.stop)
-        (F.Out.contents wave) (F.Out.contents result.1)) }
-    ensures refused { IfErr result.0 (PartApplies (left_of F.In.remaining opened) part.entry.project.now part.entry.start part.entry.stop) }
-    ensures unwritten { IfErr result.0 (λ fault. FailsBeforeWriting fault → F.Out.contents result.1 ≡ F.Out.contents wave) }
+    ensures { PlaysTo F.Out.contents part.entry (left_of F.In.remaining opened) wave result.1 result.0 }
 {
     let OpenedFile {
         sound,
@@ -255,15 +244,7 @@ fn play_reader<R: Read + Drop, W: Write>(
     reader: R,
     wave: W,
 ) -> (Result<u64, Fault>, W)
-    ensures ok { IfOk result.0 (PlaysFile (R.remaining reader) (PlaysPart part.entry.project.now part.entry.start part.entry.stop)
-        (W.contents wave) (W.contents result.1)) }
-    // If the reader's bytes aren't known, the same holds of some bytes that were read.
-    ensures some { IfOk result.0 (PlaysSome part.entry.project.now part.entry.start part.entry.stop) }
-    ensures cause { IfErr result.0 (PartOnlyFromOutside (R.remaining reader) part.entry.project.now part.entry.start part.entry.stop) }
-    ensures prefix { OnErr result.0 (WritesPrefix (R.remaining reader) (PlaysPart part.entry.project.now part.entry.start part.entry.stop)
-        (W.contents wave) (W.contents result.1)) }
-    ensures refused { IfErr result.0 (PartApplies (R.remaining reader) part.entry.project.now part.entry.start part.entry.stop) }
-    ensures unwritten { IfErr result.0 (λ fault. FailsBeforeWriting fault → W.contents result.1 ≡ W.contents wave) }
+    ensures { PlaysTo W.contents part.entry (R.remaining reader) wave result.1 result.0 }
 {
     let mut inlet = Inlet::new(reader);
     let mut outlet = Outlet::new(wave);

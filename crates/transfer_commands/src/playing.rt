@@ -1,8 +1,6 @@
 //! Plays a file of a folder to another.
 
-ghost use Rattle.std.specs.Prelude.{◌≡◌, ℕ, List, [], IsTrue, Some};
-ghost use Rattle.folder_core.specs.Files.{IsGiven};
-ghost use Rattle.transfer_commands.specs.Playing.{PlayComesTo, PlayedComesTo};
+ghost use Rattle.transfer_commands.specs.Playing.{OpenComesTo, PlayComesTo};
 
 use crate::fault::CommandFault;
 use chunk_core::{Inlet, Outlet};
@@ -26,25 +24,22 @@ pub fn play_file<F: Folder>(
     let Ok(file) = folder.open(input) else {
         return Err(CommandFault::ReadFailed);
     };
-    let Ok(wave) = folder.create(output) else {
-        return Err(CommandFault::WriteFailed);
-    };
-    play_to(alloc, folder, &project, file, output, wave)
+    play_to(alloc, folder, &project, file, output)
 }
 
-// Plays a file to one that was created, and keeps this one, or gives it up after a fault.
+// Creates a file, plays another to it, and keeps it, or gives it up after a fault.
 fn play_to<F: Folder>(
     alloc: Global,
     folder: &mut F,
     project: &[u8],
     file: F::In,
     output: &str,
-    wave: F::Out,
 ) -> Result<u64, CommandFault>
-    ensures { (input : List ℕ) → IsGiven (F.view folder.old) input (F.In.remaining file)
-        → (IsTrue (F.view folder.old).is_known → F.Out.contents wave ≡ Some [])
-        → PlayedComesTo project.now input output.now (F.view folder.old) (F.view folder.new) result }
+    ensures { OpenComesTo project.now (F.In.remaining file) output.now (F.view folder.old) (F.view folder.new) result }
 {
+    let Ok(wave) = folder.create(output) else {
+        return Err(CommandFault::WriteFailed);
+    };
     let mut inlet = Inlet::new(file);
     let mut outlet = Outlet::new(wave);
     let played = play_stream(alloc, project, &mut inlet, &mut outlet);

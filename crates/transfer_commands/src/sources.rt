@@ -1,9 +1,7 @@
 //! Reads a project and the takes that it names.
 
-ghost use Rattle.std.specs.Prelude.{◌≡◌, IfErr, IfOk, length};
-ghost use Rattle.splice_core.specs.Splices.{splice_content};
-ghost use Rattle.cut_core.specs.Opening.{IsOfTakes};
-ghost use Rattle.transfer_commands.specs.Excerpts.{ReadsSourceExcerpts};
+ghost use Rattle.std.specs.Prelude.{◌≡◌, IfErr, IfOk};
+ghost use Rattle.transfer_commands.specs.Excerpts.{AreOfItsTakes, ReadsSources};
 ghost use Rattle.transfer_commands.specs.Sources.{SourcesUnread};
 
 use crate::excerpts::read_excerpts;
@@ -31,10 +29,8 @@ pub fn source_excerpts<F: Folder>(
     project: &str,
 ) -> Result<Sources, CommandFault>
     ensures same { F.view folder.new ≡ F.view folder.old }
-    ensures excerpts { IfOk result (λ found. ReadsSourceExcerpts project.now (F.view folder.old)
-        (splice_content found.splice) found.takes) }
-    ensures of { IfOk result (λ found. IsOfTakes (splice_content found.splice)
-        (length (splice_content found.splice).takes) found.takes) }
+    ensures excerpts { IfOk result (ReadsSources project.now (F.view folder.old)) }
+    ensures of { IfOk result AreOfItsTakes }
     ensures fault { IfErr result (SourcesUnread project.now (F.view folder.old) (F.view folder.new)) }
 {
     let project = read_file(alloc, folder, project)?;

@@ -1,12 +1,10 @@
-use Rattle.std.proofs.Common.{false, true, ◌≡◌, ◌∙◌, IsTrue, Some, [], ap, refl, subst, inl, inr}
+use Rattle.std.proofs.Common.{false, true, ◌≡◌, ◌∙◌, IsTrue, Ok, Some, [], ap, refl, subst, inl, inr}
 use Rattle.std.specs.Prelude.{is_ok}
 use Rattle.folder_core.specs.Files.{IsGiven, IsGivenUp, KeepsOthers, View}
 use Rattle.folder_core.proofs.FileLaws.{given_up, not_kept}
-use Rattle.sound_core.specs.Outlines.{around_of}
-use Rattle.transfer_core.specs.Conversions as streams
 use Rattle.transfer_core.specs.declared.fault.Fault.{Fault}
 use Rattle.std.proofs.Common.{Err}
-use Rattle.transfer_commands.specs.Converting.{LeavesConvertedPrefix}
+use Rattle.transfer_commands.specs.Converting.{ConvertsTo, LeavesConvertedPrefix}
 use Rattle.transfer_commands.specs.Outlining.{OutlinesRead}
 use Rattle.transfer_commands.proofs.ConvertLaws.{converts_all, converts_none, converts_prefix, outlined_unconverted}
 use Rattle.transfer_commands.proofs.converting.convert_outlined.Given.{Over}
@@ -64,20 +62,21 @@ module _ (g : Over) (c : After-hand_back-handed g) where
       let written = g.F.Out.Write.contents c.convert_between-came.result.1 in
       let part : is_ok c.convert_between-came.result.0 ≡ false = ap is_ok is in
       let stays = given_up c.args.output.now (g.F.Folder.view c.create.new.self) new (is_ok c.convert_between-came.result.0) written c.hand_back-handed.result part c.hand_back-handed.ensures.whole c.hand_back-handed.ensures.refused in
-      let before : streams.ConvertsPrefix (g.F.In.Read.remaining c.in-Ok.file) (around_of c.args.outline.now) c.args.form (g.F.Out.Write.contents c.in-Ok-create.made) written = rw is at c.convert_between-came.ensures.prefix in
+      let ends : ConvertsTo c.args.outline.now c.args.form (g.F.In.Read.remaining c.in-Ok.file) (g.F.Out.Write.contents c.in-Ok-create.made) written (Err fault) = rw is at c.convert_between-came.ensures in
       converts_prefix c.args.form c.args.input.now c.args.output.now (old g k) new others
       c.args.outline.now found c.written_in_parts.ensures (c.if-not-fits_in.ensures.0 refl)
       (g.F.In.Read.remaining c.in-Ok.file) (g.F.Out.Write.contents c.in-Ok-create.made) written
-      (given g k) (empty g k) (subst (λ (v : View). IsTrue v.is_known → IsGivenUp c.args.output.now v new written) (same g k) stays) before
+      (given g k) (empty g k) (subst (λ (v : View). IsTrue v.is_known → IsGivenUp c.args.output.now v new written) (same g k) stays) ends.0
 
 pub returns-in-Ok-handed : goal.returns-in-Ok-handed
 returns-in-Ok-handed g c = λ found.
     let h = (goal.at.returns-in-Ok-handed g c).After-hand_back-handed in
     let made = k g h in
     let written = g.F.Out.Write.contents c.convert_between-came.result.1 in
+    let ends : ConvertsTo c.args.outline.now c.args.form (g.F.In.Read.remaining c.in-Ok.file) (g.F.Out.Write.contents c.in-Ok-create.made) written (Ok c.in-Ok-came.dropped) = rw c.in-Ok-came.is at c.convert_between-came.ensures in
     converts_all c.args.form c.args.input.now c.args.output.now (old g made) (new g h) (others g h)
     (g.F.In.Read.remaining c.in-Ok.file) (g.F.Out.Write.contents c.in-Ok-create.made) written c.in-Ok-came.dropped
-    (given g made) (empty g made) (subst (λ (v : View). IsTrue v.is_known → (new g h).file c.args.output.now ≡ written) (same g made) c.in-Ok-handed.ensures.bytes) (rw c.in-Ok-came.is at c.convert_between-came.ensures.ok) (rw c.in-Ok-came.is at c.convert_between-came.ensures.any_reader)
+    (given g made) (empty g made) (subst (λ (v : View). IsTrue v.is_known → (new g h).file c.args.output.now ≡ written) (same g made) c.in-Ok-handed.ensures.bytes) ends.0 ends.1
 
 pub returns-in-Err-handed : goal.returns-in-Err-handed
 returns-in-Err-handed g c = λ found.

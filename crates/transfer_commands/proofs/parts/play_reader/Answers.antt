@@ -1,5 +1,21 @@
-use Rattle.std.proofs.lemmas.Result.{IfOk-weaker}
+use Rattle.std.proofs.Common.{ap, subst, sym}
+use Rattle.std.proofs.lemmas.Result.{IfErr-weaker, IfOk-weaker}
+use Rattle.chunk_core.specs.Inlets.{inlet_reader}
+use Rattle.chunk_core.specs.Outlets.{outlet_writer}
+use Rattle.transfer_commands.specs.PartPlaying.{PlaysTo}
+use Rattle.transfer_commands.proofs.PartLaws.{part_plays}
 use Rattle.transfer_commands.proofs.parts.play_reader.Goals as goal
 
-pub returns-clause-some : goal.returns-clause-some
-returns-clause-some g c = IfOk-weaker c.play_part_stream-played.result _ _ (λ n h. (h.0, h.1, h.3, h.4)) c.play_part_stream-played.ensures.any_reader
+pub returns : goal.returns
+returns g c =
+    let left = g.R.Read.remaining in
+    let held = g.W.Write.contents in
+    let came = c.play_part_stream-played.result in
+    let played = c.play_part_stream-played.ensures in
+    let before = outlet_writer c.new-outlet.result in
+    let after = outlet_writer c.play_part_stream-played.new.outlet in
+    let plays = part_plays held c.args.part (left (inlet_reader c.new-inlet.result)) before after came played.ok (IfOk-weaker came _ _ (λ n h. (h.0, h.1, h.3, h.4)) played.any_reader)
+    played.refused played.cause played.prefix (IfErr-weaker came _ _ (λ fault none early. ap held (none early)) played.unwritten) in
+    let from = subst (λ r. PlaysTo held c.args.part (left r) before after came) c.new-inlet.ensures.reader plays in
+    let to = subst (λ w. PlaysTo held c.args.part (left c.args.reader) w after came) c.new-outlet.ensures.writer from in
+    subst (λ w. PlaysTo held c.args.part (left c.args.reader) c.args.wave w came) (sym c.into_inner.ensures) to

@@ -1,8 +1,6 @@
-use Rattle.std.proofs.Common.{◌∙◌, Err, ap, inl, refl, subst, sym}
+use Rattle.std.proofs.Common.{refl, subst}
 use Rattle.std.specs.Prelude.{IfSome}
-use Rattle.std.proofs.lemmas.Result.{err_from_is_err_and}
 use Rattle.transfer_commands.specs.Outlining.{OutlinesRead}
-use Rattle.transfer_commands.specs.Reporting.{ReportComesTo}
 use Rattle.transfer_commands.proofs.ReportLaws.{outline_reports}
 use Rattle.transfer_commands.proofs.reporting.open_past_sound.Goals as goal
 

@@ -5,3 +5,5 @@ pub mod Sources
 pub mod Summing
 pub mod Writing
 pub mod Parts
+pub mod Endings
+pub mod SumEndings

@@ -14,16 +14,26 @@ use Rattle.words_core.specs.declared.fault.WordsFault.TheVariants as words
 use Rattle.transfer_core.specs.declared.fault.Fault.TheVariants.{Memory}
 use Rattle.command_core.specs.declared.outcome.Outcome.TheVariants.{Played, Converted, Edited, Accepted, Rejected, Info, Fault, NoPart, ReadFailed, WriteFailed, WrongWords, UnknownFormName}
 
+-- a line begins with these bytes
+abbrev pub BeginsWith : List ℕ → List ℕ → Type 0
+BeginsWith beginning line = (rest : List ℕ) × (line ≡ beginning ++ rest)
+
 -- what the printed line says: for a file that was played its number of bytes, for one that was converted what was
--- dropped, for a master that was cut or accepted its cost, and for a file that was read the lines that describe its
--- recording; nothing is said of other texts
-abbrev pub ShowsDone : Outcome → List ℕ → Type 0
-ShowsDone (Played n) line = line ≡ codes "played " ++ decimal n ++ codes " bytes"
-ShowsDone (Converted n) line = line ≡ codes "converted dropped " ++ decimal n
-ShowsDone (Edited n) line = line ≡ codes "edited total " ++ decimal n
-ShowsDone (Accepted n) line = line ≡ codes "accepted total " ++ decimal n
-ShowsDone (Info reported) line = line ≡ info_text reported.form reported.description
-ShowsDone _ line = Unit {0}
+-- dropped, for a master that was cut or accepted its cost, for one that was rejected `rejected ` and a text, for a file
+-- that was read the lines that describe its recording, and for a fault `fault: ` and its name, or a text
+abbrev pub ShowsOutcome : Outcome → List ℕ → Type 0
+ShowsOutcome (Played n) line = line ≡ codes "played " ++ decimal n ++ codes " bytes"
+ShowsOutcome (Converted n) line = line ≡ codes "converted dropped " ++ decimal n
+ShowsOutcome (Edited n) line = line ≡ codes "edited total " ++ decimal n
+ShowsOutcome (Accepted n) line = line ≡ codes "accepted total " ++ decimal n
+ShowsOutcome (Rejected reason) line = BeginsWith (codes "rejected ") line
+ShowsOutcome (Info reported) line = line ≡ info_text reported.form reported.description
+ShowsOutcome (Fault fault) line = BeginsWith (codes "fault: ") line
+ShowsOutcome (NoPart fault) line = BeginsWith (codes "fault: ") line
+ShowsOutcome ReadFailed line = line ≡ codes "fault: ReadFailed"
+ShowsOutcome WriteFailed line = line ≡ codes "fault: WriteFailed"
+ShowsOutcome WrongWords line = line ≡ codes "fault: WrongWords"
+ShowsOutcome UnknownFormName line = line ≡ codes "fault: UnknownFormName"
 
 -- done: 0; a master that is rejected: 1; a fault: 2; words that are no command or name no form: 3
 abbrev pub status_of : Outcome → ℕ

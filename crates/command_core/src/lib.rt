@@ -11,15 +11,18 @@
 //!   after it. What is reported is true of bytes that were read. If the folder's bytes are known, they are those that
 //!   openings of the names gave. `ComesTo old new outcome` says the same of words, which may be no command
 //!   (`specs/Commands.antt`).
-//! - `ShowsDone outcome line` is the line of a command that was done, `status_of` the status with which the program
+//! - `ShowsOutcome outcome line` says what is printed of an outcome, `status_of` is the status with which the program
 //!   ends (`specs/Outcomes.antt`).
 //! - `SumLineComesTo name old new answer` says that an answer is the line of sums of bytes that were read of a file, or
 //!   why there is none, `ListedComesTo name line old new answer` whether that line is the one of a list
 //!   (`specs/Summing.antt`).
+//! - `EndsWith status` says what the program's status says: it is that of an outcome once it was printed
+//!   (`specs/Endings.antt`), or of the lines, lists and files of `sum` (`specs/SumEndings.antt`).
 //!
 //! What it promises: an outcome reports what came about. What `edit` cut and what `check` accepts is a master, and none
 //! costs less. [`run`] does some command with some file names, or none, and then nothing changed. Which words ask for
-//! which command is tested. [`run_program`] ends with one of the statuses of [`status`].
+//! which command is tested. [`run_program`] ends with the status of the outcome, or of the fault that it couldn't be
+//! printed.
 //!
 //! ```text
 //! let task = Task::Convert { form: Form::Dsf, input: "in.dff", output: "out.dsf" };

@@ -1,12 +1,13 @@
 //! The outcome of a command, the line that is printed, and the status with which the program ends.
 
 ghost use Rattle.std.specs.Prelude.{◌≡◌, ◌≤◌, IfOk, string_bytes};
-ghost use Rattle.command_core.specs.Outcomes.{ShowsDone, of_command, of_part, of_words, status_of};
+ghost use Rattle.command_core.specs.Outcomes.{BeginsWith, ShowsOutcome, of_command, of_part, of_words, status_of};
 ghost use Rattle.command_core.specs.declared.outcome.Outcome.TheVariants as outcomes;
 
 use archive_core::{Fault, Reason};
 use form_core::info_lines;
 use std::alloc::{AllocError, Global};
+use std::fmt::Display;
 use transfer_commands::{CommandFault, PartFault, Reported};
 use transfer_core::SpanFault;
 use words_core::WordsFault;
@@ -85,22 +86,30 @@ impl From<WordsFault> for Outcome {
 
 /// The line or lines that are printed, without the end of the last. Err is out of memory.
 pub fn outcome_line(alloc: Global, outcome: &Outcome) -> Result<String, AllocError>
-    ensures { IfOk result (λ line. ShowsDone outcome.now (string_bytes line)) }
+    ensures { IfOk result (λ line. ShowsOutcome outcome.now (string_bytes line)) }
 {
     match outcome {
         Outcome::Played(count) => format!(in alloc; "played {count} bytes"),
         Outcome::Converted(dropped) => format!(in alloc; "converted dropped {dropped}"),
         Outcome::Edited(total) => format!(in alloc; "edited total {total}"),
         Outcome::Accepted(total) => format!(in alloc; "accepted total {total}"),
-        Outcome::Rejected(reason) => format!(in alloc; "rejected {reason}"),
+        Outcome::Rejected(reason) => line_from(alloc, "rejected ", reason),
         Outcome::Info(reported) => info_lines(alloc, reported.form, &reported.description),
-        Outcome::Fault(fault) => format!(in alloc; "fault: {fault}"),
-        Outcome::NoPart(fault) => format!(in alloc; "fault: {fault}"),
+        Outcome::Fault(fault) => line_from(alloc, "fault: ", fault),
+        Outcome::NoPart(fault) => line_from(alloc, "fault: ", fault),
         Outcome::ReadFailed => format!(in alloc; "fault: ReadFailed"),
         Outcome::WriteFailed => format!(in alloc; "fault: WriteFailed"),
         Outcome::WrongWords => format!(in alloc; "fault: WrongWords"),
         Outcome::UnknownFormName => format!(in alloc; "fault: UnknownFormName"),
     }
+}
+
+// A line that begins with these bytes, and then has the text of a value.
+fn line_from<D: Display>(alloc: Global, beginning: &str, value: &D) -> Result<String, AllocError>
+    ensures { IfOk result (λ line. BeginsWith beginning.now (string_bytes line)) }
+{
+    let text = value.to_string(alloc)?;
+    format!(in alloc; "{beginning}{text}")
 }
 
 /// The program's exit status: 0 if the command was done, 1 for a master that is rejected, 2 for a fault, 3 for words

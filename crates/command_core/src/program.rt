@@ -1,9 +1,12 @@
 //! The program: does what its words ask for over its files, and prints the outcome.
 
-ghost use Rattle.std.specs.Prelude.{◌≡◌, ◌≤◌, ℕ};
+ghost use Rattle.std.specs.Prelude.{◌≡◌, ◌<◌, ◌⊎◌, true};
 ghost use Rattle.std.specs.Process.{exit_status};
 ghost use Rattle.command_core.specs.Commands.{ComesTo};
-ghost use Rattle.command_core.specs.declared.program.Came.TheVariants.{Summed};
+ghost use Rattle.command_core.specs.Endings.{CameTo, ComesToOnDisk, EndsAfter, EndsWith, IsToldAs};
+ghost use Rattle.command_core.specs.Outcomes.{status_of};
+ghost use Rattle.command_core.specs.declared.outcome.Outcome.TheVariants as outcomes;
+ghost use Rattle.transfer_core.specs.declared.fault.Fault.TheVariants.{Memory};
 
 use crate::explaining::{Shown, asks_to_explain, explain_outcome};
 use crate::outcome::{Outcome, outcome_line, status};
@@ -33,7 +36,7 @@ pub fn run_program<R: Env + Files + Clock + Input + Print + Eprint + AllocGlobal
 ) -> ExitCode
 where
     R::File: AsFd,
-    ensures status { exit_status result ≤ 3 }
+    ensures status { EndsWith (exit_status result) }
 {
     let is_asked = asks_to_explain(rt);
     let watch = Watch {
@@ -41,18 +44,29 @@ where
         is_watched,
         is_explained: is_watched || is_asked,
     };
-    let (words, ran) = match given_words(rt, is_asked) {
+    match given_words(rt, is_asked) {
         Ok(words) => match ran_by(rt, words.as_slice(), watch) {
-            Came::Ran(ran) => (Some(words), ran),
-            Came::Summed(status) => return ExitCode::from(status),
+            Came::Ran(ran) => end(rt, Some(&words), ran, watch.is_explained),
+            Came::Summed(status) => ExitCode::from(status),
         },
-        Err(error) => (None, not_run(&error)),
-    };
-    let reported = tell(rt, ran.outcome, ran.answers);
-    if watch.is_explained {
-        explain_outcome(rt, words.as_ref(), &reported, ran.failure);
+        Err(error) => end(rt, None, not_run(&error), watch.is_explained),
     }
-    ExitCode::from(status(&reported.outcome))
+}
+
+// Prints what came of the words, explains it if that is asked for, and returns the status.
+fn end<R: Files + Env + Print + Eprint + AllocGlobal>(
+    rt: &R,
+    words: Option<&Vec<String>>,
+    ran: Ran,
+    is_explained: bool,
+) -> ExitCode
+    ensures { EndsAfter ran.outcome (exit_status result) }
+{
+    let shown = tell(rt, ran.outcome, ran.answers);
+    if is_explained {
+        explain_outcome(rt, words, &shown, ran.failure);
+    }
+    ExitCode::from(status(&shown.outcome))
 }
 
 // What came of the words, where it is told, and why a file could not be made.
@@ -78,7 +92,7 @@ fn ran_by<R: Files + Env + Clock + Input + Print + Eprint + AllocGlobal>(
 ) -> Came
 where
     R::File: AsFd,
-    ensures { (status : ℕ) → result ≡ Summed status → status ≤ 3 }
+    ensures { CameTo result }
 {
     match sum_task_of(rt.alloc(), words) {
         Ok(Some(task)) => Came::Summed(run_sums(rt, &task, watch)),
@@ -88,7 +102,9 @@ where
 }
 
 // No words could be read.
-fn not_run(error: &io::Error) -> Ran {
+fn not_run(error: &io::Error) -> Ran
+    ensures { ComesToOnDisk result.outcome }
+{
     let outcome = if error.kind() == io::ErrorKind::OutOfMemory {
         Fault::Memory.into()
     } else {
@@ -98,7 +114,9 @@ fn not_run(error: &io::Error) -> Ran {
 }
 
 // Nothing was done with the disk.
-fn not_done(outcome: Outcome) -> Ran {
+fn not_done(outcome: Outcome) -> Ran
+    ensures { result.outcome ≡ outcome }
+{
     Ran {
         outcome,
         answers: Answers::ToOutput,
@@ -125,6 +143,7 @@ fn run_on_disk<R: Files + Clock + Input + Print + Eprint + AllocGlobal>(
 ) -> Ran
 where
     R::File: AsFd,
+    ensures { ComesToOnDisk result.outcome }
 {
     let mut folder = WatchedFolder::new(rt, Disk::new(rt, process), is_watched);
     let outcome = run(rt.alloc(), words, &mut folder);
@@ -135,15 +154,22 @@ where
         (true, _) => Answers::ToError,
     };
     let failure = disk.failure();
-    let outcome = if disk.has_wanted_memory() {
-        Fault::Memory.into()
-    } else {
-        outcome
-    };
+    let outcome = memory_or(outcome, disk.has_wanted_memory());
     Ran {
         outcome,
         answers,
         failure,
+    }
+}
+
+// An outcome, or `Memory` in its place if memory was wanted.
+fn memory_or(outcome: Outcome, has_wanted_memory: bool) -> Outcome
+    ensures { (result ≡ outcome) ⊎ (result ≡ outcomes.Fault Memory) }
+{
+    if has_wanted_memory {
+        Fault::Memory.into()
+    } else {
+        outcome
     }
 }
 
@@ -170,14 +196,16 @@ fn given_words<R: Env + AllocGlobal>(rt: &R, is_asked: bool) -> io::Result<Vec<S
 // Prints an outcome, and returns the outcome of that. If there is no memory for its line, this is out of memory; if
 // standard output doesn't take the line, it is a failed write. A line on standard error, a fault or what was done, may
 // fail to be written.
-fn tell<R: Print + Eprint + AllocGlobal>(rt: &R, outcome: Outcome, answers: Answers) -> Shown {
+fn tell<R: Print + Eprint + AllocGlobal>(rt: &R, outcome: Outcome, answers: Answers) -> Shown
+    ensures { IsToldAs outcome result.outcome }
+{
     let Ok(line) = outcome_line(rt.alloc(), &outcome) else {
-        return unknown_view(rt, Fault::Memory.into(), None);
+        return tell_untold(rt, Fault::Memory.into(), None);
     };
     match answers {
         Answers::ToOutput if is_answer(&outcome) => {
             if let Err(error) = println!(rt; "{line}") {
-                return unknown_view(rt, Outcome::WriteFailed, Some(error));
+                return tell_untold(rt, Outcome::WriteFailed, Some(error));
             }
         }
         Answers::Nowhere if is_answer(&outcome) => {}
@@ -192,16 +220,16 @@ fn tell<R: Print + Eprint + AllocGlobal>(rt: &R, outcome: Outcome, answers: Answ
 }
 
 // What was done or judged goes to standard output, a fault to standard error.
-fn is_answer(outcome: &Outcome) -> bool {
+fn is_answer(outcome: &Outcome) -> bool
+    ensures { result ≡ true → status_of outcome.now < 2 }
+{
     status(outcome) < 2
 }
 
 // Prints the fault that the outcome was not printed, if there is memory for its line.
-fn unknown_view<R: Eprint + AllocGlobal>(
-    rt: &R,
-    fault: Outcome,
-    refusal: Option<io::Error>,
-) -> Shown {
+fn tell_untold<R: Eprint + AllocGlobal>(rt: &R, fault: Outcome, refusal: Option<io::Error>) -> Shown
+    ensures { result.outcome ≡ fault }
+{
     if let Ok(line) = outcome_line(rt.alloc(), &fault) {
         let _ = eprintln!(rt; "{line}");
     }

@@ -1,6 +1,10 @@
 //! The program's `sum`: prints the sums of files, or judges files by lists of sums.
 
-ghost use Rattle.std.specs.Prelude.{◌≤◌, IfOk};
+ghost use Rattle.std.specs.Prelude.{◌≡◌, IfOk};
+ghost use Rattle.std.specs.Str.Lines.{lines};
+ghost use Rattle.folder_core.specs.Files.{unknown_view};
+ghost use Rattle.command_core.specs.SumEndings.{EndsSums, FileComesTo, HaveGreatest, LineComesTo, ListComesTo, WordComesTo};
+ghost use Rattle.command_core.specs.Summing.{JudgesLine, ShowsSums};
 
 use crate::listing::listed_name;
 use crate::outcome::{Outcome, outcome_line, status};
@@ -35,21 +39,34 @@ pub(crate) fn run_sums<R: Files + Env + Clock + Input + Print + Eprint + AllocGl
 ) -> u8
 where
     R::File: AsFd,
-    ensures { result ≤ 3 }
+    ensures { EndsSums task.now result }
 {
     let mut worst = 0;
     for file in &task.files {
-        let came = if task.is_check {
-            check_list(rt, file, watch)
-        } else {
-            sum_one(rt, file, watch)
-        };
-        match came {
+        match word_status(rt, task.is_check, file, watch) {
             Ok(status) => worst = status.max(worst),
             Err(error) => return unwritten(rt, file, &error, watch),
         }
     }
     worst
+}
+
+// Judges the files of a list, or sums a file, and returns the status.
+fn word_status<R: Files + Env + Clock + Input + Print + Eprint + AllocGlobal>(
+    rt: &R,
+    is_check: bool,
+    file: &str,
+    watch: Watch,
+) -> Result<u8, Error>
+where
+    R::File: AsFd,
+    ensures { IfOk result (WordComesTo is_check file.now) }
+{
+    if is_check {
+        check_list(rt, file, watch)
+    } else {
+        sum_one(rt, file, watch)
+    }
 }
 
 // Prints the line of a file, and returns its status; Err where standard output doesn't take it.
@@ -60,18 +77,30 @@ fn sum_one<R: Files + Env + Clock + Input + Print + Eprint + AllocGlobal>(
 ) -> Result<u8, Error>
 where
     R::File: AsFd,
-    ensures { IfOk result (λ status. status ≤ 3) }
+    ensures { IfOk result (FileComesTo name.now) }
+{
+    match sum_on_disk(rt, name, watch) {
+        Ok(line) => put_line(rt, &line, ""),
+        Err(fault) => Ok(tell_fault(rt, fault, Summed::File(name), watch)),
+    }
+}
+
+// The line of a file. If it was not opened because memory ran out, the fault is `Memory`.
+fn sum_on_disk<R: Files + Clock + Input + Print + Eprint + AllocGlobal>(
+    rt: &R,
+    name: &str,
+    watch: Watch,
+) -> Result<Vec<u8>, CommandFault>
+where
+    R::File: AsFd,
+    ensures { IfOk result (λ line. ShowsSums name.now unknown_view unknown_view line.items) }
 {
     let mut folder = WatchedFolder::new(rt, Disk::new(rt, watch.process), watch.is_watched);
     let came = sum_line(rt.alloc(), &mut folder, name);
-    let file = Summed::File(name);
     if folder.into_inner().has_wanted_memory() {
-        return Ok(tell_fault(rt, Fault::Memory.into(), file, watch));
+        return Err(Fault::Memory.into());
     }
-    match came {
-        Ok(line) => put_line(rt, &line, ""),
-        Err(fault) => Ok(tell_fault(rt, fault, file, watch)),
-    }
+    came
 }
 
 // Judges the files of a list, and returns the greatest status of its lines.
@@ -82,7 +111,7 @@ fn check_list<R: Files + Env + Clock + Input + Print + Eprint + AllocGlobal>(
 ) -> Result<u8, Error>
 where
     R::File: AsFd,
-    ensures { IfOk result (λ status. status ≤ 3) }
+    ensures { IfOk result ListComesTo }
 {
     let mut disk = Disk::new(rt, watch.process);
     let came = read_file(rt.alloc(), &mut disk, list);
@@ -90,13 +119,13 @@ where
         return Ok(tell_fault(rt, Fault::Memory.into(), Summed::List(list), watch));
     }
     match came {
-        Ok(bytes) => check_lines(rt, list, &bytes, watch),
+        Ok(bytes) => check_bytes(rt, list, &bytes, watch),
         Err(fault) => Ok(tell_fault(rt, fault.into(), Summed::List(list), watch)),
     }
 }
 
-// Judges the files of a list's lines. A list without a line is refused.
-fn check_lines<R: Files + Env + Clock + Input + Print + Eprint + AllocGlobal>(
+// Judges the files of a list's lines. A list that isn't text or has no line is refused.
+fn check_bytes<R: Files + Env + Clock + Input + Print + Eprint + AllocGlobal>(
     rt: &R,
     list: &str,
     bytes: &[u8],
@@ -104,26 +133,52 @@ fn check_lines<R: Files + Env + Clock + Input + Print + Eprint + AllocGlobal>(
 ) -> Result<u8, Error>
 where
     R::File: AsFd,
-    ensures { IfOk result (λ status. status ≤ 3) }
+    ensures { IfOk result ListComesTo }
 {
-    let Ok(text) = str::from_utf8(bytes) else {
-        return Ok(refuse_list(rt, list, 0, watch));
-    };
+    match str::from_utf8(bytes) {
+        Ok(text) if !text.is_empty() => check_lines(rt, list, text, watch),
+        _ => Ok(refuse_list(rt, list, 0, watch)),
+    }
+}
+
+// Judges the files of the lines of a text, and returns the greatest status.
+fn check_lines<R: Files + Env + Clock + Input + Print + Eprint + AllocGlobal>(
+    rt: &R,
+    list: &str,
+    text: &str,
+    watch: Watch,
+) -> Result<u8, Error>
+where
+    R::File: AsFd,
+    ensures { IfOk result (HaveGreatest LineComesTo (lines text.now)) }
+{
     let mut worst = 0;
     let mut number = 0usize;
     for line in text.lines() {
         number = number.saturating_add(1);
-        let status = match listed_name(rt.alloc(), line) {
-            Ok(Some(name)) => check_one(rt, Summed::Listed(&name, number, list), line, watch)?,
-            Ok(None) => refuse_list(rt, list, number, watch),
-            Err(_) => tell_fault(rt, Fault::Memory.into(), Summed::List(list), watch),
-        };
+        let status = check_line(rt, list, number, line, watch)?;
         worst = status.max(worst);
     }
-    if number == 0 {
-        return Ok(refuse_list(rt, list, 0, watch));
-    }
     Ok(worst)
+}
+
+// Judges the file of a line. A line that isn't one of sums is refused.
+fn check_line<R: Files + Env + Clock + Input + Print + Eprint + AllocGlobal>(
+    rt: &R,
+    list: &str,
+    number: usize,
+    line: &str,
+    watch: Watch,
+) -> Result<u8, Error>
+where
+    R::File: AsFd,
+    ensures { IfOk result (LineComesTo line.now) }
+{
+    match listed_name(rt.alloc(), line) {
+        Ok(Some(name)) => check_one(rt, Summed::Listed(&name, number, list), line, watch),
+        Ok(None) => Ok(refuse_list(rt, list, number, watch)),
+        Err(_) => Ok(tell_fault(rt, Fault::Memory.into(), Summed::List(list), watch)),
+    }
 }
 
 // Judges a file by its line, and prints whether it is as listed.
@@ -135,24 +190,42 @@ fn check_one<R: Files + Env + Clock + Input + Print + Eprint + AllocGlobal>(
 ) -> Result<u8, Error>
 where
     R::File: AsFd,
-    ensures { IfOk result (λ status. status ≤ 3) }
+    ensures { IfOk result (LineComesTo line.now) }
 {
     let name = name_of(file);
-    let mut folder = WatchedFolder::new(rt, Disk::new(rt, watch.process), watch.is_watched);
-    let came = is_as_listed(rt.alloc(), &mut folder, name, line.as_bytes());
-    let has_wanted_memory = folder.into_inner().has_wanted_memory();
+    let came = judge_on_disk(rt, name, line, watch);
     let Some(shown) = shown_name(rt.alloc(), name) else {
         return Ok(tell_fault(rt, Fault::Memory.into(), file, watch));
     };
-    if matches!(came, Ok(true)) && !has_wanted_memory {
-        return put_line(rt, &shown, ": OK");
-    }
-    put_line(rt, &shown, ": FAILED")?;
+    let verdict = match came {
+        Ok(true) => ": OK",
+        _ => ": FAILED",
+    };
+    let done = put_line(rt, &shown, verdict)?;
     match came {
-        _ if has_wanted_memory => Ok(tell_fault(rt, Fault::Memory.into(), file, watch)),
-        Ok(_) => Ok(1),
+        Ok(true) => Ok(done),
+        Ok(false) => Ok(1),
         Err(fault) => Ok(tell_fault(rt, fault, file, watch)),
     }
+}
+
+// Whether a file is as a line says. If it was not opened because memory ran out, the fault is `Memory`.
+fn judge_on_disk<R: Files + Clock + Input + Print + Eprint + AllocGlobal>(
+    rt: &R,
+    name: &str,
+    line: &str,
+    watch: Watch,
+) -> Result<bool, CommandFault>
+where
+    R::File: AsFd,
+    ensures { IfOk result (JudgesLine name.now line.now unknown_view unknown_view) }
+{
+    let mut folder = WatchedFolder::new(rt, Disk::new(rt, watch.process), watch.is_watched);
+    let came = is_as_listed(rt.alloc(), &mut folder, name, line.as_bytes());
+    if folder.into_inner().has_wanted_memory() {
+        return Err(Fault::Memory.into());
+    }
+    came
 }
 
 // The name of a file.
@@ -166,7 +239,7 @@ fn name_of(file: Summed<'_>) -> &str {
 
 // Prints a line and what stands behind it, and returns the status of a file that was done.
 fn put_line<R: Print>(rt: &R, line: &[u8], after: &str) -> Result<u8, Error>
-    ensures { IfOk result (λ status. status ≤ 3) }
+    ensures { IfOk result (λ status. status ≡ 0) }
 {
     rt.write_all(line)?;
     rt.println(after)?;
@@ -187,7 +260,7 @@ fn tell_fault<R: Files + Env + Eprint + AllocGlobal>(
     file: Summed,
     watch: Watch,
 ) -> u8
-    ensures { result ≤ 3 }
+    ensures { result ≡ 2 }
 {
     let outcome = Outcome::from(fault);
     match outcome_line(rt.alloc(), &outcome) {
@@ -210,7 +283,7 @@ fn refuse_list<R: Files + Env + Eprint + AllocGlobal>(
     number: usize,
     watch: Watch,
 ) -> u8
-    ensures { result ≤ 3 }
+    ensures { result ≡ 2 }
 {
     let line = if number == 0 {
         format!(in rt.alloc(); "fault: ListRefused")
@@ -272,7 +345,7 @@ fn unwritten<R: Files + Env + Eprint + AllocGlobal>(
     error: &Error,
     watch: Watch,
 ) -> u8
-    ensures { result ≤ 3 }
+    ensures { result ≡ 2 }
 {
     let _ = rt.eprintln("fault: WriteFailed");
     tell_why(rt, Summed::File(name), Ended::Untold(*error), watch);

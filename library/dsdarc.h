@@ -89,8 +89,9 @@ typedef struct dsdarc_info {
  * byte of a file. *player is the caller's to drop; after any status but DSDARC_OK it is null. */
 DSDARC_API dsdarc_status dsdarc_player_new(const void *project, size_t size, dsdarc_player **player);
 
-/* Takes bytes of the file, from the next one on: *taken says how many, at most 65,536. None are taken while frames wait
- * to be pulled. Bytes before and after the sound are taken and give no frames. `bytes` may be null if size is 0. */
+/* Takes bytes of the file, from the next one on: *taken says how many, at most 65,536 and at most up to where the sound
+ * starts or ends. None are taken while frames wait to be pulled; otherwise at least one is, if size isn't 0. Bytes before
+ * and after the sound are taken and give no frames. `bytes` may be null if size is 0. */
 DSDARC_API dsdarc_status dsdarc_player_push(dsdarc_player *player, const void *bytes, size_t size, size_t *taken);
 
 /* Reports what is played, once enough bytes were pushed; before that it returns DSDARC_NOT_YET. */

@@ -19,11 +19,12 @@ use Rattle.player_core.proofs.PartPieceLaws.{part_header}
 use Rattle.player_core.proofs.PartSinkLaws.{due_at_first}
 use Rattle.player_core.proofs.SliceLaws.{slices_meet}
 use Rattle.dsdarc_c.specs.Playing.{HasPlayed, PlaysOn}
-use Rattle.dsdarc_c.specs.Pushing.{IsAtStage, IsPushedHeader, IsPushing}
+use Rattle.dsdarc_c.specs.Pushing.{IsAtStage, IsPushedHeader, IsPushing, IsWithinSound}
 use Rattle.dsdarc_c.specs.Whole.{BeginsWith, ComeFirst, HasAt, IsPrefixOfFrames, PlaysPushedFile, PlaysRestOf, PlaysSoundOf, PlaysStageOf, frames_from, waiting}
 use Rattle.dsdarc_c.specs.declared.pushing.Pushing.{Pushing}
 use Rattle.dsdarc_c.specs.declared.pushing.Stage.{Stage}
 use Rattle.dsdarc_c.specs.declared.pushing.Stage.TheVariants as stages
+use Rattle.dsdarc_c.proofs.EndingLaws.{keeps_none}
 
 -- ---- bytes at a place
 -- the first of them are there, too
@@ -112,28 +113,32 @@ module _ (d : Decimator) (file : List ℕ) (start : ℕ) (out header : List ℕ)
       λ whole.
           let ends : place + length bytes ≡ s.start + s.size = omega (arith, stands, on.2, is.long, few, length-append before bytes) in
           ap (λ xs. out ++ xs) (sym is_new ∙ on.1 ∙ ap (λ xs. xs ++ on.0) none) ∙ on.3 ∙ ap (part_all is.player) (joined_on ∙ ap (slice_range file from) ends) ∙ sym (all_frames whole),
+      keeps_none file header s (place + length bytes) (omega (arith, stands, on.2, is.long, few, length-append before bytes)),
     )
     plays_on_of (Some r) more is_new none on =
-        let p = on.2.0 in
-        let start_same : part_start p ≡ part_start is.player = on.2.2 in
+        let p = on.3.0 in
+        let start_same : part_start p ≡ part_start is.player = on.3.2 in
         let here : before ++ bytes ≡ slice_range file (s.start + part_start p) (place + length bytes) = joined_on ∙ ap (λ k. slice_range file (s.start + k) (place + length bytes)) (sym start_same) in
         let gave : out ++ on.0 ≡ out ++ more = ap (λ xs. out ++ xs) (sym (sym is_new ∙ on.1 ∙ ap (λ xs. xs ++ on.0) none)) in
         record {
           begins = is.begins;
           player = p;
-          played = subst (λ xs. HasPlayed d s start xs (out ++ more) p r) here (subst (λ xs. HasPlayed d s start (before ++ bytes) xs p r) gave on.2.3);
-          long = omega (arith, ap length (sym here), length-append before bytes, is.long, few, ap (λ (t : Sound). t.size) on.2.1);
+          played = subst (λ xs. HasPlayed d s start xs (out ++ more) p r) here (subst (λ xs. HasPlayed d s start (before ++ bytes) xs p r) gave on.3.3);
+          long = omega (arith, ap length (sym here), length-append before bytes, is.long, few, ap (λ (t : Sound). t.size) on.3.1);
           after = later is.after;
         }
       where
-        later : (from ≤ place) ⊎ (left ≡ 0) → (s.start + part_start on.2.0 ≤ place + length bytes) ⊎ (left - length bytes ≡ 0)
-        later (inl ordered) = inl (omega (arith, ordered, on.2.2))
+        later : (from ≤ place) ⊎ (left ≡ 0) → (s.start + part_start on.3.0 ≤ place + length bytes) ⊎ (left - length bytes ≡ 0)
+        later (inl ordered) = inl (omega (arith, ordered, on.3.2))
         later (inr none) = inr (omega (arith, none))
 
 -- ---- at any time
+pub prefix_in : (d : Decimator) (file : List ℕ) (start : ℕ) (out header : List ℕ) (place : ℕ) (s : Sound) (q : PausedPart) (left : ℕ) → IsWithinSound d header place s q left → PlaysSoundOf d file start out header place s q left → IsPrefixOfFrames d file start out
+prefix_in d file start out header place s q left keeps is = inr (s, header_of file header s is.begins keeps.header, given_first d file start out header place s q left is keeps.place_is)
+
 pub prefix_of : (d : Decimator) (file : List ℕ) (start : ℕ) (out header : List ℕ) (place : ℕ) (stage : Stage) → IsAtStage d header place stage → PlaysStageOf d file start out header place stage → IsPrefixOfFrames d file start out
 prefix_of d file start out header place stages.Header keeps is = inl is.2
-prefix_of d file start out header place (stages.Sound s q left) keeps is = inr (s, header_of file header s is.begins keeps.header, given_first d file start out header place s q left is keeps.place_is)
+prefix_of d file start out header place (stages.Sound s q left) keeps is = prefix_in d file start out header place s q left keeps.0 is
 prefix_of d file start out header place (stages.After s back) keeps is = inr (s, header_of file header s is.0 keeps.header, λ whole. ([], sym (is.1 whole) ∙ sym (append-nil out)))
 prefix_of d file start out header place stages.Failed keeps is = is
 

@@ -1,5 +1,5 @@
 -- A sound that is played piece by piece from a frame on, with the filter apart.
-use Rattle.std.specs.Prelude.{◌≡◌, ℕ, List, ◌++◌, length, Option, None, Some}
+use Rattle.std.specs.Prelude.{◌≡◌, ◌<◌, ℕ, List, ◌++◌, length, Option, None, Some}
 use Rattle.dsd_bits.specs.declared.sound.Sound.{Sound}
 use Rattle.fir_core.specs.Decimator.{Decimator}
 use Rattle.player_core.specs.Laws.{total_frames}
@@ -16,7 +16,8 @@ pub record HasPlayed (d : Decimator) (s : Sound) (start : ℕ) (before given : L
   pub fed : IsPartFed p before
   pub due : part_due p before ≡ given
 
--- after these bytes more was given: what was due then, by a player that goes on, or all others
+-- after these bytes more was given: what was due then, by a player that goes on for the bytes that are to come, or all
+-- others
 abbrev pub PlaysOn : Decimator → Sound → ℕ → List ℕ → List ℕ → List ℕ → List ℕ → List ℕ → PartPlayer → Option PausedPart → Type 0
 PlaysOn d s start before bytes given pending_old pending_new p None = (more : List ℕ) × (pending_new ≡ pending_old ++ more) × (length (before ++ bytes) ≡ (part_rest p).size) × (given ++ more ≡ part_all p (before ++ bytes))
-PlaysOn d s start before bytes given pending_old pending_new p (Some q) = (more : List ℕ) × (pending_new ≡ pending_old ++ more) × ((new : PartPlayer) × (part_rest new ≡ part_rest p) × (new.start ≡ p.start) × HasPlayed d s start (before ++ bytes) (given ++ more) new q)
+PlaysOn d s start before bytes given pending_old pending_new p (Some q) = (more : List ℕ) × (pending_new ≡ pending_old ++ more) × (length (before ++ bytes) < (part_rest p).size) × ((new : PartPlayer) × (part_rest new ≡ part_rest p) × (new.start ≡ p.start) × HasPlayed d s start (before ++ bytes) (given ++ more) new q)

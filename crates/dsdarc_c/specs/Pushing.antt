@@ -7,7 +7,7 @@ use Rattle.fir_core.specs.Decimator.{Decimator}
 use Rattle.player_core.specs.PartView.{part_rest}
 use Rattle.player_core.specs.declared.parts.PartPlayer.{PartPlayer}
 use Rattle.player_core.specs.declared.pausing.PausedPart.{PausedPart}
-use Rattle.sound_core.specs.Files.{IsHeaderOf}
+use Rattle.sound_core.specs.Files.{IsBeforeSound, IsHeaderOf, IsRefused, LeadsToSound}
 use Rattle.dsdarc_c.specs.Playing.{HasPlayed}
 use Rattle.dsdarc_c.specs.declared.pushing.Pushing.{Pushing}
 use Rattle.dsdarc_c.specs.declared.pushing.Rest.{Rest}
@@ -22,6 +22,12 @@ pub record IsPushedHeader (header : List ℕ) (s : Sound) : Type 0 where
   pub start_low : s.start ≤ 2 ^ 61
   pub size_low : s.size ≤ 2 ^ 61
 
+-- these bytes state no sound yet, and are no recording; the sound of each recording that begins with them comes after them
+pub record IsUnstated (header : List ℕ) : Type 0 where
+  pub none : (s : Sound) → LeadsToSound header s → ⊥
+  pub refused : IsRefused header
+  pub before : IsBeforeSound header
+
 -- a player that pauses plays this sound, and `left` bytes of it are to come
 pub record IsPausedIn (d : Decimator) (s : Sound) (q : PausedPart) (left : ℕ) : Type 0 where
   pub start : ℕ
@@ -31,10 +37,10 @@ pub record IsPausedIn (d : Decimator) (s : Sound) (q : PausedPart) (left : ℕ) 
   pub played : HasPlayed d s start before given player q
   pub long : length before + left ≡ (part_rest player).size
 
--- the same of a player that pauses; there is none if nothing is to come
+-- the same of a player that pauses, which some bytes are to come for; there is none if nothing is to come
 abbrev pub IsPausedOrDone : Decimator → Sound → Option PausedPart → ℕ → Type 0
 IsPausedOrDone d s None left = left ≡ 0
-IsPausedOrDone d s (Some q) left = IsPausedIn d s q left
+IsPausedOrDone d s (Some q) left = IsPausedIn d s q left × (1 ≤ left)
 
 -- the same of a player, its sound and the bytes to come, kept as one value
 pub record IsRest (d : Decimator) (rest : Rest) : Type 0 where
@@ -54,8 +60,8 @@ pub record IsAfterSound (head : List ℕ) (place : ℕ) (s : Sound) : Type 0 whe
 
 -- what holds in each stage
 abbrev pub IsAtStage : Decimator → List ℕ → ℕ → Stage → Type 0
-IsAtStage d header place stages.Header = length header ≡ place
-IsAtStage d header place (stages.Sound s q left) = IsWithinSound d header place s q left
+IsAtStage d header place stages.Header = (length header ≡ place) × IsUnstated header
+IsAtStage d header place (stages.Sound s q left) = IsWithinSound d header place s q left × (1 ≤ left)
 IsAtStage d header place (stages.After s back) = IsAfterSound header place s
 IsAtStage d header place stages.Failed = ⊤
 

@@ -1,7 +1,9 @@
 -- A whole file that is pushed piece by piece, and what was pulled of its frames.
 use Rattle.std.specs.Prelude.{◌≡◌, ℕ, ◌+◌, ◌≤◌, ◌⊎◌, List, [], ◌++◌, drop, length, slice_range, take, Option, None, Some}
+use Rattle.dsd_bits.specs.declared.interleaving.Interleaving.TheVariants.{Bytes}
 use Rattle.dsd_bits.specs.declared.sound.Sound.{Sound}
 use Rattle.dsd_bits.specs.Sounds.{sound_bytes}
+use Rattle.dsdiff_core.specs.Headers.{left_after}
 use Rattle.fir_core.specs.Decimator.{Decimator}
 use Rattle.player_core.specs.Laws.{total_frames}
 use Rattle.player_core.specs.Parts.{part_bytes}
@@ -38,6 +40,10 @@ IsPrefixOfFrames d file start out = (out ≡ []) ⊎ ((s : Sound) × IsPushedHea
 abbrev pub AreAllFrames : Decimator → Sound → List ℕ → ℕ → List ℕ → Type 0
 AreAllFrames d s file start out = s.start + s.size ≤ length file → out ≡ frames_from d s file start
 
+-- these bytes of a DSDIFF file are kept after its sound: those up to this place, as far as they are in the form
+abbrev pub KeepsForm : List ℕ → List ℕ → Sound → ℕ → List ℕ → Type 0
+KeepsForm file header s place back = s.interleaving ≡ Bytes → back ≡ take (left_after header s.size) (slice_range file (s.start + s.size) place)
+
 -- the file has come to the end of its sound
 abbrev pub IsBehind : Stage → Type 0
 IsBehind stage = (s : Sound) × (back : _) × (stage ≡ stages.After s back)
@@ -52,9 +58,9 @@ pub record PlaysSoundOf (d : Decimator) (file : List ℕ) (start : ℕ) (out hea
   pub long : length (slice_range file (s.start + part_start player) place) + left ≡ (part_rest player).size
   pub after : (s.start + part_start player ≤ place) ⊎ (left ≡ 0)
 
--- the same of a player that pauses; without one, all frames were given
+-- the same of a player that pauses; without one, all frames were given, and nothing after the sound was pushed
 abbrev pub PlaysRestOf : Decimator → List ℕ → ℕ → List ℕ → List ℕ → ℕ → Sound → Option PausedPart → ℕ → Type 0
-PlaysRestOf d file start out header place s None left = BeginsWith file header × AreAllFrames d s file start out
+PlaysRestOf d file start out header place s None left = BeginsWith file header × AreAllFrames d s file start out × KeepsForm file header s place []
 PlaysRestOf d file start out header place s (Some q) left = PlaysSoundOf d file start out header place s q left
 
 -- what each stage says of the file's bytes before this place, and of the bytes of frames that were given since the
@@ -62,7 +68,7 @@ PlaysRestOf d file start out header place s (Some q) left = PlaysSoundOf d file 
 abbrev pub PlaysStageOf : Decimator → List ℕ → ℕ → List ℕ → List ℕ → ℕ → Stage → Type 0
 PlaysStageOf d file start out header place stages.Header = BeginsWith file header × (start ≡ 0) × (out ≡ [])
 PlaysStageOf d file start out header place (stages.Sound s q left) = PlaysSoundOf d file start out header place s q left
-PlaysStageOf d file start out header place (stages.After s back) = BeginsWith file header × AreAllFrames d s file start out
+PlaysStageOf d file start out header place (stages.After s back) = BeginsWith file header × AreAllFrames d s file start out × KeepsForm file header s place back.items
 PlaysStageOf d file start out header place stages.Failed = IsPrefixOfFrames d file start out
 
 -- the bytes of frames that can be pulled

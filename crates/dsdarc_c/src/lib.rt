@@ -4,6 +4,13 @@
 //! can't prove is tested here and in `c/dsdarc.c`, which has the calls of `dsdarc.h`: null pointers and sizes.
 #![tactic(auto)]
 
+ghost use Rattle.std.specs.Prelude.{◌≡◌, ◌/◌, drop, length, min, take};
+ghost use Rattle.dsdarc_c.specs.Ending.{AcceptsEnd, RefusesEnd};
+ghost use Rattle.dsdarc_c.specs.Seeking.{GoesTo, RefusesSeek};
+ghost use Rattle.dsdarc_c.specs.Statuses.{Says};
+ghost use Rattle.dsdarc_c.specs.Taking.{RefusesPush, Takes};
+ghost use Rattle.dsdarc_c.specs.Whole.{waiting};
+
 mod content;
 mod ending;
 mod fault;
@@ -57,7 +64,11 @@ pub extern "C" fn dsdarc_c_push(
     handle: Handle,
     bytes: &[u8],
     taken: &mut usize,
-) -> u32 {
+) -> u32
+    // 0 says that so many were taken; any other status says why none were, and `taken` is as it was.
+    ensures { Says (Takes handle.value bytes.now taken.new)
+        (λ fault. RefusesPush handle.value bytes.now fault × (taken.new ≡ taken.old)) result }
+{
     let mut player = into_box(handle);
     let pushed = push(alloc, &mut player.pushing, bytes);
     forget(player);
@@ -72,7 +83,12 @@ pub extern "C" fn dsdarc_c_push(
 
 /// Takes the bytes of frames that are due: how many.
 #[unsafe(no_mangle)]
-pub extern "C" fn dsdarc_c_pull(handle: Handle, out: &mut [u8]) -> usize {
+pub extern "C" fn dsdarc_c_pull(handle: Handle, out: &mut [u8]) -> usize
+    // As many of the bytes that wait are given as there are and as fit, from the first one on.
+    ensures count { result ≡ min (length out.old) (length (waiting handle.value)) }
+    ensures given { take result out.new ≡ take result (waiting handle.value) }
+    ensures others { drop result out.new ≡ drop result out.old }
+{
     let mut player = into_box(handle);
     let count = pull(&mut player.pushing, out);
     forget(player);
@@ -81,7 +97,10 @@ pub extern "C" fn dsdarc_c_pull(handle: Handle, out: &mut [u8]) -> usize {
 
 /// Takes the samples of frames that are due, as numbers: how many.
 #[unsafe(no_mangle)]
-pub extern "C" fn dsdarc_c_pull_numbers(handle: Handle, out: &mut [i32]) -> usize {
+pub extern "C" fn dsdarc_c_pull_numbers(handle: Handle, out: &mut [i32]) -> usize
+    // As many are given as fit of those that wait whole.
+    ensures count { result ≡ min (length out.old) (length (waiting handle.value) / (handle.value.taps.width / 8)) }
+{
     let mut player = into_box(handle);
     let count = pull_numbers(&mut player.pushing, out);
     forget(player);
@@ -90,7 +109,10 @@ pub extern "C" fn dsdarc_c_pull_numbers(handle: Handle, out: &mut [i32]) -> usiz
 
 /// Says that no bytes come any more.
 #[unsafe(no_mangle)]
-pub extern "C" fn dsdarc_c_end(alloc: Global, handle: Handle) -> u32 {
+pub extern "C" fn dsdarc_c_end(alloc: Global, handle: Handle) -> u32
+    // 0 says that a file that ends here holds a recording; any other status says why it isn't accepted.
+    ensures { Says (AcceptsEnd handle.value) (RefusesEnd handle.value) result }
+{
     let mut player = into_box(handle);
     let ended = end(alloc, &mut player.pushing);
     forget(player);
@@ -117,12 +139,11 @@ pub extern "C" fn dsdarc_c_info(handle: Handle, info: &mut Info) -> u32 {
 
 /// Goes to a frame: `offset` is the byte of the file from which on it is pushed then.
 #[unsafe(no_mangle)]
-pub extern "C" fn dsdarc_c_seek(
-    alloc: Global,
-    handle: Handle,
-    frame: u64,
-    offset: &mut u64,
-) -> u32 {
+pub extern "C" fn dsdarc_c_seek(alloc: Global, handle: Handle, frame: u64, offset: &mut u64) -> u32
+    // 0 says from which byte the file is pushed on; any other status says why not, and `offset` is as it was.
+    ensures { Says (GoesTo handle.value frame offset.new)
+        (λ fault. RefusesSeek handle.value frame fault × (offset.new ≡ offset.old)) result }
+{
     let mut player = into_box(handle);
     let sought = seek(alloc, &mut player.pushing, frame);
     forget(player);

@@ -1,7 +1,8 @@
 //! Samples as numbers.
 
-ghost use Rattle.std.specs.Prelude.{◌≡◌, ◌+◌, ◌≤◌, ◌⊎◌, length};
+ghost use Rattle.std.specs.Prelude.{◌≡◌, ◌+◌, ◌*◌, ◌/◌, ◌≤◌, ◌⊎◌, length, min};
 ghost use Rattle.dsdarc_c.specs.Pushing.{IsPushing};
+ghost use Rattle.dsdarc_c.specs.Whole.{waiting};
 
 use crate::pushing::Pushing;
 
@@ -10,6 +11,10 @@ pub(crate) fn pull_numbers(p: &mut Pushing, out: &mut [i32]) -> usize
     requires { IsPushing p.old }
     ensures keeps { IsPushing p.new }
     ensures few { result ≤ length out.old }
+    // As many are given as fit of those that wait whole.
+    ensures count { result ≡ min (length out.old) (length (waiting p.old) / (p.old.taps.width / 8)) }
+    // The bytes of as many are taken, and nothing else changes.
+    ensures same { p.new ≡ record p.old { pulled = p.old.pulled + result * (p.old.taps.width / 8) } }
 {
     let size = if p.taps.width() == 16 { 2 } else { 3 };
     let (_, left) = p.pending.split_at(p.pulled);

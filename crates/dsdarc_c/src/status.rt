@@ -1,5 +1,8 @@
 //! The statuses of the calls, as C knows them.
 
+ghost use Rattle.std.specs.Prelude.{◌≡◌};
+ghost use Rattle.dsdarc_c.specs.Statuses.{status_of};
+
 use crate::fault::PlayFault;
 use project_core::ProjectFault;
 
@@ -38,18 +41,22 @@ const SHORT_CUE: u32 = 17;
 
 const LAST_BRIDGE: u32 = 18;
 
-/// The status of want of memory.
+/// The status of a call that is out of memory.
 pub(crate) fn memory() -> u32 {
     MEMORY
 }
 
 /// The status of a call that was done.
-pub(crate) fn done() -> u32 {
+pub(crate) fn done() -> u32
+    ensures { result ≡ 0 }
+{
     OK
 }
 
 /// The status of a fault.
-pub(crate) fn status_of(fault: PlayFault) -> u32 {
+pub(crate) fn status_of(fault: PlayFault) -> u32
+    ensures { result ≡ status_of fault }
+{
     match fault {
         PlayFault::FileRefused => FILE_REFUSED,
         PlayFault::RateNotDivided => RATE_NOT_DIVIDED,

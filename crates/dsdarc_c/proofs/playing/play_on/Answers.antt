@@ -46,6 +46,7 @@ returns c s start before given p h all =
     let same = all_on c.args.taps.now s start before given p c.args.paused c.resume-player.result r h c.feed.new.self c.in_ok-feed.ensures.same c.args.bytes.now ok.0 ok.2 in (
       ok.0,
       ok.1,
+      omega (arith, all, c.requires.few, c.if-bytes-left.false, length-append before c.args.bytes.now),
       (
         c.feed.new.self,
         same.rest,

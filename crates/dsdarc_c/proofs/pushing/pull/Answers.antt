@@ -31,3 +31,21 @@ returns-clause-prefix c file start pulled plays =
     let all = moved n p.pulled pulled p.pending.items c.copy_from_slice.new.self c.split_at_mut-to.result.1.now is long in
     let first = prefix_of p.taps file start (pulled ++ waiting p) p.header.items p.place p.stage c.requires.stage plays.stage in
     fewer_first p.taps file start _ _ (subst (IsPrefixOfFrames p.taps file start) all first)
+
+pub returns-clause-given : goal.returns-clause-given
+returns-clause-given c =
+    let p = c.args.p.now in
+    let n = c.min-count.result in
+    let whole = c.split_at.ensures.back ∙ ap (drop p.pulled) c.deref.ensures.value in
+    let is = c.copy_from_slice.ensures.after ∙ c.split_at-2.ensures.front ∙ ap (take n) whole in
+    let long = ap length c.copy_from_slice.ensures.after ∙ c.split_at-2.ensures.front_len in
+    take_at c.copy_from_slice.new.self c.split_at_mut-to.result.1.now n long ∙ is
+
+pub returns-clause-left : goal.returns-clause-left
+returns-clause-left c =
+    let p = c.args.p.now in
+    let n = c.min-count.result in
+    let whole = c.split_at.ensures.back ∙ ap (drop p.pulled) c.deref.ensures.value in
+    let is = c.copy_from_slice.ensures.after ∙ c.split_at-2.ensures.front ∙ ap (take n) whole in
+    let long = ap length c.copy_from_slice.ensures.after ∙ c.split_at-2.ensures.front_len in
+    parted n p.pulled p.pending.items c.copy_from_slice.new.self c.split_at_mut-to.result.1.now is long

@@ -2,8 +2,7 @@ use Rattle.std.proofs.Common.{◌≡◌, ◌≤◌, ◌∙◌, ◌++◌, ap, app
 use Rattle.player_core.specs.PartView.{part_start}
 use Rattle.dsdarc_c.proofs.KeepLaws.{played_on}
 use Rattle.dsdarc_c.specs.Whole.{HasAt, IsPrefixOfFrames, PlaysStageOf}
-use Rattle.dsdarc_c.specs.declared.pushing.Stage.TheVariants as stages
-use Rattle.dsdarc_c.proofs.WholeLaws.{fewer_at, plays_on_of, prefix_of}
+use Rattle.dsdarc_c.proofs.WholeLaws.{fewer_at, plays_on_of, prefix_in}
 use Rattle.dsdarc_c.proofs.pushing.push_sound.Goals as goal
 
 pub returns-in-Ok-clause-keeps : goal.returns-in-Ok-clause-keeps
@@ -37,5 +36,5 @@ returns-in-Err-clause-plays c file start pulled of at =
     let r = c.args.rest in
     let out = pulled ++ c.clear-in-Err.new.self.items in
     let same : pulled ≡ out = sym (ap (λ xs. pulled ++ xs) c.clear-in-Err.ensures.items ∙ append-nil pulled) in
-    let first = subst (IsPrefixOfFrames p.taps file start) same (prefix_of p.taps file start pulled p.header.items p.place (stages.Sound r.sound r.paused r.left) c.requires.sound of) in
+    let first = subst (IsPrefixOfFrames p.taps file start) same (prefix_in p.taps file start pulled p.header.items p.place r.sound r.paused r.left c.requires.sound of) in
     record { stage = subst (λ s. PlaysStageOf p.taps file start out p.header.items p.place s) (sym c.requires.failed) first }

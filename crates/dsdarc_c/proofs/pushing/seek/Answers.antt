@@ -1,6 +1,12 @@
-use Rattle.std.proofs.Common.{◌≡◌, ◌∙◌, [], Err, IfErr, IfOk, MatchResult, Ok, Result, ap, subst, ℕ}
+use Rattle.std.proofs.Common.{◌≡◌, ◌≤◌, ◌+◌, ◌∙◌, [], Err, IfErr, IfOk, MatchResult, Ok, Result, ap, arith, subst, sym, ℕ}
+use Rattle.std.specs.Int.{div_ceil}
 use Rattle.std.proofs.lemmas.Result.{err_from_is_err_and}
+use Rattle.dsd_bits.specs.declared.sound.Sound.{Sound}
+use Rattle.player_core.specs.Laws.{total_frames}
+use Rattle.dsdarc_c.specs.Pushing.{IsPushedHeader}
+use Rattle.dsdarc_c.specs.Seeking.{GoesTo, RefusesSeek}
 use Rattle.dsdarc_c.specs.declared.fault.PlayFault.{PlayFault}
+use Rattle.dsdarc_c.specs.declared.pushing.Pushing.{Pushing}
 use Rattle.dsdarc_c.specs.declared.fault.PlayFault.TheVariants as faults
 use Rattle.dsdarc_c.specs.Whole.{PlaysPushedFile, waiting}
 use Rattle.dsdarc_c.specs.declared.pushing.Stage.TheVariants as stages
@@ -12,16 +18,20 @@ either : {T F : Type 0} (A B C : Type 0) (r : Result T F) → IfOk r (λ x. A) �
 either A B C (Ok x) ok err f = ok
 either A B C (Err e) ok err f = f err
 
-fault_is : (r : Result ℕ PlayFault) (f g : PlayFault) → r ≡ Err f → r ≡ Err g → f ≡ g
-fault_is r f g a b = cc
+-- out of memory may come at any time
+memory_alone : {T : Type 0} (P : PlayFault → Type 0) (r : Result T PlayFault) → P faults.Memory → IfErr r (λ f. f ≡ faults.Memory) → IfErr r P
+memory_alone P (Ok x) memory is = tt
+memory_alone P (Err e) memory is = subst P (sym is) memory
 
-differ : faults.BehindEnd ≡ faults.Memory → ⊥
-differ e = absurd cc
+goes : (p : Pushing) (s : Sound) (frame : ℕ) (r : Result ℕ PlayFault) → IsPushedHeader p.header.items s → frame ≤ total_frames p.taps s → IfOk r (λ place. (s.start ≤ place) × (place ≤ s.start + s.size)) → IfOk r (GoesTo p frame)
+goes p s frame (Ok place) header has within = record { sound = s; header = header; has = has; from = within.0; to = within.1 }
+goes p s frame (Err e) header has within = tt
 
 pub returns-in_err-sound-clause-refused : goal.returns-in_err-sound-clause-refused
-returns-in_err-sound-clause-refused c e =
-    let p = err_from_is_err_and c.from_residual.result c.from_residual.ensures.1 in
-    absurd (c.sound_with_head.ensures.refused (c.in_err-sound.was ∙ ap Err (fault_is c.from_residual.result _ faults.BehindEnd (p.1 ∙ ap Err p.2) e)))
+returns-in_err-sound-clause-refused c =
+    let is = err_from_is_err_and c.from_residual.result c.from_residual.ensures.1 in
+    let same = is.1 ∙ ap Err is.2 in
+    subst (λ r. IfErr r (RefusesSeek c.args.p.now c.args.frame)) (sym same) (c.in_err-sound.ensures.refused c.args.frame)
 
 pub returns-clause-plays : goal.returns-clause-plays
 returns-clause-plays c file start pulled plays =
@@ -32,4 +42,11 @@ returns-clause-plays c file start pulled plays =
     failed_plays p new file start pulled c.requires plays c.seek_in.ensures.taps failed.0 failed.1)
 
 pub returns-clause-refused : goal.returns-clause-refused
-returns-clause-refused c e = absurd (differ (subst (λ r. IfErr r (λ (f : PlayFault). f ≡ faults.Memory)) e c.seek_in.ensures.memory))
+returns-clause-refused c = memory_alone (RefusesSeek c.args.p.now c.args.frame) c.seek_in.result tt c.seek_in.ensures.memory
+
+pub returns-clause-accepted : goal.returns-clause-accepted
+returns-clause-accepted c =
+    let p = c.args.p.now in
+    let s = c.in_ok-sound.sound in
+    let total : c.div_ceil.result ≡ total_frames p.taps s = c.div_ceil.ensures ∙ ap (λ n. div_ceil s.count n) c.factor.ensures.value in
+    goes p s c.args.frame c.seek_in.result c.in_ok-sound.ensures.header (omega (arith, total, c.if-frame-div_ceil.false)) c.seek_in.ensures.within

@@ -1,0 +1,75 @@
+-- Bytes that state no sound yet.
+use Rattle.std.proofs.Common.{◌≡◌, ℕ, ◌+◌, ◌<◌, ◌≤◌, inl, inr, List, [], ◌++◌, length, take, sym, subst, ap, ◌∙◌, arith, append_assoc}
+use Rattle.std.proofs.lemmas.Bool.{cases_lt}
+use Rattle.std.proofs.lemmas.List.{take-append-le, take_all}
+use Rattle.dsd_bits.specs.declared.interleaving.Interleaving.{Interleaving}
+use Rattle.dsd_bits.specs.declared.interleaving.Interleaving.TheVariants.{Bytes, Blocks}
+use Rattle.dsd_bits.specs.declared.sound.Sound.{Sound}
+use Rattle.dsd_bits.specs.declared.sound.SoundAt.{SoundAt}
+use Rattle.dsd_bits.specs.declared.sound.SoundAt.TheVariants.{More, Refused, Found}
+use Rattle.dsd_bits.specs.Sounds.{IfMore}
+use Rattle.dsdiff_core.specs.Headers as dsdiff
+use Rattle.dsdiff_core.proofs.LocatedLaws.{short_more}
+use Rattle.dsf_core.specs.Headers as dsf
+use Rattle.dsf_core.proofs.HeaderLaws as blocks
+use Rattle.sound_core.specs.Files.{HoldsSomeRecording, IsBeforeSound, IsHeaderOf, IsRefused, LeadsToSound}
+use Rattle.sound_core.proofs.ClosingLaws.{ends_at}
+use Rattle.sound_core.proofs.HeadLaws.{IsFound, dsdiff_more, dsf_more, other_head, stated_found}
+use Rattle.sound_core.proofs.StatedLaws.{dsf_wanted, form_wanted, one_sound, stated_once, states_at}
+use Rattle.dsdarc_c.specs.Pushing.{IsUnstated}
+
+-- ---- by the DSDIFF reading
+pub form_unstated : (prefix : List ℕ) (x : SoundAt) → x ≡ dsdiff.sound_at prefix → IfMore x (dsdiff.HoldsHead prefix → ⊥) → IfMore x (IsUnstated prefix)
+form_unstated prefix x is more = by x is (dsdiff_more prefix x is more) (form_wanted prefix x is more)
+  where
+    none : (s : Sound) (o : Interleaving) → More ≡ dsdiff.sound_at prefix → IsFound o prefix s → ⊥
+    none s Bytes is found = (let both : More ≡ Found s = is ∙ found in absurd cc)
+    none s (Blocks order) is found =
+        let l = blocks.found_leads prefix s found in
+        let refused : More ≡ Refused = is ∙ other_head prefix (omega (arith, l.holds.fields)) l.heads.first in
+        absurd cc
+
+    by : (x : SoundAt) → x ≡ dsdiff.sound_at prefix → IfMore x (IsRefused prefix) → IfMore x (IsBeforeSound prefix) → IfMore x (IsUnstated prefix)
+    by Refused is refused before = tt
+    by (Found s) is refused before = tt
+    by More is refused before = record { none = λ s states. none s s.interleaving is (stated_found s.interleaving prefix s states.leads); refused = refused; before = before }
+
+-- ---- by the DSF reading, where the DSDIFF reading refuses
+pub blocks_unstated : (prefix : List ℕ) → dsdiff.sound_at prefix ≡ Refused → ((rest : List ℕ) → dsdiff.IsAccepted (prefix ++ rest) → ⊥) → (x : SoundAt) → x ≡ dsf.sound_at prefix → IfMore x (dsf.HoldsHead prefix → ⊥) → IfMore x (IsUnstated prefix)
+blocks_unstated prefix no_sound no_form x is more = by x is (dsf_more prefix no_form x is more) (dsf_wanted prefix no_form x more)
+  where
+    none : (s : Sound) (o : Interleaving) → More ≡ dsf.sound_at prefix → IsFound o prefix s → ⊥
+    none s Bytes is found = (let both : Refused ≡ Found s = sym no_sound ∙ found in absurd cc)
+    none s (Blocks order) is found = (let both : More ≡ Found s = is ∙ found in absurd cc)
+
+    by : (x : SoundAt) → x ≡ dsf.sound_at prefix → IfMore x (IsRefused prefix) → IfMore x (IsBeforeSound prefix) → IfMore x (IsUnstated prefix)
+    by Refused is refused before = tt
+    by (Found s) is refused before = tt
+    by More is refused before = record { none = λ s states. none s s.interleaving is (stated_found s.interleaving prefix s states.leads); refused = refused; before = before }
+
+-- before the first byte
+pub none_stated : IsUnstated []
+none_stated = form_unstated [] More (sym (short_more [] (omega arith))) (λ head. omega (arith, head.whole))
+
+-- ---- more bytes
+-- the sound that is stated with more bytes comes after more bytes than there were
+pub some_taken : (header piece : List ℕ) (s : Sound) → IsUnstated header → LeadsToSound (header ++ piece) s → length header ≤ s.start → length header + 1 ≤ s.start
+some_taken header piece s unstated states far = elim (cases_lt (length header) s.start) [
+  | inl more ↦ omega (arith, more)
+  | inr least ↦ (
+      let start : s.start ≡ length header = omega (arith, least, far) in
+      let short : take s.start (header ++ piece) ≡ header = ap (λ n. take n (header ++ piece)) start ∙ take-append-le (length header) header piece (omega arith) ∙ all header in
+      absurd (unstated.none s (states_at header s (subst (λ xs. IsHeaderOf xs s) short (ends_at (header ++ piece) s states)))))
+]
+  where
+    all : (xs : List ℕ) → take (length xs) xs ≡ xs
+    all xs = take_all (length xs) xs (omega arith)
+
+-- where the sound that is stated with more bytes starts before, no recording begins so
+pub none_begins : (header piece : List ℕ) (s : Sound) → IsUnstated header → LeadsToSound (header ++ piece) s → s.start < length header → (rest : List ℕ) → IsRefused ((header ++ piece) ++ rest)
+none_begins header piece s unstated states before rest r holds =
+    let one = one_sound ((header ++ piece) ++ rest) (r, holds) in
+    let same : one.0 ≡ s = stated_once (header ++ piece) rest s one.0 states one.1 in
+    let parted : (header ++ piece) ++ rest ≡ header ++ (piece ++ rest) = append_assoc header piece rest in
+    let after = unstated.before (piece ++ rest) one.0 (subst HoldsSomeRecording parted (r, holds)) (subst (λ xs. LeadsToSound xs one.0) parted one.1) in
+    omega (arith, after, before, ap (λ (t : Sound). t.start) same)

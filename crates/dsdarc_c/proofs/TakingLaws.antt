@@ -1,0 +1,71 @@
+-- How many bytes a push takes.
+use Rattle.std.proofs.Common.{◌≡◌, ℕ, ◌+◌, ◌-◌, ◌<◌, ◌≤◌, inr, min, ◌++◌, List, length, take, Result, Ok, Err, IfOk, IfErr, refl, sym, subst, ap, ◌∙◌, arith}
+use Rattle.std.proofs.lemmas.List.{take_min}
+use Rattle.dsdarc_c.specs.Taking.{RefusesHeader, RefusesPush, Takes, TakesAt}
+use Rattle.dsdarc_c.specs.declared.fault.PlayFault.{PlayFault}
+use Rattle.dsdarc_c.specs.declared.fault.PlayFault.TheVariants as faults
+use Rattle.dsdarc_c.specs.declared.pushing.Pushing.{Pushing}
+use Rattle.dsdarc_c.specs.declared.pushing.Stage.{Stage}
+use Rattle.dsdarc_c.specs.declared.pushing.Stage.TheVariants as stages
+
+-- two facts of an answer
+pub both_ok : {T F : Type 0} (P Q R : T → Type 0) (r : Result T F) → ((x : T) → P x → Q x → R x) → IfOk r P → IfOk r Q → IfOk r R
+both_ok P Q R (Ok x) on p q = on x p q
+both_ok P Q R (Err e) on p q = tt
+
+-- what a stage takes is what the push takes
+pub takes_at : (p : Pushing) (bytes piece : List ℕ) (stage : Stage) (n : ℕ) → length p.pending.items ≤ p.pulled → p.stage ≡ stage → piece ≡ take 65536 bytes → TakesAt p.taps p.header.items p.place stage piece n → (1 ≤ length bytes → 1 ≤ n) → Takes p bytes n
+takes_at p bytes piece stage n ready is cut taken some = record {
+  none = λ waits. absurd (omega (arith, waits, ready));
+  taken = λ _. subst (λ xs. TakesAt p.taps p.header.items p.place p.stage xs n) cut (subst (λ s. TakesAt p.taps p.header.items p.place s piece n) (sym is) taken);
+  some = λ _. some;
+}
+
+-- the same of an answer
+pub takes_ok : (p : Pushing) (bytes piece : List ℕ) (stage : Stage) (r : Result ℕ PlayFault) → length p.pending.items ≤ p.pulled → p.stage ≡ stage → piece ≡ take 65536 bytes → IfOk r (TakesAt p.taps p.header.items p.place stage piece) → (1 ≤ length bytes → IfOk r (λ n. 1 ≤ n)) → IfOk r (Takes p bytes)
+takes_ok p bytes piece stage (Ok n) ready is cut taken some = takes_at p bytes piece stage n ready is cut taken some
+takes_ok p bytes piece stage (Err e) ready is cut taken some = tt
+
+-- a refusal of the header is one of the push
+pub refuses_header : (p : Pushing) (bytes piece : List ℕ) (fault : PlayFault) → p.stage ≡ stages.Header → piece ≡ take 65536 bytes → RefusesHeader p.taps (p.header.items ++ piece) fault → RefusesPush p bytes fault
+refuses_header p bytes piece fault is cut refuses = by fault (subst (λ xs. RefusesHeader p.taps (p.header.items ++ xs) fault) cut refuses)
+  where
+    by : (f : PlayFault) → RefusesHeader p.taps (p.header.items ++ take 65536 bytes) f → RefusesPush p bytes f
+    by faults.FileRefused refused = (is, refused)
+    by faults.RateNotDivided refused = (is, refused)
+    by faults.TooLong refused = inr (is, refused)
+    by faults.AfterFault refused = absurd refused
+    by faults.NotYet refused = absurd refused
+    by faults.BehindEnd refused = absurd refused
+    by faults.Memory refused = tt
+
+pub refused_err : (p : Pushing) (bytes piece : List ℕ) (r : Result ℕ PlayFault) → p.stage ≡ stages.Header → piece ≡ take 65536 bytes → IfErr r (RefusesHeader p.taps (p.header.items ++ piece)) → IfErr r (RefusesPush p bytes)
+refused_err p bytes piece (Ok n) is cut refuses = tt
+refused_err p bytes piece (Err e) is cut refuses = refuses_header p bytes piece e is cut refuses
+
+-- out of memory may come at any time
+pub memory_err : (p : Pushing) (bytes : List ℕ) (r : Result ℕ PlayFault) → IfErr r (λ fault. fault ≡ faults.Memory) → IfErr r (RefusesPush p bytes)
+memory_err p bytes (Ok n) memory = tt
+memory_err p bytes (Err e) memory = subst (RefusesPush p bytes) (sym memory) tt
+
+-- ---- in the sound and after it
+-- what is taken of the sound is what is left of it
+pub sound_ok : (r : Result ℕ PlayFault) (k left end place : ℕ) → place + left ≡ end → IfOk r (λ n. n ≡ min k left) → IfOk r (λ n. n ≡ min k (end - place))
+sound_ok (Ok n) k left end place all is = omega (arith, all, is)
+sound_ok (Err e) k left end place all is = tt
+
+pub some_of_sound : (r : Result ℕ PlayFault) (k left : ℕ) → 1 ≤ left → 1 ≤ k → IfOk r (λ n. n ≡ min k left) → IfOk r (λ n. 1 ≤ n)
+some_of_sound (Ok n) k left some more is = omega (arith, some, more, is)
+some_of_sound (Err e) k left some more is = tt
+
+pub some_after : (r : Result ℕ PlayFault) (k : ℕ) → 1 ≤ k → IfOk r (λ n. n ≡ k) → IfOk r (λ n. 1 ≤ n)
+some_after (Ok n) k more is = omega (arith, more, is)
+some_after (Err e) k more is = tt
+
+-- the first 65,536 bytes
+pub cut_is : (bytes : List ℕ) (m : ℕ) → m ≡ min (length bytes) 65536 → take m bytes ≡ take 65536 bytes
+cut_is bytes m is = let same : m ≡ min 65536 (length bytes) = omega (arith, is) in ap (λ k. take k bytes) same ∙ take_min 65536 bytes
+
+-- ---- where nothing is taken
+pub takes_none : (p : Pushing) (bytes : List ℕ) → p.pulled < length p.pending.items → Takes p bytes 0
+takes_none p bytes waits = record { none = λ _. refl; taken = λ ready. absurd (omega (arith, waits, ready)); some = λ ready more. absurd (omega (arith, waits, ready)) }

@@ -3,7 +3,9 @@
 The sound falls towards high frequencies, and the noise rises. Where the spectrum of a take is least both are the same,
 and above it nothing tells them apart. So the sound is what a low-pass passes that falls around there."""
 import numpy as np
-from scipy import fft, signal
+from scipy import fft
+
+import filters
 
 # Hz, where low-passes end: they pass what is below the first number and stop what is above the second.
 BANDS = ((22_000, 26_000), (24_000, 30_000), (26_000, 34_000), (35_000, 50_000), (50_000, 75_000))
@@ -21,14 +23,15 @@ Band = tuple[int, int]
 def powers(take) -> np.ndarray:
     """The power spectrum of a take in pieces from all its parts, a row for each channel; that of white noise is 1."""
     size = 1 << round(np.log2(LINE * take.rate))
-    window = signal.windows.blackmanharris(size, sym=False)
+    window = filters.blackman_harris(size)
     count = min(max(take.bits // (2 * size), 1), PIECES)
     found = np.zeros((take.count, size // 2 + 1))
     for number in range(count):
         first = number * max(take.bits - 2 * size, 0) // max(count - 1, 1)
         signs = take.signs(first, first + 2 * size)
         for start in (0, size // 2, size):
-            found += np.abs(fft.rfft(signs[:, start : start + size] * window, axis=1)) ** 2
+            spectrum = fft.rfft(signs[:, start : start + size] * window, axis=1)
+            found += spectrum.real**2 + spectrum.imag**2
     return found / (3 * count * np.sum(window**2))
 
 

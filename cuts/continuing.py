@@ -5,12 +5,13 @@ known of any take: its bits less its sound. The first are chosen so that what th
 modulator adds because of its past are silent together, as spectra at some lines of the audio band. Whoever made the
 take by whatever modulator, the bits go on as if it had never stopped. What leads up to a take is the same,
 backwards."""
+from dataclasses import dataclass
 from pathlib import Path
 
 import numpy as np
 
 import spectra
-from material import modulators
+from modulation import modulators
 
 LINES = 16
 HIGHEST = 21_000  # Hz: the last line
@@ -44,10 +45,20 @@ def past_of(modulator: modulators.Modulator, rate: int, errors: np.ndarray) -> n
     return np.concatenate([chosen, shaped])
 
 
-def continued(
-    program: Path, modulator: modulators.Modulator, rate: int, past: np.ndarray, sound: np.ndarray, seed: int
-) -> np.ndarray:
-    """The signs of a sound that go on behind a past."""
-    padded = np.pad(sound, (0, -len(sound) % 8), mode="edge")
-    bits = modulators.modulated(program, modulator, rate, padded, seed, past)
-    return np.unpackbits(np.frombuffer(bits, np.uint8))[: len(sound)] * 2.0 - 1.0
+@dataclass(frozen=True)
+class Modulated:
+    """A modulator of a rate, and its program."""
+
+    program: Path
+    modulator: modulators.Modulator
+    rate: int
+
+    def past_of(self, errors: np.ndarray) -> np.ndarray:
+        return past_of(self.modulator, self.rate, errors)
+
+    def continued(self, past: np.ndarray, sound: np.ndarray, seed: int, times: int) -> np.ndarray:
+        """Signs of a sound that go on behind a past: so many rows, by this seed and each second one after it."""
+        padded = np.pad(sound, (0, -len(sound) % 8), mode="edge")
+        bits = modulators.modulated(self.program, self.modulator, self.rate, padded, seed, past, (times, 2))
+        rows = np.frombuffer(bits, np.uint8).reshape(times, -1)
+        return np.unpackbits(rows, axis=1)[:, : len(sound)] * 2.0 - 1.0

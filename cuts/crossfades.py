@@ -6,8 +6,8 @@ from collections.abc import Callable
 from dataclasses import dataclass
 
 import numpy as np
-from scipy import signal
 
+import filters
 from bands import BANDS
 from hearing import lowpass
 
@@ -41,6 +41,21 @@ def shares(away: np.ndarray, ramp: float, power: bool) -> tuple[np.ndarray, np.n
     return 1 - rising, rising
 
 
+def risen(row: np.ndarray, ramp: float, middles: np.ndarray) -> np.ndarray:
+    """The sum of a row times a ramp that rises from 0 to 1, for each middle of the ramp."""
+    places = np.arange(len(row)) + 0.5
+    sums, moments = (np.append(np.cumsum(it[::-1])[::-1], 0.0) for it in (row, places * row))
+
+    def behind(starts: np.ndarray) -> np.ndarray:
+        """The sum of the row times how far each place is behind a start, from there on."""
+        first = np.clip(np.floor(starts + 0.5), 0, len(row)).astype(int)
+        return moments[first] - starts * sums[first]
+
+    if not ramp:
+        return sums[np.clip(np.floor(middles + 0.5), 0, len(row)).astype(int)]
+    return (behind(middles - ramp / 2) - behind(middles + ramp / 2)) / ramp
+
+
 def mix(away: np.ndarray, ramp: float, power: bool, before: np.ndarray, after: np.ndarray) -> np.ndarray:
     low, high = shares(away, ramp, power)
     return low * before + high * after
@@ -51,7 +66,7 @@ def above(rate: int, sound: Callable[[int, int], np.ndarray], first: int, stop: 
     taps = lowpass(rate, *SPLIT)
     reach = len(taps) // 2
     wide = sound(first - reach, stop + reach)
-    return wide[:, reach : wide.shape[1] - reach] - signal.oaconvolve(wide, taps[None], mode="valid", axes=1)
+    return wide[:, reach : wide.shape[1] - reach] - filters.convolved(wide, taps)
 
 
 def wrapped(numbers: np.ndarray) -> np.ndarray:
@@ -90,10 +105,13 @@ class Sounds:
         """The sum of the crossfade of one channel for each middle, up to `most` bits before and after one."""
         found = np.zeros(2 * most + 1)
         for ramp, before, after in self.layers(crossfade):
-            low, high = shares(np.arange(-most, len(before) + most) + 0.5 - middle, ramp, crossfade.power)
-            found += signal.correlate(low, before, "valid") + signal.correlate(high, after, "valid")
-        # Moved by `t` bits, a place `k` has the share of the place `k - t`: the last of the sums is the first moved.
-        return found[::-1]
+            if crossfade.power:
+                low, high = shares(np.arange(-most, len(before) + most) + 0.5 - middle, ramp, True)
+                # Moved by `t` bits, a place `k` has the share of the place `k - t`: the last sum is the first moved.
+                found += sum(filters.convolved(*it)[::-1] for it in ((low, before[::-1]), (high, after[::-1])))
+            else:
+                found += before.sum() + risen(after - before, ramp, middle + np.arange(-most, most + 1))
+        return found
 
     def sum(self, crossfade: Crossfade, middle: float) -> float:
         """The sum of one crossfade of one channel."""

@@ -1,5 +1,5 @@
 """Fades and butts of the cuts of a project."""
-from dataclasses import dataclass
+from dataclasses import dataclass, replace
 from pathlib import Path
 
 import fading
@@ -9,6 +9,7 @@ from seams import Seam
 
 LONGER = (2, 4, 8, 16)  # times as long: what is tried if takes are too alike
 LONGEST = 0.04  # seconds
+LITTLE = 3e-6  # seconds that what follows may move before there is a bump
 
 
 @dataclass(frozen=True)
@@ -24,32 +25,65 @@ class Asked:
     ramp: float | None = None
 
 
-def wish_of(project: Project, cut: int, asked: Asked, time: float) -> fading.Wish:
-    """The fade at the plain cut after a cue, if there is room for it in both cues and both takes."""
-    cue, following = project.cues[cut], project.cues[cut + 1]
-    length = round(time * project.rate) // 2 * 2 + 1
-    most = round(asked.shift * project.rate)
-    wish = fading.Wish(cue["stop"], following["start"], length, most, asked.power, asked.is_butt, asked.ramp)
+def odd(bits: float) -> int:
+    """The odd number of bits that is nearest to one."""
+    return round(bits) // 2 * 2 + 1
+
+
+def wish_of(project: Project, cut: int, asked: Asked) -> fading.Wish:
+    """The fade that is asked for at the plain cut after a cue."""
+    stop, start = project.cues[cut]["stop"], project.cues[cut + 1]["start"]
+    length, most = odd(asked.time * project.rate), round(asked.shift * project.rate)
+    wish = fading.Wish(stop, start, length, most, asked.power, asked.is_butt, asked.ramp)
+    demand_room(project, cut, wish)
+    return fading.ramped((project.take(cut), project.take(cut + 1)), wish)
+
+
+def demand_room(project: Project, cut: int, wish: fading.Wish) -> None:
+    """Refuses a fade for which there is no room in both cues and both takes."""
+    cue, following, length = project.cues[cut], project.cues[cut + 1], wish.length
     stop, start = wish.ends
-    if stop < cue["start"] + project.least(cut) or start + most > following["stop"] - project.least(cut + 1):
+    if stop < cue["start"] + project.least(cut) or start + wish.most > following["stop"] - project.least(cut + 1):
         raise Refused("a cue is too short for the fade")
-    if stop + length > project.span(cut)[1] or start - most - length < project.span(cut + 1)[0]:
+    if stop + length > project.span(cut)[1] or start - wish.most - length < project.span(cut + 1)[0]:
         raise Refused("a take isn't long enough for the fade")
-    return wish
+
+
+def longest(project: Project, cut: int) -> int:
+    """How many bits a fade may have that is longer than asked for. Half of a cue is left to the cut at its other end,
+    if that isn't made yet."""
+    roles, rooms = project.roles(), []
+    for number, other in ((cut, cut - 1), (cut + 1, cut + 2)):
+        room = project.cues[number]["stop"] - project.cues[number]["start"] - project.least(number)
+        rooms.append(room // 2 if 0 <= other < len(roles) and roles[other] == "cue" else room)
+    return min(2 * min(rooms) - 1, odd(LONGEST * project.rate))
+
+
+def longer(project: Project, cut: int, wish: fading.Wish, time: float) -> list[fading.Wish]:
+    """The fade that is wished and longer ones, then the same if what follows may move by a little, and at last the
+    longest there is room for."""
+    most, little = longest(project, cut), max(round(LITTLE * project.rate), wish.most)
+    lengths = [it for it in (odd(time * more * project.rate) for more in LONGER) if it <= most]
+    found = [wish, *(replace(wish, length=it) for it in lengths)]
+    found += [replace(it, most=little) for it in found]
+    if most > found[-1].length:
+        found += [replace(wish, length=most), replace(wish, length=most, most=little)]
+    return list(dict.fromkeys(found))
 
 
 def plan_of(project: Project, cut: int, asked: Asked) -> fading.Plan:
-    """The plan of the fade that is asked for, or of a longer one if only that joins without a bump."""
-    takes = project.take(cut), project.take(cut + 1)
-    plans = [fading.planned(*takes, wish_of(project, cut, asked, asked.time))]
-    for time in (asked.time * it for it in LONGER):
-        if plans[-1].is_even or time > LONGEST:
-            break
+    """The first plan of a fade without a bump, or the one with the smallest bump: of the fade that is asked for, or of
+    others where that isn't enough."""
+    takes, plans, wished = (project.take(cut), project.take(cut + 1)), [], wish_of(project, cut, asked)
+    for wish in longer(project, cut, wished, asked.time):
         try:
-            plans.append(fading.planned(*takes, wish_of(project, cut, asked, time)))
+            demand_room(project, cut, wish)
         except Refused:
-            break
-    return plans[-1]
+            continue
+        plans.append(fading.planned(*takes, wish))
+        if plans[-1].is_even:
+            return plans[-1]
+    return min(plans, key=lambda it: it.bump)
 
 
 def fade(project: Project, program: Path, number: int, asked: Asked) -> fading.Fade:

@@ -7,19 +7,19 @@ anew join them best the one is cut to the other. Each channel has a place of its
 Two numbers of all that is owed can't be changed by choosing bits: their sum is odd or even, and so is their first
 moment. So the middle of the crossfade moves in each channel until the sum is right (`crossfades`), and what is left of
 the moment is added to the sound as a wave that is too small to be heard. If no middle is found, as the takes are too
-much alike, the second take is moved by some bits, or what is left of the sum is added to the sound as a bump as long
-as the fade."""
+much alike, the fade is made longer (`fades`), the second take is moved by some bits, or what is left of the sum is
+added to the sound as a bump as long as the fade."""
 from dataclasses import dataclass, replace
 from pathlib import Path
 
 import numpy as np
 
 import ramps
-from continuing import continued, past_of
+from continuing import Modulated
 from crossfades import SETTLED as EVEN
 from crossfades import Crossfade, Sounds, above, even_middle, wrapped
 from hearing import hearing_of
-from material import modulators
+from modulation import modulators
 from meeting import LINK, Field
 from owing import sounds
 from spectra import let_in
@@ -34,7 +34,7 @@ APART = 33  # between the seeds of tries
 DOWN = 240  # dB: what a low-pass leaves of the sound in the errors adds to their moments
 
 # How much of a fade the ramp takes, and how far its middle may move from the wished place: what is tried in turn.
-RAMPS = ((0.8, 0.1), (0.4, 0.3))
+RAMPS = ((0.8, 0.1), (0.4, 0.3), (0.2, 0.39))
 MOVES = (0.1, 0.4)  # how far its middle may move
 MOST = 0.2  # of a butt that a ramp may take
 
@@ -171,12 +171,22 @@ class Plan:
         """Whether nothing is missing."""
         return self.worst < EVEN
 
+    @property
+    def bump(self) -> float:
+        """How large a bump makes up for what is missing, of full scale: in the channel in which it is largest."""
+        return self.worst * float(bumps(self.around.wish.length)[0].max())
+
+
+def ramped(takes: tuple[Signals, Signals], wish: Wish) -> Wish:
+    """A wish that says within what time a butt changes the sound."""
+    if not wish.is_butt or wish.ramp is not None:
+        return wish
+    is_whole = ramps.is_whole(takes, (wish.stop, wish.start), wish.power)
+    return replace(wish, ramp=ramps.RAMP, is_split=not is_whole)
+
 
 def planned(before: Signals, after: Signals, wish: Wish) -> Plan:
     """The first plan that misses nothing, or the one that misses least; the second take moves only if it has to."""
-    if wish.is_butt and wish.ramp is None:
-        is_whole = ramps.is_whole((before, after), (wish.stop, wish.start), wish.power)
-        wish = replace(wish, ramp=ramps.RAMP, is_split=not is_whole)
     around = Surroundings(before, after, wish, hearing_of(before.rate).size // 2)
     found = []
     for moved in sorted(range(-wish.most, wish.most + 1), key=lambda it: (abs(it), it)):
@@ -212,12 +222,12 @@ def joined(program: Path, modulator: modulators.Modulator, rate: int, known: tup
     length = len(sound)
     first = max(length // 2 - PLACES // 2, length // 8)
     field = Field(rate, first, length - first)
-    pasts = past_of(modulator, rate, before), past_of(modulator, rate, after[::-1])
-    parts, halves = (sound[: field.stop], sound[first:][::-1]), ([], [])
-    for it in range(TRIED if field.stop - first > PLACES // 2 else 2 * TRIED):
-        for number, (half, past, part) in enumerate(zip(halves, pasts, parts)):
-            half.append(continued(program, modulator, rate, past, part, seed + 2 * it + 1 + number))
-    fronts, rears = np.stack(halves[0]), np.stack(halves[1])[:, ::-1]
+    by = Modulated(program, modulator, rate)
+    pasts = by.past_of(before), by.past_of(after[::-1])
+    parts = sound[: field.stop], sound[first:][::-1]
+    times = TRIED if field.stop - first > PLACES // 2 else 2 * TRIED
+    fronts, rears = (by.continued(*it, seed + 1 + number, times) for number, it in enumerate(zip(pasts, parts)))
+    rears = rears[:, ::-1]
     ends = field.fronts(before, fronts - parts[0]), field.rears(rears - sound[first:], after)
     found = field.quietest((fronts, ends[0]), (rears, ends[1]))
     ahead, behind = fronts[found.front, : found.place], rears[found.rear, found.place - first :]

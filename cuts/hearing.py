@@ -2,7 +2,9 @@
 from functools import lru_cache
 
 import numpy as np
-from scipy import fft, signal
+from scipy import fft
+
+import filters
 
 PASSED, STOPPED = 20_000, 24_000  # Hz: the low-pass passes what is below, and stops what is above
 DOWN = 120  # dB
@@ -13,8 +15,7 @@ LOWEST = 1e-15
 @lru_cache
 def lowpass(rate: int, passed: int, stopped: int, down: int = DOWN) -> np.ndarray:
     """Taps of linear phase, an odd number, with the sum 1; what they stop is so many dB down."""
-    number, shape = signal.kaiserord(down, (stopped - passed) / (rate / 2))
-    taps = signal.firwin(number | 1, (passed + stopped) / 2, window=("kaiser", shape), fs=rate)
+    taps = filters.lowpass((passed + stopped) / 2 / (0.5 * rate), (stopped - passed) / (rate / 2), down)
     return taps / taps.sum()
 
 
@@ -55,6 +56,10 @@ class Hearing:
         heard[: size // 2 - reach] = 0
         heard[size // 2 + reach :] = 0
         return heard
+
+    def peak(self, error: np.ndarray, wider: int = 0) -> float:
+        """The peak of the click of an error, in dB."""
+        return decibels(np.abs(self.click(error, wider)).max())
 
     def levels(self, error: np.ndarray, wider: int = 0) -> tuple[float, float]:
         """Peak and A-weighted energy of the click of an error, in dB."""

@@ -21,21 +21,17 @@ GAIN = 1.0  # dB that a link gains at least, or there is none
 
 @dataclass(frozen=True)
 class Place:
-    """A cut from bit `stop` - 1 of one take to bit `start` of the other, perhaps with a link between, and what each
-    channel clicks: peak and A-weighted energy in dB. With a link, `other` is the loudest peak by another estimate of
+    """A cut from bit `stop` - 1 of one take to bit `start` of the other, perhaps with a link between, and what the
+    loudest channel clicks: the peak in dB. With a link, `other` is the loudest peak by another estimate of
     the takes' sounds, and the sound changes `moved` bits after the middle of the link, by `step`."""
 
     stop: int
     start: int
-    clicks: list[tuple[float, float]]
+    loudest: float
     link: Link | None = None
     other: float = -np.inf
     moved: float = 0.0
     step: float = 0.0
-
-    @property
-    def loudest(self) -> float:
-        return max(peak for peak, _ in self.clicks)
 
     @property
     def between(self) -> int:
@@ -93,7 +89,7 @@ class Cut:
         """The exact click of a cut."""
         half = self.hearing.size // 2
         rows = zip(self.before.part(stop - half, stop), self.after.part(start, start + half))
-        return Place(stop, start, [self.hearing.levels(np.concatenate(it)) for it in rows])
+        return Place(stop, start, max(self.hearing.peak(np.concatenate(it)) for it in rows))
 
     def sounds(self) -> list[np.ndarray]:
         """What the first channel sounds like at the places of both takes."""
@@ -158,7 +154,7 @@ class Cut:
     def with_link(self, middle: int, start: int, link: Link, moved: float) -> Place:
         """The exact click of a cut with a link in its place, whose sound changes so many bits after its middle."""
         stop, start = middle - link.ahead, start + link.length - link.ahead
-        takes, clicks = (self.before, self.after), []
+        takes, peaks = (self.before, self.after), []
         more = int(np.ceil(abs(moved)))
         inside = slice(self.hearing.size // 2 - more, self.hearing.size // 2 + more)
         places = np.array([[middle - self.window.stop, start - link.length + link.ahead - self.window.start]])
@@ -170,22 +166,22 @@ class Cut:
             error = self.around(channel, (stop, start), inner, link.length)
             if more:
                 error[inside] += (changed(np.array([moved]), more) * self.apart(places, more))[0]
-            clicks.append(self.hearing.levels(error, link.ahead))
-        return Place(stop, start, clicks, link, moved=moved)
+            peaks.append(self.hearing.peak(error, link.ahead))
+        return Place(stop, start, max(peaks), link, moved=moved)
 
     def bridged(self, places: list[tuple[int, int]], weights: list[int], length: int) -> list[Place]:
         """The same cuts with least bridges: at each pair the middle of the bridge is where it would be cut plain."""
         early = length // 2
         ends = [(stop - early, start + length - early) for stop, start in places]
         more = len(weights) - 1
-        clicks: list[list[tuple[float, float]]] = [[] for _ in ends]
+        peaks = np.full(len(ends), -np.inf)
         for channel in range(len(self.before.values)):
             before = np.stack([row(self.before, channel, stop - more, stop + length) for stop, _ in ends])
             after = np.stack([row(self.after, channel, start - length - more, start + more) for _, start in ends])
             bits = bridges.least(weights, before, after, length)
-            for found, one, end in zip(clicks, bits, ends):
-                found.append(self.hearing.levels(self.error(channel, one, end, weights), early))
-        return [Place(stop, start, it) for (stop, start), it in zip(ends, clicks)]
+            rows = [self.hearing.peak(self.error(channel, *it, weights), early) for it in zip(bits, ends)]
+            peaks = np.maximum(peaks, rows)
+        return [Place(*end, it) for end, it in zip(ends, peaks.tolist())]
 
     def error(self, channel: int, bits: np.ndarray, ends: tuple[int, int], weights: list[int]) -> np.ndarray:
         """The error of a cut with these bits between its ends, its middle in the middle of the bits."""

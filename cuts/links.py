@@ -19,6 +19,7 @@ LENGTHS = range(4, 17)  # bits of a link
 MARGIN = LENGTHS[-1] // 2  # between a pair and the window's ends: so cues stay in the window
 FROM = 4096  # places around the middle of each window from which a link's bits may come
 NEAR = 4  # links of each length that are kept for a pair
+NARROW = 62  # bits that are one number
 
 
 @dataclass(frozen=True)
@@ -57,8 +58,16 @@ def pieces(takes: list[Errors], spans: list[tuple[int, int]], length: int) -> Pi
     if not rows:
         return Pieces(np.empty((0, 0)), np.empty((0, 2), np.int64))
     signs = np.concatenate(rows)
-    _, first = np.unique(np.packbits(signs > 0, axis=1), axis=0, return_index=True)
+    first = different(signs)
     return Pieces(signs[first], np.concatenate(links)[first])
+
+
+def different(signs: np.ndarray) -> np.ndarray:
+    """Where each row of signs comes first, in the order of the rows as numbers."""
+    bits, count = signs > 0, signs.shape[1]
+    if count > NARROW:
+        return np.unique(np.packbits(bits, axis=1), axis=0, return_index=True)[1]
+    return np.unique(bits @ (1 << np.arange(count)[::-1]), return_index=True)[1]
 
 
 def spans_of(takes: list[Errors], bits: list[int], middles: list[int]) -> list[tuple[int, int]]:

@@ -1,17 +1,14 @@
 """Takes whose true signals are known: made of tones, notes and noise by the modulator, as DSDIFF and as 64-bit
 floats."""
-import sys
 from dataclasses import dataclass
 from pathlib import Path
 
 import numpy as np
 from scipy import signal
 
-FOLDER = Path(__file__).resolve().parent
-sys.path.insert(0, str(FOLDER.parent / "modulator"))
-import modulators  # noqa: E402
-import takes  # noqa: E402
-from hearing import lowpass  # noqa: E402
+import takes
+from hearing import lowpass
+from modulation import modulators
 
 NOTES = [130.8, 164.8, 196.0, 220.0, 261.6, 329.6, 392.0, 523.3, 659.3, 880.0]
 SLOW = 88_200  # music is made at about this rate, and brought to the takes'

@@ -49,7 +49,8 @@ class Ends:
         self.click = (basis @ turn).T
         self.steps = sizes[FREE : FREE + EVEN, FREE : FREE + EVEN]
         self.bits = (self.click @ waves[:, far - LINK // 2 : far + LINK // 2]).T
-        self.links = cKDTree(link(np.arange(1 << LINK)) @ self.bits)
+        numbers = link(np.arange(1 << LINK)) @ self.bits
+        self.links = cKDTree(numbers, balanced_tree=False, compact_nodes=False)
 
     @lru_cache(maxsize=8)
     def spectra(self, places: tuple[int, int], size: int) -> np.ndarray:

@@ -12,8 +12,7 @@ polynomial of the frequency, and eight numbers a channel tell it."""
 import copy
 
 import numpy as np
-from scipy import signal
-
+import filters
 import spectra
 from bands import Band
 from hearing import DOWN, Hearing, lowpass
@@ -34,7 +33,7 @@ def sounds(take: Signals, first: int, stop: int, bands: list[Band] | None = None
     rows, found = take.signs(first - reach, stop + reach), []
     for row, one in zip(rows, taps):
         more = reach - len(one) // 2
-        found.append(signal.oaconvolve(row[more : len(row) - more], one, mode="valid"))
+        found.append(filters.convolved(row[more : len(row) - more], one))
     return np.stack(found)
 
 

@@ -58,4 +58,6 @@ def nearest(
 
 def peaks(owed: np.ndarray, click: np.ndarray) -> np.ndarray:
     """The loudest peak in any channel of what is owed, of each row of the numbers."""
-    return np.abs(owed @ click).max(axis=(0, 2))
+    # Row by row, of which the library multiplies all at once.
+    heard = np.ascontiguousarray(owed).reshape(-1, owed.shape[-1]) @ click
+    return np.maximum(heard.max(axis=1), -heard.min(axis=1)).reshape(owed.shape[:-1]).max(axis=0)

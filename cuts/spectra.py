@@ -1,6 +1,5 @@
 """Spectra of errors as they are seen from each place of a take: of all errors before it, or from it on."""
 import numpy as np
-from scipy import signal
 
 RISE = 4_000  # bits at 2,822,400 Hz over which errors are let in, far from where they count
 
@@ -15,10 +14,11 @@ def let_in(errors: np.ndarray, rate: int) -> np.ndarray:
 def ahead(errors: np.ndarray, turns: np.ndarray, first: int) -> np.ndarray:
     """The spectrum of all errors before a place, as seen from it: a column for each place from `first` to behind the
     last, a row for each line, which turns by an angle a bit."""
-    found = []
+    places, found = np.arange(len(errors) + 1), []
     for turn in turns:
-        step = np.exp(1j * turn)
-        found.append(signal.lfilter([0, step], [1, -step], np.append(errors, 0.0))[first:])
+        waves = np.exp(1j * turn * places)
+        sums = np.cumsum(errors * waves[:-1].conj())
+        found.append(np.append(0, sums)[first:] * waves[first:])
     return np.array(found)
 
 

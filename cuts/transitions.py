@@ -86,7 +86,7 @@ def kept_of(cut: Cut) -> int:
 def fitting(cut: Cut) -> np.ndarray:
     """The pairs of places of one channel that fit best, for each shift, with the number of that. The sum of what is
     left is made up for as far as the sound may change earlier or later."""
-    (before,), (after,) = (owed @ cut.owing.moments for owed in cut.owed)
+    before, after = (np.ascontiguousarray((owed[0] @ cut.owing.moments).T) for owed in cut.owed)
     sounds, most = cut.sounds(), farthest(cut)
     weights, found = links.parity_weights(cut.owing), []
     kept = ROUGH * kept_of(cut)
@@ -94,12 +94,12 @@ def fitting(cut: Cut) -> np.ndarray:
         low, high = max(0, -shift), min(cut.window.stops, cut.window.starts - shift)
         if low >= high:
             continue
-        sums, moments = wrapped(before[low:high] - after[low + shift : high + shift]).T
+        sums, moments = wrapped(before[:, low:high] - after[:, low + shift : high + shift])
         apart = sounds[1][low + shift : high + shift] - sounds[0][low:high]
-        with np.errstate(divide="ignore", invalid="ignore"):
-            moved = np.nan_to_num(np.clip(-sums / apart, -most, most))
+        moved = np.divide(-sums, apart, out=np.zeros(high - low), where=apart != 0)
+        moved = np.minimum(np.maximum(moved, -most), most)
         left = sums + moved * apart, wrapped(moments + moved**2 / 2 * apart)
-        distance = weights @ np.square(left)
+        distance = weights[0] * left[0] ** 2 + weights[1] * left[1] ** 2
         best = np.argpartition(distance, kept)[:kept] if high - low > kept else np.arange(high - low)
         first = low + np.sort(best)
         found.append(np.stack([first, first + shift, np.full(len(first), number)], axis=1))

@@ -1,9 +1,11 @@
-// A delta-sigma modulator of one bit: modulate ORDER A1..An B1..Bn DITHER SEED BYTES [RATE HERTZ AMPLITUDE].
+// A delta-sigma modulator of one bit:
+//     modulate ORDER A1..An B1..Bn DITHER SEED BYTES [TIMES STEP | RATE HERTZ AMPLITUDE]
 // The noise transfer is (1 + sum B z^-i) / (1 + sum A z^-i), the signal transfer is 1. The signal is a sine, or without
 // one what standard input has: 64-bit floats as the machine has them, first the errors of the ORDER steps before, the
 // newest first, then the same after the noise transfer, and then the signal, one for each bit. Writes BYTES bytes to
 // standard output, the earliest bit as the most significant, and to standard error the largest magnitude before the
-// quantizer.
+// quantizer. With TIMES the same is done so many times, each time with a seed that is larger by STEP.
+#include <limits.h>
 #include <math.h>
 #include <stdint.h>
 #include <stdio.h>
@@ -45,19 +47,45 @@ static int step(Modulator *m, double signal) {
     return bit;
 }
 
+// The next 8 bits.
+static void put_byte(Modulator *m, const double *samples) {
+    int byte = 0;
+    for (int bit = 0; bit < 8; bit++) byte = byte << 1 | step(m, samples[bit]);
+    putchar(byte);
+}
+
+// Whether there were the errors of the steps before.
+static int read_past(Modulator *m) {
+    size_t order = (size_t)m->order;
+    return fread(m->error, sizeof(double), order, stdin) == order &&
+           fread(m->shaped, sizeof(double), order, stdin) == order;
+}
+
 // Whether there were as many samples as bits.
 static int modulate_input(Modulator *m, long long bytes) {
     double samples[8];
-    size_t order = (size_t)m->order;
-    if (fread(m->error, sizeof(double), order, stdin) != order) return 0;
-    if (fread(m->shaped, sizeof(double), order, stdin) != order) return 0;
+    if (!read_past(m)) return 0;
     for (long long i = 0; i < bytes; i++) {
         if (fread(samples, sizeof *samples, 8, stdin) != 8) return 0;
-        int byte = 0;
-        for (int bit = 0; bit < 8; bit++) byte = byte << 1 | step(m, samples[bit]);
-        putchar(byte);
+        put_byte(m, samples);
     }
     return 1;
+}
+
+// The same so many times, each time with a seed that is larger by a step; and whether there was memory for the samples.
+static int modulate_again(Modulator *m, long long bytes, long long times, uint64_t step) {
+    if (bytes < 1 || bytes > LLONG_MAX / 64 || !read_past(m)) return 0;
+    size_t number = (size_t)bytes * 8;
+    double *samples = malloc(number * sizeof *samples);
+    int is_read = samples && fread(samples, sizeof *samples, number, stdin) == number;
+    for (long long time = 0; is_read && time < times; time++) {
+        Modulator one = *m;
+        one.random += (uint64_t)time * step;
+        for (long long i = 0; i < bytes; i++) put_byte(&one, samples + 8 * i);
+        m->largest = fmax(m->largest, one.largest);
+    }
+    free(samples);
+    return is_read;
 }
 
 static void modulate_sine(Modulator *m, long long bytes, double rate, double hertz, double amplitude) {
@@ -77,7 +105,7 @@ int main(int count, char **words) {
     Modulator m = {0};
     m.order = count > 1 ? atoi(words[1]) : 0;
     int fixed = 2 * m.order + 5;
-    if (m.order < 1 || m.order > MOST || (count != fixed && count != fixed + 3)) return 2;
+    if (m.order < 1 || m.order > MOST || count < fixed || count > fixed + 3 || count == fixed + 1) return 2;
     for (int i = 0; i < m.order; i++) {
         m.a[i] = atof(words[2 + i]);
         m.b[i] = atof(words[2 + m.order + i]);
@@ -88,7 +116,8 @@ int main(int count, char **words) {
     long long bytes = atoll(rest[2]);
     if (m.random == 0) return 2;
     if (count == fixed && !modulate_input(&m, bytes)) return 1;
-    if (count != fixed) modulate_sine(&m, bytes, atof(rest[3]), atof(rest[4]), atof(rest[5]));
+    if (count == fixed + 2 && !modulate_again(&m, bytes, atoll(rest[3]), strtoull(rest[4], NULL, 10))) return 1;
+    if (count == fixed + 3) modulate_sine(&m, bytes, atof(rest[3]), atof(rest[4]), atof(rest[5]));
     fprintf(stderr, "%.3f\n", m.largest);
     return fflush(stdout) == 0 ? 0 : 1;
 }

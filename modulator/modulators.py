@@ -9,8 +9,6 @@ from pathlib import Path
 
 import numpy as np
 from numpy.polynomial import legendre
-from scipy import optimize
-from scipy import signal as signals
 
 FOLDER = Path(__file__).resolve().parent
 sys.path.insert(0, str(FOLDER.parent / "scripts/common"))
@@ -18,6 +16,41 @@ from outputs import Refused  # noqa: E402
 
 AUDIO = 20_000  # Hz: the zeros of the noise transfer lie below
 SEED = 88172645463325252
+
+# Denominators of noise transfers that are often used, by order and greatest gain: just what `poles_of` computes. The
+# modules that it loads take longer to load than a cut takes to be made.
+POLES = {
+    (7, 1.4): [
+        1.0,
+        -6.327950726214892,
+        17.19085216682616,
+        -25.987968025362544,
+        23.60912329927293,
+        -12.88816227529025,
+        3.914310853971995,
+        -0.5102040816326531,
+    ],
+    (7, 1.3): [
+        1.0,
+        -6.475696321627832,
+        17.990352949635913,
+        -27.79380569589268,
+        25.788165698009898,
+        -14.369551122798365,
+        4.452250697263576,
+        -0.5917159763316184,
+    ],
+    (5, 1.5): [
+        1.0,
+        -4.192282151138504,
+        7.0857914157082815,
+        -6.029607383511101,
+        2.581207938963348,
+        -0.44444444401209554,
+    ],
+    (5, 1.3): [1.0, -4.476146395354404, 8.039183172751839, -7.239786642068571, 3.268552428892148, -0.5917159763243617],
+    (4, 1.3): [1.0, -3.4767208563705125, 4.562759005031947, -2.6764964637833697, 0.5917159825103558],
+}
 STABLE = 3  # what stands before the quantizer stays below this
 
 
@@ -42,22 +75,28 @@ def modulator_for(rate: int) -> Modulator:
 @lru_cache
 def noise_transfer(modulator: Modulator, rate: int) -> tuple[np.ndarray, np.ndarray]:
     """Numerator and denominator: Butterworth's poles, and the zeros of a Legendre polynomial over the audio band."""
-    order = modulator.order
-    zeros = np.exp(2j * np.pi * AUDIO / rate * legendre.legroots([0] * order + [1]))
+    zeros = np.exp(2j * np.pi * AUDIO / rate * legendre.legroots([0] * modulator.order + [1]))
+    poles = POLES.get((modulator.order, modulator.gain))
+    return np.real(np.poly(zeros)), poles_of(modulator) if poles is None else np.array(poles)
+
+
+def poles_of(modulator: Modulator) -> np.ndarray:
+    """The denominator of a noise transfer."""
+    from scipy import optimize
+    from scipy import signal as signals
 
     def excess(turn: float) -> float:
-        return 1 / signals.butter(order, turn, "high")[0][0] - modulator.gain
+        return 1 / signals.butter(modulator.order, turn, "high")[0][0] - modulator.gain
 
     turn = optimize.brentq(excess, 1e-3, 0.9)
-    poles = signals.butter(order, turn, "high", output="zpk")[1]
-    return np.real(np.poly(zeros)), np.real(np.poly(poles))
+    return np.real(np.poly(signals.butter(modulator.order, turn, "high", output="zpk")[1]))
 
 
 def compiled(folder: Path) -> Path:
     """The modulator's program, made in a folder, in which the compiler has its own files too."""
     program = folder / "modulate"
     compiler = os.environ.get("CC", "cc")
-    words = [compiler, "-O2", "-o", program, FOLDER / "modulate.c", "-lm"]
+    words = [compiler, "-O1", "-o", program, FOLDER / "modulate.c", "-lm"]
     how = {"stdout": subprocess.DEVNULL, "stderr": subprocess.PIPE, "env": os.environ | {"TMPDIR": str(folder)}}
     try:
         running = subprocess.Popen(words, start_new_session=True, **how)
@@ -76,7 +115,8 @@ def compiled(folder: Path) -> Path:
 
 
 def run(program: Path, modulator: Modulator, rate: int, words: list, samples: bytes = b"") -> tuple[bytes, float]:
-    """The bytes, and what stood before the quantizer at most. Words are a seed, how many bytes, and perhaps a sine."""
+    """The bytes, and what stood before the quantizer at most. Words are a seed, how many bytes, and perhaps how often
+    and by what step of the seed, or a sine."""
     zeros, poles = noise_transfer(modulator, rate)
     numbers = [*(repr(float(it)) for it in [*poles[1:], *zeros[1:]]), str(modulator.dither)]
     line = [program, str(modulator.order), *numbers, *(str(it) for it in words)]
@@ -96,9 +136,11 @@ def modulated(
     samples: np.ndarray,
     seed: int = SEED,
     state: np.ndarray | None = None,
+    again: tuple[int, ...] = (),
 ) -> bytes:
     """The bits of a signal with a multiple of 8 samples, the earliest bit the most significant; stored ones are 1. The
-    state is what the quantizer's errors were before, and the same after the noise transfer, the newest first."""
+    state is what the quantizer's errors were before, and the same after the noise transfer, the newest first. With
+    `again`, how many times and a step, the signal is modulated so often, each time with a seed larger by the step."""
     before = np.zeros(2 * modulator.order) if state is None else state
     numbers = np.concatenate([before, samples]).tobytes()
-    return run(program, modulator, rate, [seed, len(samples) // 8], numbers)[0]
+    return run(program, modulator, rate, [seed, len(samples) // 8, *again], numbers)[0]

@@ -8,6 +8,8 @@ from names import shown
 
 LOWEST = {"level": -72.0, "spectrum": -150.0}  # dB, at the lower edge of a picture
 WIDTH, HEIGHT = 60, 32
+TOP = ord("?")  # The letter of the upper edge: none of those after it has a meaning in HTML.
+WIDEST, PICTURE = 42, 17  # digits, of a column of texts and of one with pictures
 COLUMNS = (
     "file",
     "form",
@@ -26,6 +28,7 @@ COLUMNS = (
     "SHA-256",
     "refused",
 )
+NUMBERS = {"rate", "channels", "duration", "PCM", "peak", "clipped", "offset", "silence", "dropped"}
 KINDS = (("refused", "refused"), ("clipped", "clipped"), ("dropped", "something dropped"), ("unplayed", "not played"))
 LEGEND = (
     "Levels are in dB relative to full scale, over all channels. Clipped: samples at the largest or the smallest value. "
@@ -39,7 +42,7 @@ LEGEND = (
 @dataclasses.dataclass
 class Cell:
     """What a cell shows, its class, and its data: `v` is the number by which it is sorted ('' is none; otherwise it is
-    sorted by the text), `x` the sums, `h`, `m` and `s` the outlines of its picture."""
+    sorted by the text), `x` the sums, `h`, `m` and `s` the heights of its picture."""
 
     shown: str
     classes: str = ""
@@ -67,9 +70,19 @@ def number(value, spelled="{}", unit=""):
     return Cell(spelled.format(value) + unit, "n", {"v": round(value, 4)})
 
 
+def decibels(value, spelled):
+    """A cell with a level; that of nothing is minus infinity."""
+    cell = number(value, spelled, " dB")
+    if value <= measured.FLOOR:
+        cell.shown = "-∞ dB"
+    return cell
+
+
 def duration(seconds):
     if seconds is None:
         return number(None)
+    if seconds < 1:
+        return Cell(f"{1000 * seconds:.0f} ms", "n", {"v": round(seconds, 4)})
     minutes, rest = divmod(round(seconds, 1), 60)
     return Cell(f"{int(minutes)}:{rest:04.1f}", "n", {"v": round(seconds, 4)})
 
@@ -79,24 +92,17 @@ def height(value, kind):
     return round(min(max(value / LOWEST[kind], 0), 1) * HEIGHT)
 
 
-def steps(levels, kind):
-    """The outline of a course of levels, a column each."""
-    last, path = HEIGHT, f"M0 {HEIGHT}"
-    for value in levels:
-        here = height(value, kind)
-        path += f"v{here - last}h1" if here != last else "h1"
-        last = here
-    return f"{path}V{HEIGHT}Z"
+def heights(levels, kind):
+    """How far each level of a picture is from its upper edge, a letter each: the page draws it once it is seen."""
+    return "".join(chr(TOP + height(value, kind)) for value in levels)
 
 
 def level_cell(figures):
-    return Cell("", "p", {"h": steps(figures["highs"], "level"), "m": steps(figures["means"], "level")})
+    return Cell("", "p", {"h": heights(figures["highs"], "level"), "m": heights(figures["means"], "level")})
 
 
 def spectrum_cell(figures):
-    places = [height(value, "spectrum") for value in figures["spectrum"]]
-    moves = "".join(f"l1 {there - here}" for here, there in zip(places, places[1:]))
-    return Cell("", "p", {"s": f"M.5 {places[0]}{moves}"} if places else {})
+    return Cell("", "p", {"s": heights(figures["spectrum"], "spectrum")} if figures["spectrum"] else {})
 
 
 def figure_cells(figures):
@@ -114,9 +120,9 @@ def figure_cells(figures):
         silence.shown = "{:.2f} + {:.2f} s".format(*figures["silence"])
     return [
         Cell(f"{figures['rate']}/{figures['width']}", "n", {"v": figures["rate"]}),
-        number(figures["peak"], "{:z.1f}", " dB"),
+        decibels(figures["peak"], "{:z.1f}"),
         number(figures["clipped"]),
-        number(figures["offset"], "{:z.0f}", " dB"),
+        decibels(figures["offset"], "{:z.0f}"),
         silence,
         level_cell(figures),
         spectrum_cell(figures),
@@ -132,19 +138,23 @@ def sums_cell(sums):
     )
 
 
+def seconds_of(row):
+    """How long a file is: by its samples, or else by what was played of it."""
+    if row.samples is not None and row.rate:
+        return row.samples / row.rate
+    return (row.figures or {}).get("seconds")
+
+
 def line_of(row):
     """The row of a file."""
     figures, has_figures = row.figures, row.figures is not None and "fault" not in row.figures
-    seconds = row.samples / row.rate if row.samples is not None and row.rate else None
-    if seconds is None and has_figures:
-        seconds = figures["seconds"]
     said = "\n".join(f"{step}: {fault}" for step, fault in row.refusals)
     cells = [
         Cell(visible(row.name), "w"),
         Cell(row.form),
         number(row.rate),
         number(row.channels),
-        duration(seconds),
+        duration(seconds_of(row)),
         *figure_cells(figures),
         number(row.dropped),
         Cell(", ".join(row.kept), "w"),
@@ -160,12 +170,24 @@ def line_of(row):
     return Line(cells, " ".join(kind for kind, holds in is_kind.items() if holds), bool(row.refusals))
 
 
+def widths(lines):
+    """The widths of the columns, in digits. Rows of fixed columns are laid out alone, and only once they are seen."""
+    longest = [len(column) + 2 for column in COLUMNS]
+    for line in lines:
+        for place, cell in enumerate(line.cells):
+            longest[place] = max(
+                longest[place], PICTURE if "p" in cell.classes else 0, *map(len, cell.shown.split("\n"))
+            )
+    return [min(it, WIDEST) + 1 for it in longest]
+
+
 def summary(rows, lines):
     """The counts of all, in a sentence."""
     counts = {kind: sum(kind in line.kinds.split() for line in lines) for kind, _ in KINDS}
-    hours = sum(row.samples / row.rate for row in rows if row.samples and row.rate) / 3600
+    seconds = sum(seconds_of(row) or 0 for row in rows)
+    unit, size = next((it for it in (("hours", 3600), ("minutes", 60)) if seconds >= it[1]), ("seconds", 1))
     return (
-        f"{len(rows)} files, {hours:.1f} hours; {len(rows) - counts['unplayed']} played, {counts['refused']} refused at "
+        f"{len(rows)} files, {seconds / size:.1f} {unit}; {len(rows) - counts['unplayed']} played, {counts['refused']} refused at "
         f"some step; {counts['clipped']} clipped, {counts['dropped']} with marks, chunks or tags dropped."
     )
 
@@ -180,8 +202,11 @@ def page(title, rows):
         summary=summary(rows, lines),
         kinds=KINDS,
         columns=COLUMNS,
+        widths=widths(lines),
+        numbers=NUMBERS,
         rows=lines,
         legend=LEGEND,
         width=WIDTH,
         height=HEIGHT,
+        top=TOP,
     )

@@ -6,16 +6,16 @@ import subprocess
 
 import names
 import tagging
-from outputs import Refused
+from outputs import Refused, shown_name
 from program import PROGRAM
 
-# How a line of refused.txt goes on behind a name.
+# How a line of refused.txt goes on after a name.
 SAID = re.compile(r"(.*): (fault: .*|no (?:filter|tracks:) .*|status \d+|stopped|the program ended .*)", re.DOTALL)
 
 
 @dataclasses.dataclass
 class Row:
-    """What is known of a file. `kept` is what stands beside it, `sums` are SHA-256 by what they are of, `refusals`
+    """What is known of a file. `kept` is what is kept beside it, `sums` are SHA-256 by what they are of, `refusals`
     steps and faults, a fault with its second line."""
 
     name: str
@@ -62,7 +62,7 @@ def told_of(row, found):
 
 
 def kept_beside(found):
-    """What of a file isn't in its converted one, and stands beside it; and what became of its tag."""
+    """What of a file isn't in its converted one, and is kept beside it; and what became of its tag."""
     kept = [os.path.splitext(path)[1] for path in found["kept"]]
     tags = {"handed on" if tag == tagging.HANDED_ON else f"left out: {tag}" for tag in found.get("tags", {}).values()}
     return [*kept, *(f"tag {tag}" for tag in sorted(tags))]
@@ -90,7 +90,8 @@ def of_workflow(out):
         found = results.get(entry["name"])
         if found is None:
             continue
-        row = rows[entry["name"]] = Row(entry["name"], dropped=found["dropped"], pcm=found["pcm"])
+        row = rows[entry["name"]] = Row(entry["name"], pcm=found["pcm"])
+        row.dropped = found["dropped"] if found["converted"] else None
         told_of(row, names.load(os.path.join(out, "work", "looks", f"{key}.json")))
         row.kept = kept_beside(found)
         made = {"file": found["sha256"], "converted": sums.get(found["converted"]), "WAVE": sums.get(found["pcm"])}
@@ -118,12 +119,14 @@ def refusals_of(path):
 
 
 def asked(archive, row):
-    """Asks the program what a file of the archive holds. A track, which stands in a folder of the album's name, has
+    """Asks the program what a file of the archive holds. A track, which is in a folder of the album's name, has
     what the album has, but for its length."""
     path = os.path.abspath(os.path.join(archive, row.name))
     is_track = os.path.isfile(os.path.dirname(path))
     if is_track:
         path = os.path.dirname(path)
+    if not os.path.isfile(path):
+        return
     try:
         done = subprocess.run([PROGRAM, "info", path], capture_output=True, check=False)
     except ValueError:
@@ -141,7 +144,7 @@ def of_play_all(out, archive, pool):
     rows += [Row(name, refusals=[("play", fault)]) for name, fault in said.items()]
     if archive is not None:
         if not os.path.isdir(archive):
-            raise Refused(f"{names.shown(archive)} is no folder: name the archive that was played")
+            raise Refused(f"{shown_name(archive)} is no folder: name the archive that was played")
         list(pool.map(lambda row: asked(archive, row), rows))
     return rows
 
@@ -154,7 +157,7 @@ def rows_of(out, archive, pool):
         elif os.path.isfile(os.path.join(out, "refused.txt")):
             rows = of_play_all(out, archive, pool)
         else:
-            raise Refused(f"{names.shown(out)} holds no run that ended: there is neither results.json nor refused.txt")
+            raise Refused(f"{shown_name(out)} holds no run that ended: there is neither results.json nor refused.txt")
     except (LookupError, TypeError, ValueError, AttributeError):
-        raise Refused(f"{names.shown(out)} holds lists that no run wrote, or that were changed") from None
+        raise Refused(f"{shown_name(out)} holds lists that no run wrote, or that were changed") from None
     return sorted(rows, key=lambda row: row.name)

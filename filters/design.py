@@ -232,7 +232,7 @@ def main() -> int:
     words.add_argument("--check", action="store_true", help="compare with the files that are there, write nothing")
     asked = words.parse_args()
     if not asked.folder.is_dir():
-        raise outputs.Refused(f"{asked.folder} is no folder")
+        raise outputs.Refused(f"{outputs.shown_name(str(asked.folder))} is no folder")
     if asked.check:
         return 0 if check(asked.folder, files()) else 1
     with outputs.Outputs() as made:

@@ -21,7 +21,7 @@ outputs.begin()
 import numpy as np  # noqa: E402
 
 import project_texts  # noqa: E402
-from outputs import Refused  # noqa: E402
+from outputs import Refused, shown_name  # noqa: E402
 
 POINTS = 2**20  # of the Fourier transform: 256 for each tap or more
 LOWEST = 1e-12  # below this, magnitudes are drawn and printed as this
@@ -78,10 +78,12 @@ def read(path: Path) -> Project:
     """The project of a file whose name ends with -to-RATE-WIDTH or that and -plus6."""
     said = re.fullmatch(r"\w+-to-(\d+)-(16|24)(-plus6)?", path.stem)
     if not said:
-        raise Refused(f"{path}: its name doesn't end with -to-RATE-WIDTH, as a filter's")
+        raise Refused(f"{shown_name(str(path))}: its name doesn't end with -to-RATE-WIDTH, as a filter's")
     table = project_texts.read_decimate(path)
     if table["width"] != int(said[2]):
-        raise Refused(f"{path}: it has another width than its name")
+        raise Refused(f"{shown_name(str(path))}: it has another width than its name")
+    if sum(table["taps"]) == 0:
+        raise Refused(f"{shown_name(str(path))}: its taps add up to 0, so no response can be given relative to 0 Hz")
     out = int(said[1])
     taps = np.array(table["taps"], dtype=np.int64)
     return Project(
@@ -287,8 +289,10 @@ def main() -> int:
     words.add_argument("--check", action="store_true", help="status 1 where something is missed")
     asked = words.parse_args()
     if not asked.folder.is_dir():
-        raise Refused(f"{asked.folder} is no folder")
+        raise Refused(f"{shown_name(str(asked.folder))} is no folder")
     projects = [read(path) for path in asked.folder.glob("*.toml")]
+    if not projects:
+        raise Refused(f"{shown_name(str(asked.folder))} has no filters, whose names end with .toml")
     projects.sort(key=lambda project: (project.rate, project.out, -project.width, project.name))
     printed, faults = tables(projects)
     print("\n\n".join("\n".join(table) for table in printed))

@@ -173,7 +173,9 @@ def stored_rate(project: Path) -> int:
     said = re.search(r"-to-(\d{1,8})-(?:16|24)(?:-plus6)?$", project.stem)
     rate = int(said[1]) * table_of(project)["factor"] if said else 0
     if not 1_000_000 <= rate <= 50_000_000:
-        raise Refused(f"{project}: its name doesn't end with -to-RATE-WIDTH of a filter for 1 to 50 MHz")
+        raise Refused(
+            f"{outputs.shown_name(str(project))}: its name doesn't end with -to-RATE-WIDTH of a filter for 1 to 50 MHz"
+        )
     return rate
 
 

@@ -38,6 +38,7 @@ def child(words):
         signal.signal(signal.SIGINT, signal.SIG_DFL)
         signal.pthread_sigmask(signal.SIG_UNBLOCK, STOPS)
         sys.argv = [os.path.join(ROOT, words[0]), *map(str, words[1:])]
+        sys.path.insert(0, os.path.dirname(sys.argv[0]))
         runpy.run_path(sys.argv[0], run_name="__main__")
         status = 0
     except SystemExit as error:

@@ -4,15 +4,19 @@
 DSDIFF files are written here, DSF files by dsdarc (or what DSDARC names) from these. Fourteen are broken or of a kind
 that is refused, two of a rate that the usual filters don't have, and two end inside a byte.
 """
-import argparse
-import contextlib
 import os
-import random
-import struct
-import subprocess
 import sys
 
 sys.path.insert(0, os.path.join(os.path.dirname(os.path.dirname(os.path.realpath(__file__))), "scripts/common"))
+import outputs  # noqa: E402
+
+outputs.begin()
+import argparse  # noqa: E402
+import contextlib  # noqa: E402
+import random  # noqa: E402
+import struct  # noqa: E402
+import subprocess  # noqa: E402
+
 import room  # noqa: E402
 from dsdiffs import chunk, dsdiff, mark  # noqa: E402
 from program import PROGRAM  # noqa: E402
@@ -51,11 +55,14 @@ def write(name, data):
 def write_dsf(name, form, data):
     """Writes the DSF file of a DSDIFF file's data."""
     with part_of(name, data) as part:
-        done = subprocess.run([PROGRAM, "convert", form, part, name], capture_output=True, text=True)
+        try:
+            done = subprocess.run([PROGRAM, "convert", form, part, name], capture_output=True, text=True)
+        except OSError as error:
+            raise outputs.Refused(f"no program runs: {PROGRAM}: {error.strerror}") from None
         if done.returncode != 0:
             line = done.stderr.strip()
             room.check(line, os.path.dirname(name), lambda: room.copied_size(part))
-            sys.exit(f"{line or f'status {done.returncode}'}: {name!r}")
+            raise outputs.Refused(f"{line or f'status {done.returncode}'}: {outputs.shown_name(name)}")
 
 
 def good(folder, number, chance):
@@ -113,12 +120,13 @@ def main():
     parser = argparse.ArgumentParser(description=__doc__.partition(": ")[0] + ".")
     parser.add_argument("folder", help="the folder to make, or to add to")
     folder, chance = parser.parse_args().folder, random.Random(1)
-    broken(folder, chance)
-    for number in range(82):
-        good(folder, number, chance)
+    with room.told("FOLDER"):
+        broken(folder, chance)
+        for number in range(82):
+            good(folder, number, chance)
     print(f"{sum(len(files) for _, _, files in os.walk(folder))} files")
+    return 0
 
 
 if __name__ == "__main__":
-    with room.told("FOLDER"):
-        main()
+    sys.exit(outputs.ended(main))

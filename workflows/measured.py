@@ -1,7 +1,6 @@
 """Measures WAVE files of linear PCM, piece by piece: peak, clipped samples, offset, silence at both ends, the course of
 the level, and the spectrum. Levels are in dB relative to full scale."""
 import dataclasses
-import struct
 
 import numpy as np
 
@@ -44,9 +43,8 @@ def wave_of(file):
             data = at, size
     if form is None or data is None:
         raise Refused("it has no format, or no samples")
-    _, channels, rate, _, block, width = struct.unpack_from("<HHIIHH", form)
-    waves.mask_of(form, width)
-    if width not in (16, 24) or block != channels * width // 8 or not channels:
+    channels, rate, block, width, _ = waves.shape_of(form)
+    if width not in (16, 24):
         raise Refused(f"its samples have {width} bits")
     return Wave(rate, channels, width, data[0], data[1] // block)
 

@@ -7,14 +7,19 @@ converted file this is the old file, byte for byte. It is written to FOLDER unde
 old one's. A file that is there already with that SHA-256 stays. The script reads `results.json`, `converted/`, `kept/`
 and `renamed/`, and doesn't need dsdarc.
 """
-import dataclasses
-import hashlib
 import os
-import struct
 import sys
-import tempfile
 
 sys.path.insert(0, os.path.join(os.path.dirname(os.path.dirname(os.path.realpath(__file__))), "scripts/common"))
+import outputs  # noqa: E402
+
+if __name__ == "__main__":
+    outputs.begin()
+import dataclasses  # noqa: E402
+import hashlib  # noqa: E402
+import struct  # noqa: E402
+import tempfile  # noqa: E402
+
 import channels  # noqa: E402
 import names  # noqa: E402
 import room  # noqa: E402
@@ -36,7 +41,7 @@ def copied(file, count=None):
 
 
 def laced(piece, width):
-    """A piece of all channels as a DSF file of so many bits per sample has it, or a DSDIFF file."""
+    """A piece of all channels as a DSF file of this width has it, or a DSDIFF file."""
     if width is None:
         data = bytearray(len(piece) * len(piece[0]))
         for channel, part in enumerate(piece):
@@ -49,7 +54,7 @@ def laced(piece, width):
 def width_of(head):
     """Bits per sample of the file that a head is of, or None of a DSDIFF file."""
     with open(head, "rb") as file:
-        data = file.read(WIDTH_AT + 4)
+        data = channels.take(file, WIDTH_AT + 4)
     return None if data[:4] == b"FRM8" else struct.unpack_from("<I", data, WIDTH_AT)[0]
 
 
@@ -128,6 +133,8 @@ def restore(out, name, found, part, folder):
     if is_made(path, found["sha256"]):
         return
     kept = {os.path.splitext(path)[1]: os.path.join(out, path) for path in found["kept"]}
+    if ".head" not in kept:
+        raise channels.Unread("nothing was kept of its header")
     write(part, made_again(os.path.join(out, found["converted"]), kept))
     if names.sum_of(part) != found["sha256"]:
         raise channels.Unread("it would have another sum")
@@ -135,28 +142,52 @@ def restore(out, name, found, part, folder):
     os.replace(part, path)
 
 
-def main(out, folder):
-    """Restores all that was converted, and says how many."""
+def is_entry(found):
+    """Whether an entry of results.json has what is read of it."""
+    if not isinstance(found, dict) or not isinstance(found.get("converted", 0), str | None):
+        return False
+    kept = found.get("kept")
+    is_kept = isinstance(kept, list) and all(isinstance(it, str) for it in kept)
+    return found["converted"] is None or is_kept and isinstance(found.get("sha256"), str)
+
+
+def converted(out):
+    """What was converted, by its old name."""
+    listed = os.path.join(out, "results.json")
+    try:
+        results = names.load(listed)
+    except ValueError:
+        results = None
+    if not isinstance(results, dict) or not all(map(is_entry, results.values())):
+        raise outputs.Refused(f"{outputs.shown_name(listed)} isn't as the workflow writes it")
+    return {name: found for name, found in results.items() if found["converted"] is not None}
+
+
+def restore_all(out, folder):
+    """Restores all that was converted: how many files, and how many could not be made again."""
+    results, wrong = converted(out), 0
     os.makedirs(folder, exist_ok=True)
-    done = wrong = 0
     with tempfile.TemporaryDirectory(prefix=".restore-", dir=folder) as parts:
-        for name, found in names.load(os.path.join(out, "results.json")).items():
-            if not found["converted"]:
-                continue
+        for name, found in results.items():
             try:
                 restore(out, name, found, os.path.join(parts, "part"), folder)
-                done += 1
-            except (OSError, channels.Unread) as error:
+            except (OSError, ValueError, outputs.Refused) as error:
                 if isinstance(error, OSError) and room.is_full(error):
                     raise
                 wrong += 1
-                print(f"not made again: {name!r}: {error}", file=sys.stderr)
-    print(f"made again {done}, not {wrong}")
+                why = outputs.told(error) if isinstance(error, OSError) else error
+                print(f"not made again: {outputs.shown_name(name)}: {why}", file=sys.stderr)
+    return len(results) - wrong, wrong
+
+
+def main():
+    if len(sys.argv) != 3:
+        raise outputs.Refused(__doc__.partition("\n")[0])
+    with room.told("FOLDER"):
+        made, wrong = restore_all(*sys.argv[1:])
+    print(f"made again {made}, not {wrong}")
     return 1 if wrong else 0
 
 
 if __name__ == "__main__":
-    if len(sys.argv) != 3:
-        sys.exit(__doc__.partition("\n")[0])
-    with room.told("FOLDER"):
-        sys.exit(main(*sys.argv[1:]))
+    sys.exit(outputs.ended(main))

@@ -5,11 +5,14 @@
 last, and a file that is written has its name only once it is whole.
 """
 import os
-import subprocess
 import sys
-import tomllib
 
 sys.path.insert(0, os.path.join(os.path.dirname(os.path.dirname(os.path.realpath(__file__))), "scripts/common"))
+import outputs  # noqa: E402
+
+outputs.begin()
+import tomllib  # noqa: E402
+
 import channels  # noqa: E402
 import restore  # noqa: E402
 import room  # noqa: E402
@@ -17,15 +20,15 @@ import tagging  # noqa: E402
 import waves  # noqa: E402
 from explained import lines_of  # noqa: E402
 from names import KINDS, SETTINGS, TABLE, keep, load, remove, result, shown, sum_line, sum_of  # noqa: E402
-from program import PROGRAM  # noqa: E402
+from program import PROGRAM, finished  # noqa: E402
 
 ENDINGS = {"dsdiff": "dff", "dsf": "dsf", "dsf8": "dsf"}
 
 
 def run(*words):
     """Status and line of a command."""
-    done = subprocess.run([PROGRAM, *words], capture_output=True, text=True)
-    return done.returncode, (done.stdout if done.returncode == 0 else done.stderr).strip()
+    status, out, err = finished([PROGRAM, *words])
+    return status, (err if status else out).decode(errors="replace").strip()
 
 
 def must(entry, size, *words):
@@ -38,7 +41,7 @@ def must(entry, size, *words):
 
 
 def sums_in(entry, path):
-    """Rate of a file, and for each channel its number of bits and their SHA-256, as the program tells them."""
+    """Rate of a file, and for each channel its number of bits and their SHA-256, as the program prints them."""
     rate, bits, *sums = must(entry, lambda: 0, "sum", path).partition("  ")[0].split()
     return int(rate), [(int(bits), total) for total in sums]
 
@@ -61,7 +64,7 @@ def note_of(step, key, form):
 
 
 def look(key):
-    """What the program tells of a file, or the fault that it is refused for, and the sum of its bytes."""
+    """What the program prints of a file, or the fault that it is refused for, and the sum of its bytes."""
     status, text = run("--explain", "info", source_of(key))
     fault, *more = lines_of(text, source_of(key)) or [""]
     if status == 0:
@@ -76,7 +79,7 @@ def look(key):
 
 
 def placed(parts):
-    """Puts files that are whole in their places, and tells of each its size and sum."""
+    """Puts files that are whole in their places; the size and sum of each."""
     results = {}
     for path, part in parts.items():
         results[path] = {"bytes": os.path.getsize(part), "sha256": sum_of(part)}
@@ -194,7 +197,7 @@ def by_name(table):
 
 
 def told(key, todo, form):
-    """The notes of what was made of a file, and what `results.json` tells of it."""
+    """The notes of what was made of a file, and what `results.json` says of it."""
     notes = {step: load(note_of(step, key, form)) for step in ("convert", "play") if todo[step]}
     results = {step: sorted(note["results"]) for step, note in notes.items()}
     converted = [path for path in results.get("convert", []) if os.path.splitext(path)[1] not in KINDS["kept"]]
@@ -258,12 +261,12 @@ STEPS = {step.__name__: step for step in (look, convert, play, plan, lists)}
 
 
 def main(step, *key):
-    """Takes a step; of a full disk the mark tells, and Snakemake says the line for all steps."""
+    """Takes a step; the mark shows a full disk, and Snakemake says the line for all steps."""
     try:
         STEPS[step](*key)
     except OSError as error:
         if not room.is_full(error):
-            raise
+            sys.exit(room.line_of(error, "OUT"))
         room.remove_mark()
         return 1
     return 0
@@ -271,4 +274,4 @@ def main(step, *key):
 
 if __name__ == "__main__":
     with room.told("OUT"):
-        sys.exit(main(*sys.argv[1:]))
+        sys.exit(outputs.ended(lambda: main(*sys.argv[1:])))

@@ -14,7 +14,7 @@ from outputs import Refused
 # How chunks are laid out, by the first bytes of a file: ID and size, where they begin, and the tag's.
 FORMS = {b"FRM8": (struct.Struct(">4sQ"), 16, (b"ID3 ",)), b"RIFF": (struct.Struct("<4sI"), 12, (b"id3 ", b"ID3 "))}
 PIECE = 1 << 20
-# A WAVE file has no more bytes behind its first 8 than this.
+# A WAVE file has no more bytes after its first 8 than this.
 MOST_WAVE = 2**32 - 1
 HANDED_ON = "handed on"
 
@@ -25,6 +25,14 @@ class Untagged(Refused):
 
 def has_mutagen():
     return find_spec("mutagen") is not None
+
+
+def broken():
+    """What mutagen raises for a broken file or tag."""
+    from mutagen import MutagenError
+
+    more = AssertionError, AttributeError, LookupError, MemoryError, OverflowError, TypeError, ValueError, struct.error
+    return MutagenError, *more
 
 
 def chunks(file, form):
@@ -57,12 +65,12 @@ def tag_of(name):
         for chunk, at, size in chunks(file, form) if form in FORMS else ():
             if chunk in FORMS[form][2]:
                 file.seek(at)
-                return file.read(size)
+                return file.read(min(size, os.fstat(file.fileno()).st_size - at))
     return b""
 
 
 def sound_range(file):
-    """The first byte of a file's sound, and the one behind it."""
+    """The first byte of a file's sound, and the one after it."""
     form = form_of(file)
     if form == b"RIFF":
         for chunk, at, size in chunks(file, form):
@@ -94,12 +102,11 @@ def frames(tags):
 
 def read(tag):
     """What the bytes of a tag say."""
-    import mutagen
     from mutagen.id3 import ID3
 
     try:
         return frames(ID3(io.BytesIO(tag)))
-    except (mutagen.MutagenError, LookupError, ValueError, struct.error):
+    except broken():
         raise Untagged("its tag is no ID3 tag that mutagen reads") from None
 
 
@@ -165,14 +172,12 @@ def put(name, tag, is_compared=False):
     """Puts a tag into a file that no one else reads yet, in the place of the one that it has. Its sound has to be the
     same before and behind, unless that is compared elsewhere, and mutagen has to read the tag back. Where this fails
     the file isn't to be used."""
-    import mutagen
-
     said, before = read(tag), None if is_compared else sound_sum(name)
     try:
         remove_all(name)
         write(name, tag)
         back = read_back(name)
-    except (mutagen.MutagenError, AssertionError, LookupError, ValueError, struct.error) as error:
+    except broken() as error:
         raise Untagged(f"mutagen can't write the tag: {str(error) or type(error).__name__}") from None
     if not is_compared and sound_sum(name) != before:
         raise Untagged("its sound would be another")
@@ -181,7 +186,7 @@ def put(name, tag, is_compared=False):
 
 
 def hand_on(source, name, is_compared=False):
-    """Gives a file that was just made the tag of its source, where it has none. Tells nothing where there is none to
+    """Gives a file that was just made the tag of its source, where it has none. Returns nothing where there is none to
     hand on, else whether it was, or why not; then the file is as it was."""
     tag = tag_of(source)
     if not tag or tag_of(name):
@@ -192,7 +197,7 @@ def hand_on(source, name, is_compared=False):
         head, size = file.read(28), os.path.getsize(name)
     try:
         put(name, tag, is_compared)
-    except Untagged as why:
+    except Refused as why:
         with open(name, "r+b") as file:
             file.write(head)
             file.truncate(size)

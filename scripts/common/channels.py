@@ -1,7 +1,7 @@
 #!/usr/bin/env python3
-"""Tells the rate of DSD files, and of each channel how many bits it has and their SHA-256: channels.py FILE..
+"""Prints the rate of DSD files, and of each channel how many bits it has and their SHA-256: channels.py FILE..
 
-The bits are hashed as bytes, the earliest bit the most significant, with zeros behind the last. So the same sound has
+The bits are hashed as bytes, the earliest bit the most significant, with zeros after the last. So the same sound has
 the same sums in DSDIFF and in both kinds of DSF. This reads files by its own means, not by dsdarc: what both agree on
 was seen twice. It expects whole files, as dsdarc accepts them.
 """
@@ -11,10 +11,10 @@ import os
 import struct
 import sys
 
-import room
-from outputs import Refused
+from outputs import Refused, ended, shown_name
 
 BLOCK = 4096
+MOST_CHANNELS = 6
 TURNED = bytes(int(f"{byte:08b}"[::-1], 2) for byte in range(256))
 
 
@@ -24,7 +24,7 @@ class Unread(Refused):
 
 @dataclasses.dataclass
 class Sound:
-    """What a file's sound is and where it stands: `width` bits per sample in blocks, or `None` in DSDIFF."""
+    """What a file's sound is and where it is: `width` bits per sample in blocks, or `None` in DSDIFF."""
 
     rate: int
     count: int
@@ -35,10 +35,21 @@ class Sound:
 
 
 def take(file, count):
-    data = file.read(count)
+    """The next bytes of a file, which has to have them."""
+    try:
+        data = file.read(count)
+    except (ValueError, OverflowError, MemoryError):
+        raise Unread("it ends early") from None
     if len(data) != count:
         raise Unread("it ends early")
     return data
+
+
+def skip(file, count):
+    """Passes over bytes of a file, which has to have them."""
+    if count > os.fstat(file.fileno()).st_size - file.tell():
+        raise Unread("it ends early")
+    file.seek(count, os.SEEK_CUR)
 
 
 def chunks(data):
@@ -58,7 +69,7 @@ def property_of(data):
 
 
 def dsdiff_sound(file):
-    """The sound of a DSDIFF file, which stands behind FRM8, its size and its type."""
+    """The sound of a DSDIFF file, which comes after FRM8, its size and its type."""
     shape = None
     while True:
         name, size = struct.unpack(">4sQ", take(file, 12))
@@ -70,9 +81,9 @@ def dsdiff_sound(file):
             data = take(file, size)
             if data[:4] == b"SND ":
                 shape = property_of(data)
-            file.seek(size % 2, os.SEEK_CUR)
+            skip(file, size % 2)
         else:
-            file.seek(size + size % 2, os.SEEK_CUR)
+            skip(file, size + size % 2)
     if shape is None:
         raise Unread("the sound stands before its property")
     rate, count = shape
@@ -80,7 +91,7 @@ def dsdiff_sound(file):
 
 
 def dsf_sound(file):
-    """The sound of a DSF file, which stands behind its first chunk."""
+    """The sound of a DSF file, which comes after its first chunk."""
     name, size = struct.unpack("<4sQ", take(file, 12))
     if name != b"fmt ":
         raise Unread("it has no format")
@@ -94,15 +105,18 @@ def dsf_sound(file):
 
 
 def sound_of(file):
-    """The sound of a file that stands at its start."""
+    """The sound of a file that is read from its first byte."""
     head = file.read(4)
-    if head == b"FRM8":
-        take(file, 12)
-        return dsdiff_sound(file)
-    if head == b"DSD ":
-        take(file, 24)
-        return dsf_sound(file)
-    raise Unread("it is neither DSDIFF nor DSF")
+    if head not in (b"FRM8", b"DSD "):
+        raise Unread("it is neither DSDIFF nor DSF")
+    try:
+        take(file, 12 if head == b"FRM8" else 24)
+        sound = dsdiff_sound(file) if head == b"FRM8" else dsf_sound(file)
+    except (LookupError, struct.error, ArithmeticError):
+        raise Unread("its header has numbers that no such file can have") from None
+    if not 1 <= sound.count <= MOST_CHANNELS:
+        raise Unread(f"it has {sound.count} channels")
+    return sound
 
 
 def pieces(file, sound):
@@ -129,7 +143,7 @@ def span(file, sound, first, stop):
 
 
 def cleared(data, width, bits):
-    """A block of DSF with its earliest bit first, and zeros behind the last."""
+    """A block of DSF with its earliest bit first, and zeros after the last."""
     if width == 1:
         data = data.translate(TURNED)
     if bits % 8:
@@ -149,15 +163,17 @@ def read(name):
 
 
 def main():
+    if not sys.argv[1:]:
+        raise Refused(__doc__.partition("\n")[0])
     for name in sys.argv[1:]:
         try:
             rate, channels = read(name)
         except Unread as why:
-            sys.exit(f"{name!r}: {why}")
+            raise Refused(f"{shown_name(name)}: {why}") from None
         for number, (bits, total) in enumerate(channels):
-            print(f"{total}  rate {rate} channel {number} bits {bits}  {name}")
+            print(f"{total}  rate {rate} channel {number} bits {bits}  {shown_name(name)}")
+    return 0
 
 
 if __name__ == "__main__":
-    with room.told("standard output"):
-        main()
+    sys.exit(ended(main))

@@ -3,7 +3,7 @@ import re
 
 
 def lines_of(said, key=""):
-    """The fault with which what was said ends, and the lines behind it. A list has the name of the file already, so the
+    """The fault with which what was said ends, and the lines after it. A list has the name of the file already, so the
     lines don't name it again by its key in the run."""
     lines = said.splitlines()
     begins = [number for number, line in enumerate(lines) if line.startswith("fault: ")]

@@ -1,4 +1,4 @@
-"""The names of an archive's files: which there are, the key that each goes by, and where what is made of it stands.
+"""The names of an archive's files: which there are, the key that each goes by, and where what is made of it is put.
 
 A name can hold whatever a disk takes, also what a shell would run. So no shell and no Snakemake reads one: inside a
 workflow a file goes by its key, the first digits of its name's SHA-256, and `work/names.json` tells whose key it is.
@@ -16,7 +16,7 @@ import room
 
 KEY_DIGITS = 32
 ENDINGS = (".dff", ".dsf")
-# What the results of one file end with, by the folder that they stand in.
+# What the results of one file end with, by the folder that they are in.
 KINDS = {"converted": (".dff", ".dsf"), "pcm": (".wav",), "kept": (".head", ".fill", ".id3", ".tail")}
 ADDED = max(len(ending) for endings in KINDS.values() for ending in endings)
 # A file's path from the archive, a result's from OUT, and the path of OUT; the system takes 4095 bytes.
@@ -26,7 +26,7 @@ LONGEST_OUT = 1000
 FRONT = 200
 TABLE = "work/names.json"
 SETTINGS = "work/settings.json"
-# A word that no shell reads even where it stands in no quotes, and what it reads in one kind of quotes or the other.
+# A word that no shell reads even without quotes around it, and what it reads in one kind of quotes or the other.
 PLAIN = re.compile(r"[\w./+@-]+")
 READ_IN_QUOTES = set("'\"\\$`!")
 
@@ -72,7 +72,7 @@ def load(name):
 
 
 def keep_if_other(name, data):
-    """Writes an object as JSON where another stands, so that the time of the file tells when it changed."""
+    """Writes an object as JSON where another is, so that the time of the file shows when it changed."""
     try:
         if load(name) == data:
             return
@@ -134,7 +134,7 @@ def walk(archive, left_out):
 
 
 def is_folder(entry):
-    """Whether a link leads to a folder; one that leads to nothing that can be told doesn't."""
+    """Whether a link leads to a folder; one that leads nowhere doesn't."""
     try:
         return entry.is_dir()
     except OSError:
@@ -149,7 +149,7 @@ def is_same(entry, folder):
 
 
 def folders_of(names):
-    """The folders that names stand in, and the folders of these."""
+    """The folders that names are in, and the folders of these."""
     found = set()
     for name in names:
         while (name := os.path.dirname(name)) and name not in found:
@@ -222,7 +222,7 @@ def clashing(files, folder):
 
 
 def link(target, name):
-    """Makes a link where there is another or none, so that the time of a link tells when it changed."""
+    """Makes a link where there is another or none, so that the time of a link shows when it changed."""
     if os.path.islink(name) and os.readlink(name) == target:
         return False
     remove(name)
@@ -262,14 +262,14 @@ def link_files(files):
 
 
 def is_there(note, entry):
-    """Whether what a note tells of stands where it should."""
+    """Whether what a note names is where it should be."""
     return note["renamed"] == entry["renamed"] and all(
         os.path.isfile(name) and os.path.getsize(name) == made["bytes"] for name, made in note["results"].items()
     )
 
 
 def forget_lost(kind, files):
-    """Removes the notes of what is no longer there, so that it is made again; and what stands in another's place."""
+    """Removes the notes of what is no longer there, so that it is made again; and what is in another's place."""
     for name in os.listdir(f"work/{kind}"):
         entry, path = files.get(name.partition(".")[0]), f"work/{kind}/{name}"
         if entry and name.endswith(".json"):

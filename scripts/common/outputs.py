@@ -3,16 +3,24 @@
 Files are written beside those that they replace, and get their names once all files of a run are whole. After a
 fault or a signal (INT, TERM, HUP) nothing is left over, and old files stand as they were. What is no file of a folder,
 such as a pipe, is written as it stands."""
-import contextlib
-import errno
-import os
-import shutil
 import signal
-import stat
-import sys
-import tempfile
 
-import room
+# Ctrl-C ends a script without a word while these modules are loaded.
+is_usual = signal.getsignal(signal.SIGINT) is signal.default_int_handler
+if is_usual:
+    signal.signal(signal.SIGINT, signal.SIG_DFL)
+import contextlib  # noqa: E402
+import errno  # noqa: E402
+import os  # noqa: E402
+import shutil  # noqa: E402
+import stat  # noqa: E402
+import sys  # noqa: E402
+import tempfile  # noqa: E402
+
+import room  # noqa: E402
+
+if is_usual:
+    signal.signal(signal.SIGINT, signal.default_int_handler)
 
 STOPS = (signal.SIGINT, signal.SIGTERM, signal.SIGHUP)
 
@@ -70,8 +78,8 @@ def scratch(beside=None):
 
 
 def identity(name):
-    """Tells a file from others, by whatever name: its device and inode, or, where it isn't there yet, its name and
-    those of its folder."""
+    """What distinguishes a file from others, by whatever name: its device and inode, or, where it isn't there yet, its
+    name and those of its folder."""
     try:
         found = os.stat(name)
         return found.st_dev, found.st_ino
@@ -90,8 +98,8 @@ def disk_of(name):
 
 
 def shown_name(name):
-    """A name on one line."""
-    return name if name.isprintable() else ascii(name)
+    """A name on one line; an empty one is seen, too."""
+    return name if name and name.isprintable() else ascii(name)
 
 
 def told(error):
@@ -168,7 +176,7 @@ class Output:
             shutil.copyfileobj(file, out)
 
     def replace(self, is_last):
-        """Gives the file its name, and keeps what stood there unless it is the last of all."""
+        """Gives the file its name, and keeps what was there unless it is the last of all."""
         with self.named():
             if self.old and not is_last:
                 backup = f"{self.part}-old"
@@ -197,7 +205,7 @@ class Output:
 
 
 class Outputs:
-    """The files of a run, which get their names where the block behind `with` ends without a fault. `inputs` are the
+    """The files of a run, which get their names where the block after `with` ends without a fault. `inputs` are the
     files that are read: what each is, and its name."""
 
     def __init__(self, inputs=()):
@@ -215,7 +223,7 @@ class Outputs:
         made.begin()
 
     def drop(self, name):
-        """Leaves out a file to which nothing is to be written; what stood there stays."""
+        """Leaves out a file to which nothing is to be written; what was there stays."""
         self.files.pop(os.fspath(name)).clear()
 
     def folder(self, name):
@@ -321,9 +329,19 @@ def ended(main):
         return die()
 
 
+def answered(main):
+    """The status of a script whose answer was printed; argparse ends a script that prints its usage."""
+    try:
+        return main()
+    except SystemExit as end:
+        if end.code:
+            raise
+        return 0
+
+
 def status_of(main):
     try:
-        status = main()
+        status = answered(main)
         sys.stdout.flush()
         go_on()
         return status

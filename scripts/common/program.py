@@ -1,4 +1,4 @@
-"""The program that scripts run: what DSDARC names, else that of the clone, or of the installation, that they stand in."""
+"""The program that scripts run: what DSDARC names, else that of the clone, or of the installation, that they are in."""
 import os
 import shutil
 import subprocess

@@ -1,6 +1,6 @@
 """Says in one line that a disk is full, and what to do about it.
 
-Where jobs run side by side, an empty file, the mark, stands as long as none of them has met a full disk. The first that
+Where jobs run side by side, an empty file, the mark, exists as long as none of them has met a full disk. The first that
 does removes it, which works where nothing can be written, and whoever starts the jobs then starts no more.
 """
 import contextlib
@@ -12,7 +12,7 @@ import tomllib
 
 FULL = (errno.ENOSPC, errno.EDQUOT)
 MARK = "work/room"
-# What a start of the workflow wants: for Snakemake's log and locks, and for the names of the files.
+# What a start of the workflow needs: for Snakemake's log and locks, and for the names of the files.
 LEAST, LEAST_OF_FILE = 1 << 20, 1 << 10
 # What a file may have more than was reckoned: heads, and the fill of last blocks.
 SPARE = 1 << 16
@@ -78,7 +78,7 @@ def remove_mark(mark=MARK):
 
 
 def start(folder, files):
-    """Sets the mark for a workflow over so many files, where there is room for its start."""
+    """Sets the mark for a workflow over this number of files, where there is room for its start."""
     if not has_room(folder, LEAST + LEAST_OF_FILE * files):
         raise full()
     set_mark()
@@ -94,10 +94,13 @@ def drop_output():
 def told(folder):
     """Ends a script with one line where the system refuses it something."""
     try:
-        try:
-            yield
-        finally:
-            sys.stdout.flush()
+        yield
     except OSError as error:
         drop_output()
         sys.exit(line_of(error, folder))
+    finally:
+        try:
+            sys.stdout.flush()
+        except OSError as error:
+            drop_output()
+            sys.exit(f"standard output did not take the answer: {error.strerror}")

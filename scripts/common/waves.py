@@ -1,26 +1,26 @@
 #!/usr/bin/env python3
-"""Tells what WAVE files hold: waves.py FILE..
+"""Prints what WAVE files hold: waves.py FILE..
 
-Rate, channels, bits of a sample and frames are told, and the channel mask of an extensible format chunk. Such files are
-read and what stands before their samples is made here by docs/WAVE.md alone, not by dsdarc: what both agree on was seen
+It prints rate, channels, bits of a sample and frames, and the channel mask of an extensible format chunk. Such files
+are read, and what precedes their samples is made, by docs/WAVE.md alone, not by dsdarc: what both agree on was seen
 twice.
 """
 import struct
 import sys
 from collections import namedtuple
 
-import room
+from outputs import Refused, ended, shown_name
 
 PLAIN, EXTENSIBLE = 1, 0xFFFE
 PCM_SUBFORMAT = bytes.fromhex("0100000000001000800000aa00389b71")
 # No size is as large as this.
 SIZE_LIMIT = 2**32
 
-# What a file holds. The mask is None in a plain format chunk; the samples are bytes, as they stand there.
+# What a file holds. The mask is None in a plain format chunk; the samples are bytes, as in the file.
 Wave = namedtuple("Wave", "rate channels width mask samples")
 
 
-class Unread(Exception):
+class Unread(Refused):
     """The file isn't read."""
 
 
@@ -33,17 +33,23 @@ def chunks(data):
         at += 8 + size + size % 2
 
 
-def mask_of(form, width):
-    """The channel mask of a format chunk's data, None of a plain one."""
-    tag = struct.unpack_from("<H", form)[0]
+def shape_of(form):
+    """Channels, rate, bytes of a frame and bits of a sample, and the channel mask, None in a plain format chunk."""
+    if len(form) < 16:
+        raise Unread("its format is cut")
+    tag, channels, rate, _, block, width = struct.unpack_from("<HHIIHH", form)
+    if not channels or block != channels * width // 8 or not block:
+        raise Unread(f"its frames have {block} bytes for {channels} channels of {width} bits")
     if tag == PLAIN:
-        return None
+        return channels, rate, block, width, None
     if tag != EXTENSIBLE:
         raise Unread(f"its format is {tag:#x}")
+    if len(form) < 40:
+        raise Unread("its format is cut")
     extension, valid, mask = struct.unpack_from("<HHI", form, 16)
     if (extension, valid, form[24:]) != (22, width, PCM_SUBFORMAT):
         raise Unread("its samples are no whole numbers of that width")
-    return mask
+    return channels, rate, block, width, mask
 
 
 def read(data):
@@ -53,8 +59,8 @@ def read(data):
     found = dict(chunks(data))
     if b"fmt " not in found or b"data" not in found:
         raise Unread("it has no format, or no samples")
-    _, channels, rate, _, _, width = struct.unpack_from("<HHIIHH", found[b"fmt "])
-    return Wave(rate, channels, width, mask_of(found[b"fmt "], width), found[b"data"])
+    channels, rate, _, width, mask = shape_of(found[b"fmt "])
+    return Wave(rate, channels, width, mask, found[b"data"])
 
 
 def format_of(rate, channels, width):
@@ -67,31 +73,33 @@ def format_of(rate, channels, width):
 
 
 def riff_size(channels, width, frames):
-    """The size that the RIFF chunk of so many frames has: of the file but its first 8 bytes."""
+    """The size that the RIFF chunk of this number of frames has: of the file but its first 8 bytes."""
     data = frames * channels * width // 8
     return 20 + len(format_of(0, channels, width)) + data + data % 2
 
 
 def head_of(rate, channels, width, frames):
-    """What stands before the samples of so many frames."""
+    """What precedes the samples of this number of frames."""
     form = format_of(rate, channels, width)
     head = b"RIFF" + struct.pack("<I", riff_size(channels, width, frames)) + b"WAVEfmt " + struct.pack("<I", len(form))
     return head + form + b"data" + struct.pack("<I", frames * channels * width // 8)
 
 
 def main():
+    if not sys.argv[1:]:
+        raise Refused(__doc__.partition("\n")[0])
     for name in sys.argv[1:]:
         with open(name, "rb") as file:
             data = file.read()
         try:
             wave = read(data)
         except Unread as why:
-            sys.exit(f"{name!r}: {why}")
+            raise Refused(f"{shown_name(name)}: {why}") from None
         frames = len(wave.samples) // (wave.channels * wave.width // 8)
         mask = "" if wave.mask is None else f" mask {wave.mask:#x}"
-        print(f"rate {wave.rate} channels {wave.channels} bits {wave.width} frames {frames}{mask}  {name}")
+        print(f"rate {wave.rate} channels {wave.channels} bits {wave.width} frames {frames}{mask}  {shown_name(name)}")
+    return 0
 
 
 if __name__ == "__main__":
-    with room.told("standard output"):
-        main()
+    sys.exit(ended(main))

@@ -80,6 +80,8 @@ def by_rates(text, is_louder=False):
     for rate in sorted(SERVED_BY):
         with contextlib.suppress(Refused):
             found[str(rate)] = path_for(there, rate, wishes, is_louder)
+    if not found:
+        raise Refused(f"no filter plays any rate to {text}: filters/pick --list prints what there is")
     return found
 
 

@@ -1,22 +1,16 @@
 -- The machine value of a `Handle`. Assumes `Logic`.
-use Rattle.std.proofs.Common.{◌≡◌, ℕ, List, [], ◌∷◌, ◌++◌, refl, subst}
-use lib.Dec.{T}
+use Rattle.std.proofs.Common.{◌≡◌, ℕ, List, [], ◌∷◌, ◌++◌, subst}
 use seplogic.Ra.Ura.{Ura}
 use mir.Raw.{raw as bare}
-use mir.Val.{Val, vptr, vstruct, vcons, vnil, of_list, has_ty, WT}
+use mir.Val.{Val, vptr, vstruct, vcons, vnil, of_list, has_ty}
 use mir.Syntax.{dnil, tnil, impl}
 use base.Logic.{never, fst∗}
 use types.Logic.{Logic, sem}
-use types.Kit.{Item, Goal, Seq, Step, step, ‵, ◌$◌, move, drop, fsplit, fjoin, fpick, fpack, feq_i, feq_l}
-use denote.RattleType.{RattleType, Valss}
-use denote.Builtin.{RawPtr}
+use types.Kit.{Item, Goal, Seq, ‵, ◌$◌, move, drop, fsplit, fpick, feq_l}
+use denote.RattleType.{RattleType}
 use denote.Memory.{lone}
 use denote.RawPtr.{Ptr, block_ptr, null_ptr, ptr_val, in_a_block}
-use denote.Steps.{nothing}
 use denote.Param.{layout}
-use denote.Param.Laws.{Laws}
-use denote.Struct.Struct.{within}
-use denote.Struct.Owning.{shape}
 use Rattle.core.proofs.alloc.Calls.{Al, handle_tells}
 use Rattle.core.proofs.cell.Inside.{Good}
 use Rattle.std_alloc.specs.Box.Ownership.{box_owns}
@@ -24,11 +18,8 @@ use Rattle.std_alloc.proofs.ResultValues.{and_tt}
 use Rattle.std_alloc.specs.contracts.boxed.Box as boxed
 use Rattle.std_heap.specs.contracts.GlobalAllocator.TheImpl as heap
 use Rattle.std_heap.specs.contracts.Global as global
-use Rattle.std_heap.specs.declared.Global.{Global}
 use Rattle.std_heap.proofs.Global.TheLaws as global_laws
-use Rattle.dsdarc_c.specs.declared.content.PushPlayer.{PushPlayer}
 use Rattle.dsdarc_c.specs.contracts.content.PushPlayer as content
-use Rattle.dsdarc_c.proofs.content.PushPlayer.TheLaws as content_laws
 use Rattle.dsdarc_c.specs.contracts.handle.Handle as held
 
 abbrev pub both : Val → Val → Val

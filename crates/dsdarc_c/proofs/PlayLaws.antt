@@ -1,11 +1,10 @@
 -- What a player that pauses has played, and what it goes on to.
-use Rattle.std.proofs.Common.{◌≡◌, ℕ, ◌+◌, ◌≤◌, List, ◌++◌, length, drop, subst, sym, ap, ◌∙◌, arith, append_assoc}
+use Rattle.std.proofs.Common.{◌≡◌, ℕ, ◌+◌, ◌≤◌, List, ◌++◌, length, drop, sym, ap, ◌∙◌, arith, append_assoc}
 use Rattle.std.specs.Prelude.{slice_range}
 use Rattle.dsd_bits.specs.declared.sound.Sound.{Sound}
 use Rattle.fir_core.specs.Decimator.{Decimator}
 use Rattle.player_core.specs.Due.{all_bytes, due_bytes}
 use Rattle.player_core.specs.Laws.{total_frames}
-use Rattle.player_core.specs.Parts.{part_bytes}
 use Rattle.player_core.specs.PartView.{IsPartFed, IsPartOf, IsPartPlayer, IsSamePart, part_all, part_due, part_fed, part_filter, part_rest, part_start}
 use Rattle.player_core.specs.PausedView.{IsPausedPart, IsSamePlace}
 use Rattle.player_core.specs.PlayerView.{filter_of, sound_of}

@@ -1,18 +1,15 @@
 -- `address` is the place that a reference leads to.
-use Rattle.std.proofs.Common.{◌≡◌, ℕ, List, [], ◌∷◌, refl, MutBor}
+use Rattle.std.proofs.Common.{[], ◌∷◌, refl}
 use Rattle.std.proofs.raw_atomic.Walks.{proved}
 use base.Fml.{ftrue, flft}
 use mir.Syntax.{named}
 use mir.Val.{vptr}
-use contract.Running.{tables}
-use types.Kit.{‵, raw, ◌⊛◌, ◌$◌, ◌∵◌, !, qed, done, move, keep, split, join, fjoin, feq_i, suffices, frame, group}
-use types.Run.{enter, of_opd, addr, stop, returns}
-use types.ByLocal.{alloc_all, pass_all, free_all, look_at, get, through, sets}
-use denote.RattleType.{RattleType}
+use types.Kit.{‵, ◌⊛◌, ◌$◌, ◌∵◌, !, qed, done, move, keep, split, join, fjoin, feq_i, suffices}
+use types.Run.{enter, addr, stop, returns}
+use types.ByLocal.{alloc_all, pass_all, free_all, look_at, through, sets}
 use denote.RawPtr.{block_ptr}
 use denote.Ref.{MutRef, mut_vals, mut_Tells}
 use denote.Signature.{plain}
-use denote.Steps.{nothing}
 use denote.Triple.Walked.{Stays, says, stay_ref, Goes-ref, ends_at, walk_of}
 use Rattle.dsdarc_c.proofs.HandleSteps.{R}
 use Rattle.dsdarc_c.specs.contracts.handle.address as f

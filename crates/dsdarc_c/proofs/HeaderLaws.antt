@@ -1,5 +1,5 @@
 -- Bytes that state no sound yet.
-use Rattle.std.proofs.Common.{◌≡◌, ℕ, ◌+◌, ◌<◌, ◌≤◌, inl, inr, List, [], ◌++◌, length, take, sym, subst, ap, ◌∙◌, arith, append_assoc}
+use Rattle.std.proofs.Common.{◌≡◌, ℕ, ◌+◌, ◌<◌, ◌≤◌, inl, inr, List, ◌++◌, length, take, sym, subst, ap, ◌∙◌, arith, append_assoc}
 use Rattle.std.proofs.lemmas.Bool.{cases_lt}
 use Rattle.std.proofs.lemmas.List.{take-append-le, take_all}
 use Rattle.dsd_bits.specs.declared.interleaving.Interleaving.{Interleaving}
@@ -9,7 +9,6 @@ use Rattle.dsd_bits.specs.declared.sound.SoundAt.{SoundAt}
 use Rattle.dsd_bits.specs.declared.sound.SoundAt.TheVariants.{More, Refused, Found}
 use Rattle.dsd_bits.specs.Sounds.{IfMore}
 use Rattle.dsdiff_core.specs.Headers as dsdiff
-use Rattle.dsdiff_core.proofs.LocatedLaws.{short_more}
 use Rattle.dsf_core.specs.Headers as dsf
 use Rattle.dsf_core.proofs.HeaderLaws as blocks
 use Rattle.sound_core.specs.Files.{HoldsSomeRecording, IsBeforeSound, IsHeaderOf, IsRefused, LeadsToSound}
@@ -46,10 +45,6 @@ blocks_unstated prefix no_sound no_form x is more = by x is (dsf_more prefix no_
     by Refused is refused before = tt
     by (Found s) is refused before = tt
     by More is refused before = record { none = λ s states. none s s.interleaving is (stated_found s.interleaving prefix s states.leads); refused = refused; before = before }
-
--- before the first byte
-pub none_stated : IsUnstated []
-none_stated = form_unstated [] More (sym (short_more [] (omega arith))) (λ head. omega (arith, head.whole))
 
 -- ---- more bytes
 -- the sound that is stated with more bytes comes after more bytes than there were

@@ -8,11 +8,6 @@ use Rattle.dsdarc_c.specs.declared.pushing.Pushing.{Pushing}
 use Rattle.dsdarc_c.specs.declared.pushing.Stage.{Stage}
 use Rattle.dsdarc_c.specs.declared.pushing.Stage.TheVariants as stages
 
--- two facts of an answer
-pub both_ok : {T F : Type 0} (P Q R : T → Type 0) (r : Result T F) → ((x : T) → P x → Q x → R x) → IfOk r P → IfOk r Q → IfOk r R
-both_ok P Q R (Ok x) on p q = on x p q
-both_ok P Q R (Err e) on p q = tt
-
 -- what a stage takes is what the push takes
 pub takes_at : (p : Pushing) (bytes piece : List ℕ) (stage : Stage) (n : ℕ) → length p.pending.items ≤ p.pulled → p.stage ≡ stage → piece ≡ take 65536 bytes → TakesAt p.taps p.header.items p.place stage piece n → (1 ≤ length bytes → 1 ≤ n) → Takes p bytes n
 takes_at p bytes piece stage n ready is cut taken some = record {

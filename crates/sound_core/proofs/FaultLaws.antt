@@ -1,5 +1,5 @@
 -- What holds of each fault of a kind; faults of a stage are faults of the whole.
-use Rattle.std.proofs.Common.{◌≡◌, ◌≢◌, ◌<◌, ℕ, inl, arith, List, Option, None, Some, Result, Ok, Err, IfErr, IsErrAnd, IsErrOf, refl, subst}
+use Rattle.std.proofs.Common.{◌≡◌, ◌≢◌, ◌<◌, ℕ, inl, List, Option, None, Some, Result, Ok, Err, IfErr, IsErrAnd, IsErrOf, refl, subst}
 use Rattle.sound_core.specs.Faults.{IsReadingFault, IsSinkFault, IsWritingFault, failed_reads}
 use Rattle.sound_core.specs.Files.{IsHeaderFault}
 use Rattle.sound_core.specs.Outlines.{IsOutlineFault, IsTagFault}

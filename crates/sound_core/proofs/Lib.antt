@@ -6,6 +6,7 @@ pub mod OutlineLaws
 pub mod ClosingLaws
 pub mod NamingLaws
 pub mod CauseLaws
+pub mod TagLaws
 pub mod AfterLaws
 pub mod UnsureLaws
 pub mod KeeperLaws

@@ -1,5 +1,5 @@
 -- Which fault a file has, by what was read of it.
-use Rattle.std.proofs.Common.{◌≡◌, ◌≢◌, ℕ, ◌+◌, ◌≤◌, ◌<◌, inl, inr, true, false, List, [], ◌++◌, length, take, Option, Some, None, IfSome, Result, Ok, Err, refl, sym, ap, subst, ◌∙◌, arith, append-nil, length-append}
+use Rattle.std.proofs.Common.{◌≡◌, ◌≢◌, ℕ, ◌+◌, ◌≤◌, ◌<◌, inl, inr, false, List, [], ◌++◌, length, take, Option, Some, None, IfSome, Result, Ok, Err, refl, sym, ap, subst, ◌∙◌, arith, append-nil, length-append}
 use Rattle.std.specs.Prelude.{◌⊎◌}
 use Rattle.std.proofs.lemmas.Bool.{cases_lt, le-ltb, lt-ltb, ne_eqb}
 use Rattle.std.proofs.lemmas.List.{length-take, take-append-le, take-take}
@@ -12,8 +12,8 @@ use Rattle.dsd_bits.specs.declared.sound.Sound.{Sound}
 use Rattle.dsd_bits.specs.declared.sound.SoundAt.{SoundAt}
 use Rattle.dsd_bits.specs.declared.sound.SoundAt.TheVariants.{More, Refused, Found}
 use Rattle.dsd_bits.specs.Contents.{Content}
-use Rattle.dsd_bits.specs.Ids.{DSD, same_id}
-use Rattle.dsd_bits.specs.Sounds.{IfFound, IfMore, IfRefused}
+use Rattle.dsd_bits.specs.Ids.{DSD}
+use Rattle.dsd_bits.specs.Sounds.{IfFound, IfMore}
 use Rattle.dsdiff_core.specs.declared.fault.DsdiffFault.{DsdiffFault}
 use Rattle.dsdiff_core.specs.declared.fault.DsdiffFault.TheVariants as faults
 use Rattle.dsdiff_core.specs.Headers as dsdiff
@@ -47,7 +47,7 @@ use Rattle.form_core.specs.Opening.{from_dsdiff, is_other, opened_of}
 use Rattle.form_core.specs.declared.fault.ReadFault.{ReadFault}
 use Rattle.form_core.specs.declared.fault.ReadFault.TheVariants.{UnknownForm}
 use Rattle.form_core.specs.declared.opening.Opened.{Opened}
-use Rattle.sound_core.specs.Files.{HoldsRecording, IsBeforeSound, IsHeaderOf, IsRefused, LeadsToSound}
+use Rattle.sound_core.specs.Files.{IsBeforeSound, IsHeaderOf, IsRefused, LeadsToSound}
 use Rattle.sound_core.specs.Naming.{IsSure, NamesFault}
 use Rattle.sound_core.specs.Reads.{Reads}
 use Rattle.sound_core.proofs.ClosingLaws.{apart, leads}

@@ -1,5 +1,5 @@
 -- What is known about the first fault of a file that holds no recording.
-use Rattle.std.specs.Prelude.{◌≡◌, ◌≢◌, ◌≤◌, ◌⊎◌, ℕ, ◌+◌, List, ◌++◌, length, take, Option, Result, Ok, Err, ⊤}
+use Rattle.std.specs.Prelude.{◌≡◌, ◌≢◌, ◌≤◌, ◌⊎◌, ℕ, ◌+◌, List, ◌++◌, length, take, Option, Result, Ok, Err, IfOk, ⊤}
 use Rattle.chunk_core.specs.Inlets.{inlet_given}
 use Rattle.chunk_core.specs.declared.inlet.Inlet.{Inlet}
 use Rattle.dsdiff_core.specs.Cuts.{GoesPastForm}
@@ -17,8 +17,8 @@ use Rattle.sound_core.specs.declared.fault.Unread.TheVariants as answers
 use Rattle.sound_core.specs.declared.reader.SoundReader.{SoundReader}
 use Rattle.sound_core.specs.Faults.{IsReadingFault}
 use Rattle.sound_core.specs.Files.{IsRefused}
-use Rattle.sound_core.specs.Naming.{NamesFault}
-use Rattle.sound_core.specs.Readers.{IsReading}
+use Rattle.sound_core.specs.Naming.{IfRefusedAs, NamesFault, plain}
+use Rattle.sound_core.specs.Readers.{CountsFault, IsReading, IsSame}
 use Rattle.sound_core.specs.Reads.{Reads}
 
 -- what the cause says is true of every file that begins with these bytes
@@ -75,3 +75,26 @@ IsRefusedBy cause (answers.Stream f) = (IsReadingFault f × HasFront cause) ⊎ 
 -- the answer for a fault: the fault itself, and nothing was read; or, for a refused file, what its cause leads to
 abbrev pub IsUnreadBy : {R : Type 0} → StreamFault → SoundReader R → SoundReader R → Unread → Type 0
 IsUnreadBy f old new u = ((f ≢ FileRefused) × (u ≡ answers.Stream f) × (new ≡ old)) ⊎ ((f ≡ FileRefused) × IsRefusedBy old.cause u)
+
+-- ---- from one state of a reader to a later one
+
+-- what the reader's cause says is true of what was read since some inlet
+abbrev pub HasCause : {R : Type 0} → (R → Option (List ℕ)) → SoundReader R → Type 0
+HasCause {R} left r = (first : Inlet R) × IsCause ⊤ left first r r.cause
+
+-- if the cause is true of what was read since some inlet, the fault that is returned is the first one since that inlet
+abbrev pub NamesUnsure : {R : Type 0} → (R → Option (List ℕ)) → SoundReader R → SoundReader R → Cause → Result ReadFault StreamFault → Type 0
+NamesUnsure {R} left old new cause result = (first : Inlet R) → IsUnsure left first old cause → IfOk result (NamesFault left first new.inlet.now)
+
+-- if the reader's cause is true of what was read since some inlet, the answer's fault of a file is the first one since
+-- that inlet
+abbrev pub AnswersCause : {R : Type 0} → (R → Option (List ℕ)) → SoundReader R → SoundReader R → Unread → Type 0
+AnswersCause {R} left old new u = (first : Inlet R) → IsCause ⊤ left first old old.cause → IfRefusedAs u (NamesFault left first new.inlet.now)
+
+-- the same of a reading that ended with this fault: the cause has to be true only if that is `FileRefused`
+abbrev pub AnswersFault : {R : Type 0} → (R → Option (List ℕ)) → SoundReader R → SoundReader R → StreamFault → Unread → Type 0
+AnswersFault {R} left old new f u = (first : Inlet R) → IsNamed ⊤ left first old f → IfRefusedAs u (NamesFault left first new.inlet.now)
+
+-- what was counted with the fault, since any earlier state of the reader, is counted with the answer
+abbrev pub CountsAnswer : {R : Type 0} → SoundReader R → SoundReader R → StreamFault → Unread → Type 0
+CountsAnswer {R} old new f u = (start : SoundReader R) → IsSame start old → CountsFault start old f → CountsFault start new (plain u)

@@ -1,5 +1,7 @@
 -- The files that are read: what they hold, and what their first bytes, the prefix, say.
 use Rattle.std.specs.Prelude.{◌≡◌, ℕ, ◌+◌, ◌%◌, ◌≤◌, ◌⊎◌, List, ◌++◌, length, Option, IfSome, ⊤}
+use Rattle.chunk_core.specs.Inlets.{inlet_given, inlet_reader}
+use Rattle.chunk_core.specs.declared.inlet.Inlet.{Inlet}
 use Rattle.dsd_bits.specs.declared.blocks.BitOrder.{BitOrder}
 use Rattle.dsd_bits.specs.declared.interleaving.Interleaving.{Interleaving}
 use Rattle.dsd_bits.specs.declared.interleaving.Interleaving.TheVariants.{Bytes, Blocks}
@@ -10,6 +12,7 @@ use Rattle.dsdiff_core.specs.Files.{IsDsdiff}
 use Rattle.dsdiff_core.specs.Headers as dsdiff
 use Rattle.dsf_core.specs.Files.{IsDsf}
 use Rattle.dsf_core.specs.Headers as dsf
+use Rattle.sound_core.specs.Faults.{StopsReading}
 use Rattle.sound_core.specs.declared.fault.StreamFault.{StreamFault}
 use Rattle.sound_core.specs.declared.fault.StreamFault.TheVariants.{FileRefused, ReadFailed, TurnLimit, Memory}
 
@@ -51,6 +54,10 @@ IsBeforeSound prefix = (rest : List ℕ) (s : Sound) → HoldsSomeRecording (pre
 -- no byte of the sound was read
 abbrev pub GivesNone : Option (List ℕ) → ℕ → ℕ → Type 0
 GivesNone left_old given_old given_new = IfSome left_old (λ file. (s : Sound) → HoldsSomeRecording file → LeadsToSound file s → given_new ≤ given_old + s.start)
+
+-- if the fault ended the reading, no byte of the sound was read
+abbrev pub StopsBeforeSound : {R : Type 0} → (R → Option (List ℕ)) → Inlet R → Inlet R → StreamFault → Type 0
+StopsBeforeSound left old new f = StopsReading f → GivesNone (left (inlet_reader old)) (inlet_given old) (inlet_given new)
 
 -- a fault where the prefix of a file is read: `FileRefused` if the file holds no recording, or a fault of reading
 abbrev pub IsHeaderFault : Option (List ℕ) → StreamFault → Type 0

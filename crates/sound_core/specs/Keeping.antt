@@ -1,7 +1,7 @@
 -- Stretches of a file's sound: the bits of each channel in ranges of places.
 use Rattle.std.specs.Prelude.{◌≡◌, ℕ, Bool, List, Option, IfSome}
 use Rattle.chunk_core.specs.declared.inlet.Inlet.{Inlet}
-use Rattle.sound_core.specs.Outlines.{AreStated, IsPlacedIn, Surroundings, with_sound}
+use Rattle.sound_core.specs.Outlines.{AreStated, IsPlacedIn, Surroundings, around_of, with_sound}
 use Rattle.sound_core.specs.Reads.{Reads}
 use Rattle.dsd_bits.specs.Stretches.{stretches_of}
 use Rattle.sound_core.specs.Stretches.{items_of}
@@ -25,3 +25,13 @@ KeepsFile left_old o ranges kept = AreStated o × IfSome left_old (IsKeptOf o ra
 -- channels; this also holds if its bytes aren't known
 abbrev pub KeepsGiven : {R : Type 0} → (R → Option (List ℕ)) → Inlet R → Inlet R → Surroundings → List BitRange → List (List (List Bool)) → Type 0
 KeepsGiven left old new o ranges kept = (read : List ℕ) × Reads left old new read × IsKeptOf o ranges kept read
+
+-- the outline describes what a file holds; the reader's file, if it is known, is some sound in it, and these are the
+-- stretches of its channels
+abbrev pub HoldsStretches : Option (List ℕ) → List BitRange → Kept → Type 0
+HoldsStretches left_old ranges k = KeepsFile left_old (around_of k.outline) ranges (stretches_in k)
+
+-- the reader returned some bytes, which are some sound in the outline, and these are the stretches of its channels;
+-- this also holds if its bytes aren't known
+abbrev pub GivesStretches : {R : Type 0} → (R → Option (List ℕ)) → Inlet R → Inlet R → List BitRange → Kept → Type 0
+GivesStretches left old new ranges k = KeepsGiven left old new (around_of k.outline) ranges (stretches_in k)

@@ -18,6 +18,7 @@ use Rattle.sound_core.specs.declared.fault.StreamFault.{StreamFault}
 use Rattle.sound_core.specs.declared.fault.StreamFault.TheVariants.{FileRefused, ReadFailed, TurnLimit, Memory}
 use Rattle.sound_core.specs.declared.outline.AfterSound.{AfterSound}
 use Rattle.sound_core.specs.declared.outline.Outline.{Outline}
+use Rattle.sound_core.specs.declared.reader.SoundReader.{SoundReader}
 
 -- the bytes around a sound, and what they say
 pub record Surroundings : Type 0 where
@@ -130,6 +131,32 @@ IsRestFault left_old s head back ReadFailed = ⊤
 IsRestFault left_old s head back TurnLimit = ⊤
 IsRestFault left_old s head back Memory = ⊤
 IsRestFault left_old s head back _ = ⊥
+
+-- ---- from one state of a reader to a later one
+
+-- the file was read to its end, and the buffer is its tag, `gap` bytes after the sound, or is empty if it has none
+abbrev pub BuffersTag : {R : Type 0} → (R → Option (List ℕ)) → SoundReader R → SoundReader R → ℕ → ℕ → ℕ → Type 0
+BuffersTag left old new place stop gap = ReadsTag left old.inlet.now new.inlet.now place stop old.ahead.now.items new.ahead.now.items gap
+
+-- if the fault is `FileRefused`, the tag would begin before the end of the sound, or after that of the file
+abbrev pub MissesTag : {R : Type 0} → (R → Option (List ℕ)) → SoundReader R → SoundReader R → ℕ → ℕ → StreamFault → Type 0
+MissesTag left old new place stop f = f ≡ FileRefused → StopsAtTag left old.inlet.now new.inlet.now place stop old.ahead.now.items
+
+-- a fault where a reader reads the tag
+abbrev pub IsFaultAtTag : {R : Type 0} → (R → Option (List ℕ)) → SoundReader R → ℕ → ℕ → StreamFault → Type 0
+IsFaultAtTag left old place stop f = IsTagFault (left (inlet_reader old.inlet.now)) place stop old.ahead.now.items f
+
+-- the rest of the file was read after its sound, and the buffer is what is kept of it
+abbrev pub BuffersRest : {R : Type 0} → (R → Option (List ℕ)) → SoundReader R → SoundReader R → Sound → List ℕ → AfterSound → Type 0
+BuffersRest left old new s head b = Surrounds left old.inlet.now new.inlet.now old.ahead.now.items (with_ends s head new.ahead.now.items b)
+
+-- the rest of the file was read after this head and sound, and the outline is that of the file
+abbrev pub OutlinesRest : {R : Type 0} → (R → Option (List ℕ)) → SoundReader R → SoundReader R → Sound → List ℕ → Outline → Type 0
+OutlinesRest left old new s head o = (o.sound ≡ s) × (o.head.items ≡ head) × Surrounds left old.inlet.now new.inlet.now old.ahead.now.items (around_of o)
+
+-- a fault where a reader reads the rest of a file after its sound
+abbrev pub IsFaultAfter : {R : Type 0} → (R → Option (List ℕ)) → SoundReader R → Sound → List ℕ → StreamFault → Type 0
+IsFaultAfter left old s head f = IsRestFault (left (inlet_reader old.inlet.now)) s head old.ahead.now.items f
 
 -- ---- the whole file
 

@@ -1,13 +1,17 @@
 -- Chunks of a DSDIFF form that are passed once it is known that the file holds no recording.
-use Rattle.std.specs.Prelude.{◌≡◌, ◌≤◌, ◌⊎◌, ℕ, ◌+◌, ◌<◌, List, ◌++◌, drop, length, Option, ⊤}
+use Rattle.std.specs.Prelude.{◌≡◌, ◌≤◌, ◌⊎◌, ℕ, ◌+◌, ◌<◌, ◌^◌, List, ◌++◌, drop, length, Option, Result, IfOk, ⊤}
 use Rattle.std.specs.Io.KnownBytes.{IsAtEnd}
 use Rattle.chunk_core.specs.Inlets.{inlet_given, inlet_reader}
+use Rattle.chunk_core.specs.declared.inlet.Inlet.{Inlet}
 use Rattle.dsdiff_core.specs.declared.faulty.FaultyStart.{FaultyStart}
-use Rattle.dsdiff_core.specs.Faulty.{EndsInNext, IsFaulty, next_place}
+use Rattle.dsdiff_core.specs.Faulty.{AreNext, EndsInNext, IsFaulty, next_place}
 use Rattle.dsdiff_core.specs.Fields.{form_size}
+use Rattle.form_core.specs.declared.fault.ReadFault.{ReadFault}
+use Rattle.sound_core.specs.Naming.{NamesFault}
 use Rattle.sound_core.specs.declared.passing.Passed.{Passed}
 use Rattle.sound_core.specs.declared.passing.Passed.TheVariants as passed
 use Rattle.sound_core.specs.declared.reader.SoundReader.{SoundReader}
+use Rattle.sound_core.specs.declared.fault.StreamFault.{StreamFault}
 use Rattle.sound_core.specs.Reads.{Reads}
 
 -- `file` are the bytes that were read so far: the first chunks, which have the fault in `s`, were passed, and the rest,
@@ -45,3 +49,17 @@ WalksTo left old new file (passed.All s) = EndsOn left old new file s
 abbrev pub EndLater : FaultyStart → Passed → Type 0
 EndLater start (passed.More s) = start.end < s.end
 EndLater start (passed.All s) = ⊤
+
+-- if the first chunks that `start` describes were passed, the result says how far the next ones were
+abbrev pub WalksFrom : {R : Type 0} → (R → Option (List ℕ)) → SoundReader R → SoundReader R → FaultyStart → Result Passed StreamFault → Type 0
+WalksFrom left old new start result = (file : List ℕ) → IsOn old file start → IfOk result (WalksTo left old new file)
+
+-- a file of fewer than 2^64 bytes whose first chunks have the fault in `start`, and which has these bytes after them,
+-- has the fault in `last`, and ends before the next chunk after that does
+abbrev pub EndsWith : FaultyStart → List ℕ → FaultyStart → Type 0
+EndsWith start bytes last = (file : List ℕ) → IsFaulty file start → AreNext file start bytes → length file < 2 ^ 64 → EndsFaulty file last
+
+-- if the first chunks that `start` describes were passed, and their file was read since some inlet, the fault that is
+-- returned is the first one since that inlet
+abbrev pub NamesFrom : {R : Type 0} → (R → Option (List ℕ)) → SoundReader R → SoundReader R → FaultyStart → Result ReadFault StreamFault → Type 0
+NamesFrom {R} left old new start result = (first : Inlet R) (file : List ℕ) → IsOn old file start → Reads left first old.inlet.now file → IfOk result (NamesFault left first new.inlet.now)

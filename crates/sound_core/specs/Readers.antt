@@ -5,8 +5,8 @@ use Rattle.chunk_core.specs.Inlets.{inlet_failures, inlet_given, inlet_reader, i
 use Rattle.chunk_core.specs.Outlets.{outlet_failures}
 use Rattle.chunk_core.specs.declared.inlet.Inlet.{Inlet}
 use Rattle.chunk_core.specs.declared.outlet.Outlet.{Outlet}
-use Rattle.sound_core.specs.Faults.{failed_reads}
-use Rattle.sound_core.specs.Reads.{HasBudget, Reads}
+use Rattle.sound_core.specs.Faults.{StopsReading, failed_reads}
+use Rattle.sound_core.specs.Reads.{HasBudget, Reads, ReadsAll, ReadsUntil}
 use Rattle.sound_core.specs.declared.fault.StreamFault.{StreamFault}
 use Rattle.sound_core.specs.declared.fault.StreamFault.TheVariants.{FileRefused, ReadFailed, TurnLimit, Memory}
 use Rattle.sound_core.specs.declared.reader.SoundReader.{SoundReader}
@@ -37,6 +37,14 @@ pub record IsAtStart {R : Type 0} (r : SoundReader R) : Type 0 where
   pub reading : IsReading r
   pub given : inlet_given r.inlet.now ≡ r.given
   pub empty : r.ahead.now.items ≡ []
+
+-- all bytes that were read of the file are buffered
+abbrev pub HoldsAll : {R : Type 0} → SoundReader R → Type 0
+HoldsAll r = inlet_given r.inlet.now ≡ r.given + length r.ahead.now.items
+
+-- n bytes of the file were read before those that are buffered
+abbrev pub IsAfter : {R : Type 0} → SoundReader R → ℕ → Type 0
+IsAfter r n = inlet_given r.inlet.now ≡ r.given + (n + length r.ahead.now.items)
 
 -- a reader of the same file
 pub record IsSame {R : Type 0} (old new : SoundReader R) : Type 0 where
@@ -90,3 +98,45 @@ IsPassFault left_old n ahead ReadFailed = ⊤
 IsPassFault left_old n ahead TurnLimit = ⊤
 IsPassFault left_old n ahead Memory = ⊤
 IsPassFault left_old n ahead _ = ⊥
+
+-- ---- from one state of a reader to a later one
+
+-- these bytes were read, and counted
+abbrev pub HasRead : {R : Type 0} → (R → Option (List ℕ)) → SoundReader R → SoundReader R → List ℕ → Type 0
+HasRead left old new bytes = Reads left old.inlet.now new.inlet.now bytes
+
+-- no further byte was counted
+abbrev pub CountsNoByte : {R : Type 0} → SoundReader R → SoundReader R → Type 0
+CountsNoByte old new = inlet_given new.inlet.now ≡ inlet_given old.inlet.now
+
+-- one read returned n bytes, none only at the end; the block has them from place `filled` on, before `size`
+abbrev pub PullsIntoBlock : {R : Type 0} → (R → Option (List ℕ)) → SoundReader R → SoundReader R → ℕ → ℕ → ℕ → Type 0
+PullsIntoBlock left old new filled size n = PullsTo left old.inlet.now new.inlet.now filled size old.block.now.items new.block.now.items n
+
+-- the buffer grew by n bytes that were read
+abbrev pub BuffersMore : {R : Type 0} → (R → Option (List ℕ)) → SoundReader R → SoundReader R → ℕ → Type 0
+BuffersMore left old new n = (read : List ℕ) × Reads left old.inlet.now new.inlet.now read × (n ≡ length read) × (new.ahead.now.items ≡ old.ahead.now.items ++ read)
+
+-- the buffer grew by what was read, until it had `wanted` bytes or the reader was at its end
+abbrev pub BuffersUntil : {R : Type 0} → (R → Option (List ℕ)) → SoundReader R → SoundReader R → ℕ → Type 0
+BuffersUntil left old new wanted = ReadsUntil left old.inlet.now new.inlet.now old.ahead.now.items new.ahead.now.items wanted
+
+-- the buffer grew by all that was left
+abbrev pub BuffersAll : {R : Type 0} → (R → Option (List ℕ)) → SoundReader R → SoundReader R → Type 0
+BuffersAll left old new = ReadsAll left old.inlet.now new.inlet.now old.ahead.now.items new.ahead.now.items
+
+-- the next n bytes were passed, first those in the buffer
+abbrev pub PassesNext : {R : Type 0} → (R → Option (List ℕ)) → SoundReader R → SoundReader R → ℕ → Type 0
+PassesNext left old new n = Passes left old.inlet.now new.inlet.now n old.ahead.now.items new.ahead.now.items
+
+-- the next n bytes were passed, and the block begins with them
+abbrev pub FillsBlock : {R : Type 0} → (R → Option (List ℕ)) → SoundReader R → SoundReader R → ℕ → Type 0
+FillsBlock left old new n = Fills left old.inlet.now new.inlet.now n old.ahead.now.items new.ahead.now.items new.block.now.items
+
+-- fewer than n bytes were left, in the buffer and in the reader, which is at its end
+abbrev pub EndsBefore : {R : Type 0} → (R → Option (List ℕ)) → SoundReader R → SoundReader R → ℕ → Type 0
+EndsBefore left old new n = FallsShort left old.inlet.now new.inlet.now n old.ahead.now.items
+
+-- if the fault ended the reading, the bytes that were buffered and those that were read are at most n
+abbrev pub StopsWithin : {R : Type 0} → SoundReader R → SoundReader R → ℕ → StreamFault → Type 0
+StopsWithin old new n f = StopsReading f → inlet_given new.inlet.now + length old.ahead.now.items ≤ inlet_given old.inlet.now + n

@@ -1,5 +1,5 @@
 -- What takes a sound while its file is read once.
-use Rattle.std.specs.Prelude.{◌≡◌, ◌⊎◌, ℕ, ◌+◌, ◌-◌, ◌%◌, ◌<◌, ◌≤◌, min, List, ◌++◌, drop, length, Option, IfSome}
+use Rattle.std.specs.Prelude.{◌≡◌, ◌⊎◌, ℕ, ◌+◌, ◌-◌, ◌%◌, ◌<◌, ◌≤◌, min, Bool, true, false, List, ◌++◌, drop, length, Option, IfSome}
 use Rattle.chunk_core.specs.Inlets.{inlet_given, inlet_reader}
 use Rattle.chunk_core.specs.declared.inlet.Inlet.{Inlet}
 use Rattle.dsd_bits.specs.declared.interleaving.Interleaving.TheVariants.{Bytes}
@@ -7,12 +7,14 @@ use Rattle.dsd_bits.specs.declared.sound.Sound.{Sound}
 use Rattle.dsd_bits.specs.Sounds.{IsSound, sound_size}
 use Rattle.sound_core.specs.Faults.{IsSinkFault, StopsReading}
 use Rattle.sound_core.specs.Files.{GivesNone, LeadsToSound}
-use Rattle.sound_core.specs.Outlines.{AreStated, IsOutlineFault, IsPlacedIn, Surroundings}
+use Rattle.sound_core.specs.Outlines.{AreStated, IsOutlineFault, IsPlacedIn, Surroundings, around_of}
 use Rattle.sound_core.specs.Readers.{FallsShort, IsPassFault, Passes}
 use Rattle.sound_core.specs.Reads.{Reads}
 use Rattle.sound_core.specs.declared.fault.StreamFault.{StreamFault}
 use Rattle.sound_core.specs.declared.fault.StreamFault.TheVariants.{FileRefused}
+use Rattle.sound_core.specs.declared.outline.Outline.{Outline}
 use Rattle.sound_core.specs.declared.part.SoundPart.{SoundPart}
+use Rattle.sound_core.specs.declared.reader.SoundReader.{SoundReader}
 
 -- these bytes of a sound came: `done` bits of each channel, which are whole groups of blocks, or all of it
 pub record IsFed (s : Sound) (done : ℕ) (bytes : List ℕ) : Type 0 where
@@ -25,6 +27,20 @@ pub record IsFed (s : Sound) (done : ℕ) (bytes : List ℕ) : Type 0 where
 -- how many bytes of the sound the first n bytes of its file hold
 abbrev pub sound_given : Sound → ℕ → ℕ
 sound_given s given = min (given - s.start) s.size
+
+-- ---- the next part of a sound
+
+-- the sink has what some first sink became after the bytes before the part
+abbrev pub HasBefore : {S : Type 0} → (S → S → Sound → ℕ → List ℕ → Type 0) → SoundPart → S → Type 0
+HasBefore {S} has part now = (first : S) × (before : List ℕ) × IsFed part.sound part.done before × has first now part.sound part.done before
+
+-- whichever bytes came before the part, the sink has these after them
+abbrev pub HasNext : {S : Type 0} → (S → S → Sound → ℕ → List ℕ → Type 0) → SoundPart → S → S → List ℕ → Type 0
+HasNext {S} has part old new bytes = (first : S) (before : List ℕ) → IsFed part.sound part.done before → has first old part.sound part.done before → has first new part.sound (part.done + part.bits) (before ++ bytes)
+
+-- whichever bytes came before the part, the sink refused these after them
+abbrev pub RefusesNext : {S : Type 0} → (S → S → Sound → ℕ → List ℕ → Type 0) → (S → S → Sound → List ℕ → StreamFault → Type 0) → SoundPart → S → S → List ℕ → StreamFault → Type 0
+RefusesNext {S} has refused part old new bytes f = (first : S) (before : List ℕ) → IsFed part.sound part.done before → has first old part.sound part.done before → refused first new part.sound (before ++ bytes) f
 
 -- ---- if a file was read to its end
 -- the file is some sound in the surroundings, and the sink has its bytes
@@ -40,6 +56,16 @@ TakesFile has left o = AreStated o × IfSome left (IsTakenOf has o)
 -- if the reader's bytes aren't known
 abbrev pub TakesGiven : {R : Type 0} → (Sound → ℕ → List ℕ → Type 0) → (R → Option (List ℕ)) → Inlet R → Inlet R → Surroundings → Type 0
 TakesGiven has left old new o = (read : List ℕ) × Reads left old new read × IsTakenOf has o read
+
+-- the outline describes what a file holds; the inlet's file, if it is known, is some sound in it, and the sink has the
+-- bytes of that sound
+abbrev pub TakesOutline : {R : Type 0} → (Sound → ℕ → List ℕ → Type 0) → (R → Option (List ℕ)) → Inlet R → Outline → Type 0
+TakesOutline has left old o = TakesFile has (left (inlet_reader old)) (around_of o)
+
+-- the inlet returned some bytes, which are some sound in the outline, and the sink has its bytes; this also holds if
+-- the inlet's bytes aren't known
+abbrev pub GivesOutline : {R : Type 0} → (Sound → ℕ → List ℕ → Type 0) → (R → Option (List ℕ)) → Inlet R → Inlet R → Outline → Type 0
+GivesOutline has left old new o = TakesGiven has left old new (around_of o)
 
 -- ---- if it was not
 -- the file describes this sound, whose bytes begin with these
@@ -87,17 +113,21 @@ RefusesFile refused old new = (s : Sound) × (came : List ℕ) × refused old ne
 abbrev pub StopsTaking : {S : Type 0} → (S → S → Sound → ℕ → List ℕ → Type 0) → (S → S → Sound → List ℕ → StreamFault → Type 0) → Option (List ℕ) → ℕ → ℕ → S → S → StreamFault → Type 0
 StopsTaking has refused left given_old given_new old new f = NoneCame left given_old given_new old new f ⊎ SomeCame left given_old given_new has refused old new f
 
+-- why an inlet's file is not taken to its end, and what the sink is then
+abbrev pub StopsFile : {R S : Type 0} → (R → Option (List ℕ)) → (S → S → Sound → ℕ → List ℕ → Type 0) → (S → S → Sound → List ℕ → StreamFault → Type 0) → Inlet R → Inlet R → S → S → StreamFault → Type 0
+StopsFile left has refused i j old new f = StopsTaking has refused (left (inlet_reader i)) (inlet_given i) (inlet_given j) old new f
+
 -- ---- stages
 -- the bytes of a part of a sound were read, and taken by a sink that had what came before
 pub record TakesPart {R S : Type 0} (left : R → Option (List ℕ)) (has : S → S → Sound → ℕ → List ℕ → Type 0) (i j : Inlet R) (old new : S) (part : SoundPart) (ahead_old ahead_new : List ℕ) : Type 0 where
   pub passes : Passes left i j (sound_size part.sound.interleaving part.sound.channels part.bits) ahead_old ahead_new
-  pub taken : (first : S) (before : List ℕ) → IsFed part.sound part.done before → has first old part.sound part.done before → has first new part.sound (part.done + part.bits) (before ++ passes.passed)
+  pub taken : HasNext has part old new passes.passed
 
 -- the bytes of a part of a sound were read, and the sink refused them
 pub record RefusesPart {R S : Type 0} (left : R → Option (List ℕ)) (has : S → S → Sound → ℕ → List ℕ → Type 0) (refused : S → S → Sound → List ℕ → StreamFault → Type 0) (i j : Inlet R) (old new : S) (part : SoundPart) (ahead_old ahead_new : List ℕ) (f : StreamFault) : Type 0 where
   pub passes : Passes left i j (sound_size part.sound.interleaving part.sound.channels part.bits) ahead_old ahead_new
   pub own : IsSinkFault f
-  pub refuses : (first : S) (before : List ℕ) → IsFed part.sound part.done before → has first old part.sound part.done before → refused first new part.sound (before ++ passes.passed) f
+  pub refuses : RefusesNext has refused part old new passes.passed f
 
 -- n bytes were not read to their end; the sink is unchanged
 pub record StopsBefore {R S : Type 0} (left : R → Option (List ℕ)) (i j : Inlet R) (old new : S) (n : ℕ) (ahead : List ℕ) (f : StreamFault) : Type 0 where
@@ -140,3 +170,33 @@ pub record EndsInPart {R S : Type 0} (left : R → Option (List ℕ)) (i j : Inl
 pub record EndsShort {R S : Type 0} (left : R → Option (List ℕ)) (has : S → S → Sound → ℕ → List ℕ → Type 0) (refused : S → S → Sound → List ℕ → StreamFault → Type 0) (s : Sound) (i j : Inlet R) (old new : S) (ahead : List ℕ) : Type 0 where
   pub stops : StopsSound left has refused s i j old new ahead FileRefused
   pub short : FallsShort left i j s.size ahead
+
+-- ---- from one state of a reader and a sink to a later one
+
+-- if the result is true, the next part was read, and the sink took it
+abbrev pub TakesRead : {R S : Type 0} → (R → Option (List ℕ)) → (S → S → Sound → ℕ → List ℕ → Type 0) → SoundReader R → SoundReader R → S → S → SoundPart → Bool → Type 0
+TakesRead left has r q old new part full = full ≡ true → TakesPart left has r.inlet.now q.inlet.now old new part r.ahead.now.items q.ahead.now.items
+
+-- if the result is false, the file ended before the part did
+abbrev pub EndsInRead : {R S : Type 0} → (R → Option (List ℕ)) → SoundReader R → SoundReader R → S → S → SoundPart → Bool → Type 0
+EndsInRead left r q old new part full = full ≡ false → EndsInPart left r.inlet.now q.inlet.now old new part r.ahead.now.items
+
+-- if the fault is `FileRefused`, the next part was read, and the sink refused it
+abbrev pub RefusesRead : {R S : Type 0} → (R → Option (List ℕ)) → (S → S → Sound → ℕ → List ℕ → Type 0) → (S → S → Sound → List ℕ → StreamFault → Type 0) → SoundReader R → SoundReader R → S → S → SoundPart → StreamFault → Type 0
+RefusesRead left has refused r q old new part f = f ≡ FileRefused → RefusesPart left has refused r.inlet.now q.inlet.now old new part r.ahead.now.items q.ahead.now.items f
+
+-- the next part was not taken, because of this fault
+abbrev pub StopsRead : {R S : Type 0} → (R → Option (List ℕ)) → (S → S → Sound → ℕ → List ℕ → Type 0) → (S → S → Sound → List ℕ → StreamFault → Type 0) → SoundReader R → SoundReader R → S → S → SoundPart → StreamFault → Type 0
+StopsRead left has refused r q old new part f = StopsPart left has refused r.inlet.now q.inlet.now old new part r.ahead.now.items q.ahead.now.items f
+
+-- if the result is true, the whole sound was read, and the sink took it
+abbrev pub TakesSound : {R S : Type 0} → (R → Option (List ℕ)) → (S → S → Sound → ℕ → List ℕ → Type 0) → Sound → SoundReader R → SoundReader R → S → S → Bool → Type 0
+TakesSound left has s r q old new whole = whole ≡ true → TakesSome left has s r.inlet.now q.inlet.now old new s.count r.ahead.now.items q.ahead.now.items
+
+-- if the result is false, the file ended before the sound did
+abbrev pub CutsSound : {R S : Type 0} → (R → Option (List ℕ)) → (S → S → Sound → ℕ → List ℕ → Type 0) → (S → S → Sound → List ℕ → StreamFault → Type 0) → Sound → SoundReader R → SoundReader R → S → S → Bool → Type 0
+CutsSound left has refused s r q old new whole = whole ≡ false → EndsShort left has refused s r.inlet.now q.inlet.now old new r.ahead.now.items
+
+-- the sound was not taken to its end, because of this fault
+abbrev pub BreaksOff : {R S : Type 0} → (R → Option (List ℕ)) → (S → S → Sound → ℕ → List ℕ → Type 0) → (S → S → Sound → List ℕ → StreamFault → Type 0) → Sound → SoundReader R → SoundReader R → S → S → StreamFault → Type 0
+BreaksOff left has refused s r q old new f = StopsSound left has refused s r.inlet.now q.inlet.now old new r.ahead.now.items f

@@ -1,18 +1,16 @@
 //! The header of a file, up to its sound.
 
-ghost use Rattle.std.specs.Prelude.{◌≡◌, ◌+◌, ◌-◌, ◌<◌, ◌≤◌, ◌^◌, ◌++◌, List, ℕ, IfErr, IfOk, OnOk, Err, length};
-ghost use Rattle.chunk_core.specs.Inlets.{inlet_given, inlet_reader};
+ghost use Rattle.std.specs.Prelude.{◌≡◌, ◌+◌, ◌-◌, ◌<◌, ◌++◌, List, ℕ, IfErr, IfOk, OnOk, Err};
+ghost use Rattle.chunk_core.specs.Inlets.{inlet_reader};
 ghost use Rattle.dsd_bits.specs.Sounds.{IfFound, IfMore, IfRefused};
 ghost use Rattle.dsdiff_core.specs.declared.fault.DsdiffFault.TheVariants.{NotDsdiff};
 ghost use Rattle.dsdiff_core.specs.Reading.{recording_of};
 ghost use Rattle.dsdiff_core.specs.Walks.{IsWalked};
 ghost use Rattle.form_core.specs.Opening.{opened_of};
-ghost use Rattle.sound_core.specs.Faults.{StopsReading};
-ghost use Rattle.sound_core.specs.Files.{GivesNone, IsBeforeSound, IsHeaderFault, IsRefused, LeadsToSound};
+ghost use Rattle.sound_core.specs.Files.{IsBeforeSound, IsHeaderFault, IsRefused, LeadsToSound, StopsBeforeSound};
 ghost use Rattle.sound_core.specs.Headers.{IfSure, IfWanted, sound_stated};
 ghost use Rattle.sound_core.specs.Causes.{IsCauseIn, IsNamed};
-ghost use Rattle.sound_core.specs.Readers.{Counts, IsAtStart, IsReading, IsSame};
-ghost use Rattle.sound_core.specs.Reads.{Reads};
+ghost use Rattle.sound_core.specs.Readers.{Counts, HasRead, HoldsAll, IsAtStart, IsReading, IsSame};
 
 use crate::cause::Cause;
 use crate::fault::StreamFault;
@@ -50,17 +48,13 @@ pub(crate) fn read_header<R: Read>(
     requires { IsAtStart reader.old }
     ensures same { IsSame reader.old reader.new }
     ensures reading { OnOk result (IsReading reader.new) }
-    ensures given { OnOk result (inlet_given reader.new.inlet.now
-        ≡ reader.new.given + length reader.new.ahead.now.items) }
-    ensures read { OnOk result (Reads R.remaining reader.old.inlet.now reader.new.inlet.now
-        reader.new.ahead.now.items) }
+    ensures given { OnOk result (HoldsAll reader.new) }
+    ensures read { OnOk result (HasRead R.remaining reader.old reader.new reader.new.ahead.now.items) }
     ensures states { IfOk result (LeadsToSound reader.new.ahead.now.items) }
     ensures named { IfErr result (IsNamed ⊥ R.remaining reader.old.inlet.now reader.new) }
     ensures counts { Counts reader.old reader.new result }
     ensures fault { IfErr result (IsHeaderFault (R.remaining (inlet_reader reader.old.inlet.now))) }
-    ensures stopped { IfErr result (λ f. StopsReading f
-        → GivesNone (R.remaining (inlet_reader reader.old.inlet.now)) (inlet_given reader.old.inlet.now)
-        (inlet_given reader.new.inlet.now)) }
+    ensures stopped { IfErr result (StopsBeforeSound R.remaining reader.old.inlet.now reader.new.inlet.now) }
 {
     let mut walked = 16;
     loop {

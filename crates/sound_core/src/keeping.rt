@@ -3,10 +3,10 @@
 ghost use Rattle.std.specs.Prelude.{◌≡◌, ◌+◌, ◌-◌, ◌<◌, ◌≤◌, ◌^◌, IfErr, IfOk};
 ghost use Rattle.chunk_core.specs.Inlets.{inlet_failures, inlet_reader, inlet_reads};
 ghost use Rattle.sound_core.specs.Faults.{failed_reads};
-ghost use Rattle.sound_core.specs.Keeping.{KeepsFile, KeepsGiven, stretches_in};
+ghost use Rattle.sound_core.specs.Keeping.{GivesStretches, HoldsStretches};
 ghost use Rattle.form_core.specs.Steps.{map_err};
 ghost use Rattle.sound_core.specs.Naming.{IfRefusedAs, IsExact, NamesFault, plain};
-ghost use Rattle.sound_core.specs.Outlines.{IsOutlineFault, around_of};
+ghost use Rattle.sound_core.specs.Outlines.{IsOutlineFault};
 ghost use Rattle.sound_core.specs.Readers.{RunsOut};
 
 use crate::fault::{StreamFault, Unread};
@@ -38,11 +38,9 @@ pub fn read_stretches<R: Read>(
     ranges: &[BitRange],
 ) -> Result<Kept, Unread>
     // The reader's file is the outline with some sound, and these are the stretches of its channels.
-    ensures ok { IfOk result (λ k. KeepsFile (R.remaining (inlet_reader inlet.old)) (around_of k.outline) ranges.now
-        (stretches_in k)) }
+    ensures ok { IfOk result (HoldsStretches (R.remaining (inlet_reader inlet.old)) ranges.now) }
     // The same of the bytes that were read, if the reader's bytes aren't known.
-    ensures any_reader { IfOk result (λ k. KeepsGiven R.remaining inlet.old inlet.new (around_of k.outline) ranges.now
-        (stretches_in k)) }
+    ensures any_reader { IfOk result (GivesStretches R.remaining inlet.old inlet.new ranges.now) }
     // The first fault of what was read, and of the reader's file.
     ensures named { IfErr result (λ u. IfRefusedAs u (NamesFault R.remaining inlet.old inlet.new)) }
     ensures exact { IfErr result IsExact }

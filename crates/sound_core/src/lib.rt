@@ -33,10 +33,10 @@
 //! - `IsPlacedIn around file sound` says that a file is these sound bytes in their surroundings, `AreStated around`
 //!   that every such file holds what the surroundings describe, with the channels of its sound, and `SurroundsFile left
 //!   around` that both hold for a reader's file (`specs/Outlines.antt`).
-//! - `IsFed s done bytes` says that these bytes of a sound came, which are `done` bits of each channel. `TakesFile has
-//!   left around` says that a reader's file is some sound in these surroundings, and that `has` holds of its bytes.
-//!   `StopsTaking` says why it isn't taken to its end, and what the sink is then (`specs/Sinks.antt`).
-//! - `KeepsFile left around ranges kept` says that a reader's file is some sound in these surroundings, and which
+//! - `IsFed s done bytes` says that these bytes of a sound came, which are `done` bits of each channel. `TakesOutline has
+//!   left inlet outline` says that the inlet's file is some sound in this outline, and that `has` holds of its bytes.
+//!   `StopsFile` says why it isn't taken to its end, and what the sink is then (`specs/Sinks.antt`).
+//! - `HoldsStretches left ranges kept` says that a reader's file is some sound in the outline that was kept, and which
 //!   stretches of its channels were kept (`specs/Keeping.antt`).
 //!
 //! - `relayed target outline sound` are the bytes that are written of a sound: head, sound, tail. `Relays left target

@@ -1,19 +1,16 @@
 //! The first fault of a file that holds no recording, where only what follows its prefix tells it.
 
-ghost use Rattle.std.specs.Prelude.{◌≡◌, ◌≢◌, ◌+◌, ◌≤◌, ◌++◌, ⊤, List, ℕ, Err, IfErr, IfOk, OnOk, length};
-ghost use Rattle.chunk_core.specs.Inlets.{inlet_given, inlet_reads};
+ghost use Rattle.std.specs.Prelude.{◌≡◌, ◌≢◌, ◌+◌, ◌≤◌, ◌++◌, IfErr, IfOk, OnOk, length};
+ghost use Rattle.chunk_core.specs.Inlets.{inlet_reads};
 ghost use Rattle.chunk_core.specs.declared.inlet.Inlet.{Inlet};
 ghost use Rattle.dsdiff_core.specs.Cuts.{GoesPastForm};
 ghost use Rattle.dsdiff_core.specs.Fields.{form_size};
-ghost use Rattle.dsdiff_core.specs.Located.{EndsAtHead, stated_size};
+ghost use Rattle.dsdiff_core.specs.Located.{EndsAtHead};
 ghost use Rattle.form_core.specs.Faults.{dsdiff_fault};
-ghost use Rattle.form_core.specs.Opening.{opened_of};
-ghost use Rattle.sound_core.specs.Causes.{IsCause, IsNamed, IsRefusedBy, IsUnreadBy, IsUnsure, unread_of};
+ghost use Rattle.sound_core.specs.Causes.{AnswersCause, AnswersFault, CountsAnswer, HasCause, IsRefusedBy, IsUnreadBy, IsUnsure, NamesUnsure, unread_of};
 ghost use Rattle.sound_core.specs.Faults.{IsReadingFault};
-ghost use Rattle.sound_core.specs.Naming.{IfRefusedAs, NamesFault, plain};
-ghost use Rattle.sound_core.specs.Readers.{Counts, CountsFault, IsReading, IsSame};
-ghost use Rattle.sound_core.specs.Reads.{Reads, ReadsUntil};
-ghost use Rattle.sound_core.specs.declared.reader.SoundReader.{SoundReader as Reader};
+ghost use Rattle.sound_core.specs.Naming.{IsFaultAround, NamesRead, plain};
+ghost use Rattle.sound_core.specs.Readers.{BuffersUntil, Counts, CountsFault, IsAfter, IsReading, IsSame};
 
 use crate::cause::Cause;
 use crate::fault::{StreamFault, Unread};
@@ -33,15 +30,12 @@ pub(crate) fn unread<R: Read>(
     fault: StreamFault,
     reader: &mut SoundReader<'_, R>,
 ) -> Unread
-    requires known { fault ≡ StreamFault.FileRefused → (first : Inlet R)
-        × IsCause ⊤ R.remaining first reader.old reader.old.cause }
+    requires known { fault ≡ StreamFault.FileRefused → HasCause R.remaining reader.old }
     requires counted { inlet_reads reader.old.inlet.now ≤ reader.old.limit }
     ensures same { IsSame reader.old reader.new }
-    ensures named { (first : Inlet R) → IsNamed ⊤ R.remaining first reader.old fault
-        → IfRefusedAs result (NamesFault R.remaining first reader.new.inlet.now) }
+    ensures named { AnswersFault R.remaining reader.old reader.new fault result }
     ensures how { IsUnreadBy fault reader.old reader.new result }
-    ensures counts { (start : Reader R) → IsSame start reader.old → CountsFault start reader.old fault
-        → CountsFault start reader.new (plain result) }
+    ensures counts { CountsAnswer reader.old reader.new fault result }
 {
     match fault {
         StreamFault::FileRefused => refusal_of(alloc, reader),
@@ -51,11 +45,10 @@ pub(crate) fn unread<R: Read>(
 
 // The same for a file that is refused, by what is known of its first fault.
 fn refusal_of<R: Read>(alloc: Global, reader: &mut SoundReader<'_, R>) -> Unread
-    requires known { (first : Inlet R) × IsCause ⊤ R.remaining first reader.old reader.old.cause }
+    requires known { HasCause R.remaining reader.old }
     requires counted { inlet_reads reader.old.inlet.now ≤ reader.old.limit }
     ensures same { IsSame reader.old reader.new }
-    ensures named { (first : Inlet R) → IsCause ⊤ R.remaining first reader.old reader.old.cause
-        → IfRefusedAs result (NamesFault R.remaining first reader.new.inlet.now) }
+    ensures named { AnswersCause R.remaining reader.old reader.new result }
     ensures how { IsRefusedBy reader.old.cause result }
     ensures counts { CountsFault reader.old reader.new (plain result) }
 {
@@ -87,8 +80,7 @@ fn name_untold<R: Read>(
 ) -> Result<ReadFault, StreamFault>
     requires known { (first : Inlet R) × IsUnsure R.remaining first reader.old (Cause.Unstated at) }
     ensures same { IsSame reader.old reader.new }
-    ensures named { (first : Inlet R) → IsUnsure R.remaining first reader.old (Cause.Unstated at)
-        → IfOk result (NamesFault R.remaining first reader.new.inlet.now) }
+    ensures named { NamesUnsure R.remaining reader.old reader.new (Cause.Unstated at) result }
     ensures counts { Counts reader.old reader.new result }
     ensures fault { IfErr result IsReadingFault }
 {
@@ -104,12 +96,9 @@ fn name_after<R: Read>(
 ) -> Result<ReadFault, StreamFault>
     requires head { EndsAtHead head.now }
     requires reading { IsReading reader.old }
-    requires given { inlet_given reader.old.inlet.now
-        ≡ reader.old.given + (length head.now + length reader.old.ahead.now.items) }
+    requires given { IsAfter reader.old (length head.now) }
     ensures same { IsSame reader.old reader.new }
-    ensures named { (first : Inlet R)
-        → Reads R.remaining first reader.old.inlet.now (head.now ++ reader.old.ahead.now.items)
-        → IfOk result (NamesFault R.remaining first reader.new.inlet.now) }
+    ensures named { NamesRead R.remaining reader.old reader.new (head.now ++ reader.old.ahead.now.items) result }
     ensures counts { Counts reader.old reader.new result }
     ensures fault { IfErr result IsReadingFault }
 {
@@ -125,8 +114,7 @@ fn name_after<R: Read>(
 // The first fault of a DSDIFF file that holds no recording, by what is around its sound. Of any other it is `Memory`.
 fn fault_around(alloc: Global, head: &[u8], back: &[u8]) -> Result<ReadFault, StreamFault>
     requires { EndsAtHead head.now }
-    ensures named { IfOk result (λ e. (sound : List ℕ) → length sound ≡ stated_size head.now
-        → opened_of (head.now ++ (sound ++ back.now)) ≡ Err e) }
+    ensures named { IfOk result (IsFaultAround head.now back.now) }
     ensures fault { IfErr result (λ f. f ≡ StreamFault.Memory) }
 {
     let Err(fault) = dsdiff_core::describe(alloc, head, back) else {
@@ -155,8 +143,7 @@ fn name_past_form<R: Read>(
 ) -> Result<ReadFault, StreamFault>
     requires known { (first : Inlet R) × IsUnsure R.remaining first reader.old (Cause.PastForm at) }
     ensures same { IsSame reader.old reader.new }
-    ensures named { (first : Inlet R) → IsUnsure R.remaining first reader.old (Cause.PastForm at)
-        → IfOk result (NamesFault R.remaining first reader.new.inlet.now) }
+    ensures named { NamesUnsure R.remaining reader.old reader.new (Cause.PastForm at) result }
     ensures counts { Counts reader.old reader.new result }
     ensures fault { IfErr result IsReadingFault }
 {
@@ -168,12 +155,9 @@ fn name_past_form<R: Read>(
 fn name_cut<R: Read>(head: &[u8], reader: &mut SoundReader<'_, R>) -> Result<ReadFault, StreamFault>
     requires past { GoesPastForm head.now }
     requires reading { IsReading reader.old }
-    requires given { inlet_given reader.old.inlet.now
-        ≡ reader.old.given + (length head.now + length reader.old.ahead.now.items) }
+    requires given { IsAfter reader.old (length head.now) }
     ensures same { IsSame reader.old reader.new }
-    ensures named { (first : Inlet R)
-        → Reads R.remaining first reader.old.inlet.now (head.now ++ reader.old.ahead.now.items)
-        → IfOk result (NamesFault R.remaining first reader.new.inlet.now) }
+    ensures named { NamesRead R.remaining reader.old reader.new (head.now ++ reader.old.ahead.now.items) result }
     ensures counts { Counts reader.old reader.new result }
     ensures fault { IfErr result IsReadingFault }
 {
@@ -190,8 +174,7 @@ fn name_soundless<R: Read>(
 ) -> Result<ReadFault, StreamFault>
     requires known { (first : Inlet R) × IsUnsure R.remaining first reader.old Cause.NoSound }
     ensures same { IsSame reader.old reader.new }
-    ensures named { (first : Inlet R) → IsUnsure R.remaining first reader.old Cause.NoSound
-        → IfOk result (NamesFault R.remaining first reader.new.inlet.now) }
+    ensures named { NamesUnsure R.remaining reader.old reader.new Cause.NoSound result }
     ensures counts { Counts reader.old reader.new result }
     ensures fault { IfErr result IsReadingFault }
 {
@@ -204,8 +187,8 @@ fn read_form<R: Read>(reader: &mut SoundReader<'_, R>) -> Result<(), StreamFault
     requires reading { IsReading reader.old }
     requires long { 12 ≤ length reader.old.ahead.now.items }
     ensures same { IsSame reader.old reader.new }
-    ensures read { OnOk result (ReadsUntil R.remaining reader.old.inlet.now reader.new.inlet.now
-        reader.old.ahead.now.items reader.new.ahead.now.items (12 + form_size reader.old.ahead.now.items)) }
+    ensures read { OnOk result (BuffersUntil R.remaining reader.old reader.new
+        (12 + form_size reader.old.ahead.now.items)) }
     ensures counts { Counts reader.old reader.new result }
     ensures fault { IfErr result IsReadingFault }
 {

@@ -1,14 +1,14 @@
 //! What a file holds besides its sound, read in one pass.
 
-ghost use Rattle.std.specs.Prelude.{◌≡◌, ◌+◌, ◌-◌, ◌%◌, ◌<◌, ◌≤◌, ◌^◌, ◌++◌, IfErr, IfOk, length, true};
-ghost use Rattle.chunk_core.specs.Inlets.{inlet_failures, inlet_given, inlet_reader, inlet_reads};
+ghost use Rattle.std.specs.Prelude.{◌≡◌, ◌+◌, ◌-◌, ◌%◌, ◌<◌, ◌≤◌, ◌^◌, IfErr, IfOk, length, true};
+ghost use Rattle.chunk_core.specs.Inlets.{inlet_failures, inlet_reader, inlet_reads};
 ghost use Rattle.dsd_bits.specs.Sounds.{IsSound, has_blocks};
 ghost use Rattle.sound_core.specs.Faults.{failed_reads};
 ghost use Rattle.sound_core.specs.Files.{IsHeaderOf};
 ghost use Rattle.form_core.specs.Steps.{map_err};
-ghost use Rattle.sound_core.specs.Naming.{IfRefusedAs, IsExact, IsRestNamed, NamesFault, is_memory, plain};
-ghost use Rattle.sound_core.specs.Outlines.{IsOutlineFault, IsRestFault, IsTagFault, ReadsTag, StopsAtTag, Surrounds, SurroundsFile, SurroundsGiven, around_of, with_ends};
-ghost use Rattle.sound_core.specs.Readers.{Counts, IsReading, IsSame, RunsOut};
+ghost use Rattle.sound_core.specs.Naming.{IfRefusedAs, IsExact, NamesFault, NamesRest, is_memory, plain};
+ghost use Rattle.sound_core.specs.Outlines.{BuffersRest, BuffersTag, IsFaultAfter, IsFaultAtTag, IsOutlineFault, MissesTag, OutlinesRest, SurroundsFile, SurroundsGiven, around_of};
+ghost use Rattle.sound_core.specs.Readers.{Counts, IsAfter, IsReading, IsSame, RunsOut};
 
 use crate::cause::Cause;
 use crate::fault::{StreamFault, Unread};
@@ -82,16 +82,12 @@ pub(crate) fn read_rest<R: Read>(
     requires sound { IsSound sound }
     requires whole { sound.interleaving ≡ Interleaving.Bytes → sound.count % 8 ≡ 0 }
     requires reading { IsReading reader.old }
-    requires given { inlet_given reader.old.inlet.now
-        ≡ reader.old.given + (length head.items + sound.size + length reader.old.ahead.now.items) }
+    requires given { IsAfter reader.old (length head.items + sound.size) }
     ensures same { IsSame reader.old reader.new }
-    ensures ok { IfOk result (λ o. (o.sound ≡ sound) × (o.head.items ≡ head.items)
-        × Surrounds R.remaining reader.old.inlet.now reader.new.inlet.now reader.old.ahead.now.items (around_of o)) }
-    ensures named { IfErr result (IsRestNamed R.remaining reader.old.inlet.now reader.new.inlet.now sound head.items
-        reader.old.ahead.now.items reader.new.cause) }
+    ensures ok { IfOk result (OutlinesRest R.remaining reader.old reader.new sound head.items) }
+    ensures named { IfErr result (NamesRest R.remaining reader.old reader.new sound head.items) }
     ensures counts { Counts reader.old reader.new result }
-    ensures fault { IfErr result (IsRestFault
-        (R.remaining (inlet_reader reader.old.inlet.now)) sound head.items reader.old.ahead.now.items) }
+    ensures fault { IfErr result (IsFaultAfter R.remaining reader.old sound head.items) }
 {
     let after = read_after_sound(alloc, &sound, &head, reader)?;
     let back = reader.take_ahead(alloc);
@@ -127,16 +123,12 @@ fn read_after_sound<R: Read>(
     requires sound { IsSound sound.now }
     requires whole { sound.now.interleaving ≡ Interleaving.Bytes → sound.now.count % 8 ≡ 0 }
     requires reading { IsReading reader.old }
-    requires given { inlet_given reader.old.inlet.now
-        ≡ reader.old.given + (length head.now + sound.now.size + length reader.old.ahead.now.items) }
+    requires given { IsAfter reader.old (length head.now + sound.now.size) }
     ensures same { IsSame reader.old reader.new }
-    ensures ok { IfOk result (λ b. Surrounds R.remaining reader.old.inlet.now reader.new.inlet.now
-        reader.old.ahead.now.items (with_ends sound.now head.now reader.new.ahead.now.items b)) }
-    ensures named { IfErr result (IsRestNamed R.remaining reader.old.inlet.now reader.new.inlet.now sound.now head.now
-        reader.old.ahead.now.items reader.new.cause) }
+    ensures ok { IfOk result (BuffersRest R.remaining reader.old reader.new sound.now head.now) }
+    ensures named { IfErr result (NamesRest R.remaining reader.old reader.new sound.now head.now) }
     ensures counts { Counts reader.old reader.new result }
-    ensures fault { IfErr result (IsRestFault
-        (R.remaining (inlet_reader reader.old.inlet.now)) sound.now head.now reader.old.ahead.now.items) }
+    ensures fault { IfErr result (IsFaultAfter R.remaining reader.old sound.now head.now) }
 {
     if sound.interleaving.has_blocks() {
         after_blocks(alloc, sound, head, reader)
@@ -156,16 +148,12 @@ fn after_blocks<R: Read>(
     requires interleaving { has_blocks sound.now.interleaving ≡ true }
     requires sound { IsSound sound.now }
     requires reading { IsReading reader.old }
-    requires given { inlet_given reader.old.inlet.now
-        ≡ reader.old.given + (length head.now + sound.now.size + length reader.old.ahead.now.items) }
+    requires given { IsAfter reader.old (length head.now + sound.now.size) }
     ensures same { IsSame reader.old reader.new }
-    ensures ok { IfOk result (λ b. Surrounds R.remaining reader.old.inlet.now reader.new.inlet.now
-        reader.old.ahead.now.items (with_ends sound.now head.now reader.new.ahead.now.items b)) }
-    ensures named { IfErr result (IsRestNamed R.remaining reader.old.inlet.now reader.new.inlet.now sound.now head.now
-        reader.old.ahead.now.items reader.new.cause) }
+    ensures ok { IfOk result (BuffersRest R.remaining reader.old reader.new sound.now head.now) }
+    ensures named { IfErr result (NamesRest R.remaining reader.old reader.new sound.now head.now) }
     ensures counts { Counts reader.old reader.new result }
-    ensures fault { IfErr result (IsRestFault
-        (R.remaining (inlet_reader reader.old.inlet.now)) sound.now head.now reader.old.ahead.now.items) }
+    ensures fault { IfErr result (IsFaultAfter R.remaining reader.old sound.now head.now) }
 {
     let stop = (head.len() + sound.size) as u64;
     let gap = match read_tag(dsf_core::tag_at(head), stop, reader) {
@@ -207,13 +195,10 @@ fn after_frames<R: Read>(
     requires whole { sound.now.count % 8 ≡ 0 }
     requires reading { IsReading reader.old }
     ensures same { IsSame reader.old reader.new }
-    ensures ok { IfOk result (λ b. Surrounds R.remaining reader.old.inlet.now reader.new.inlet.now
-        reader.old.ahead.now.items (with_ends sound.now head.now reader.new.ahead.now.items b)) }
-    ensures named { IfErr result (IsRestNamed R.remaining reader.old.inlet.now reader.new.inlet.now sound.now head.now
-        reader.old.ahead.now.items reader.new.cause) }
+    ensures ok { IfOk result (BuffersRest R.remaining reader.old reader.new sound.now head.now) }
+    ensures named { IfErr result (NamesRest R.remaining reader.old reader.new sound.now head.now) }
     ensures counts { Counts reader.old reader.new result }
-    ensures fault { IfErr result (IsRestFault
-        (R.remaining (inlet_reader reader.old.inlet.now)) sound.now head.now reader.old.ahead.now.items) }
+    ensures fault { IfErr result (IsFaultAfter R.remaining reader.old sound.now head.now) }
 {
     let wanted = dsdiff_core::bytes_after_sound(head);
     reader.read_until(wanted)?;
@@ -253,15 +238,12 @@ fn read_tag<R: Read>(
     reader: &mut SoundReader<'_, R>,
 ) -> Result<u64, StreamFault>
     requires reading { IsReading reader.old }
-    requires given { inlet_given reader.old.inlet.now ≡ reader.old.given + (stop + length reader.old.ahead.now.items) }
+    requires given { IsAfter reader.old stop }
     ensures same { IsSame reader.old reader.new }
-    ensures ok { IfOk result (ReadsTag R.remaining reader.old.inlet.now reader.new.inlet.now place stop
-        reader.old.ahead.now.items reader.new.ahead.now.items) }
-    ensures off { IfErr result (λ f. f ≡ StreamFault.FileRefused → StopsAtTag R.remaining reader.old.inlet.now
-        reader.new.inlet.now place stop reader.old.ahead.now.items) }
+    ensures ok { IfOk result (BuffersTag R.remaining reader.old reader.new place stop) }
+    ensures off { IfErr result (MissesTag R.remaining reader.old reader.new place stop) }
     ensures counts { Counts reader.old reader.new result }
-    ensures fault { IfErr result (IsTagFault
-        (R.remaining (inlet_reader reader.old.inlet.now)) place stop reader.old.ahead.now.items) }
+    ensures fault { IfErr result (IsFaultAtTag R.remaining reader.old place stop) }
 {
     if place == 0 {
         reader.read_to_end()?;

@@ -1,14 +1,11 @@
 //! The first fault of a DSDIFF file whose first chunks tell that it holds no recording. Later chunks are passed.
 
-ghost use Rattle.std.specs.Prelude.{◌≡◌, ◌≤◌, ◌<◌, ◌-◌, ◌^◌, List, ℕ, IfErr, IfOk, OnOk, length};
+ghost use Rattle.std.specs.Prelude.{◌≡◌, ◌<◌, ◌-◌, List, ℕ, IfErr, IfOk, OnOk, length};
 ghost use Rattle.chunk_core.specs.declared.inlet.Inlet.{Inlet};
-ghost use Rattle.dsdiff_core.specs.Faulty.{AreNext, EndsInNext, IsFaulty};
-ghost use Rattle.sound_core.specs.Causes.{IsUnsure};
+ghost use Rattle.sound_core.specs.Causes.{IsUnsure, NamesUnsure};
 ghost use Rattle.sound_core.specs.Faults.{IsReadingFault};
-ghost use Rattle.sound_core.specs.Naming.{NamesFault};
-ghost use Rattle.sound_core.specs.Passing.{EndLater, IsOn, WalksTo};
+ghost use Rattle.sound_core.specs.Passing.{EndLater, EndsWith, IsOn, NamesFrom, WalksFrom};
 ghost use Rattle.sound_core.specs.Readers.{Counts, IsReading, IsSame};
-ghost use Rattle.sound_core.specs.Reads.{Reads};
 
 use crate::cause::Cause;
 use crate::fault::StreamFault;
@@ -33,8 +30,7 @@ pub(crate) fn name_faulty<R: Read>(
 ) -> Result<ReadFault, StreamFault>
     requires known { (first : Inlet R) × IsUnsure R.remaining first reader.old (Cause.Faulty start) }
     ensures same { IsSame reader.old reader.new }
-    ensures named { (first : Inlet R) → IsUnsure R.remaining first reader.old (Cause.Faulty start)
-        → IfOk result (NamesFault R.remaining first reader.new.inlet.now) }
+    ensures named { NamesUnsure R.remaining reader.old reader.new (Cause.Faulty start) result }
     ensures counts { Counts reader.old reader.new result }
     ensures fault { IfErr result IsReadingFault }
 {
@@ -50,9 +46,7 @@ fn name_passed<R: Read>(
     requires reading { IsReading reader.old }
     requires on { (file : List ℕ) × IsOn reader.old file start }
     ensures same { IsSame reader.old reader.new }
-    ensures named { (first : Inlet R) (file : List ℕ) → IsOn reader.old file start
-        → Reads R.remaining first reader.old.inlet.now file
-        → IfOk result (NamesFault R.remaining first reader.new.inlet.now) }
+    ensures named { NamesFrom R.remaining reader.old reader.new start result }
     ensures counts { Counts reader.old reader.new result }
     ensures fault { IfErr result IsReadingFault }
 {
@@ -77,8 +71,7 @@ fn pass_chunk<R: Read>(
     requires on { (file : List ℕ) × IsOn reader.old file start }
     ensures same { IsSame reader.old reader.new }
     ensures reading { OnOk result (IsReading reader.new) }
-    ensures passed { (file : List ℕ) → IsOn reader.old file start
-        → IfOk result (WalksTo R.remaining reader.old reader.new file) }
+    ensures passed { WalksFrom R.remaining reader.old reader.new start result }
     ensures later { IfOk result (EndLater start) }
     ensures counts { Counts reader.old reader.new result }
     ensures fault { IfErr result IsReadingFault }
@@ -116,8 +109,7 @@ fn left_of(start: FaultyStart) -> u64
 // What all whole chunks tell of a file that ends with these bytes, which are fewer than 16 from the next chunk on.
 fn last_passed(start: FaultyStart, bytes: &[u8]) -> FaultyStart
     requires { length bytes.now < 16 }
-    ensures { (file : List ℕ) → IsFaulty file start → AreNext file start bytes.now → length file < 2 ^ 64
-        → IsFaulty file result × EndsInNext file result }
+    ensures { EndsWith start bytes.now result }
 {
     match next_chunk(start, bytes) {
         Some(next) if next.size <= (bytes.len() - 12) as u64 => next.after,

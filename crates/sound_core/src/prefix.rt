@@ -1,11 +1,12 @@
 //! The prefix of a file, up to its sound, read by itself.
 
 ghost use Rattle.std.specs.Prelude.{◌≡◌, ◌+◌, ◌≤◌, ◌^◌, IfErr, IfOk};
-ghost use Rattle.chunk_core.specs.Inlets.{inlet_failures, inlet_given, inlet_reader, inlet_reads};
+ghost use Rattle.chunk_core.specs.Inlets.{inlet_failures, inlet_reader, inlet_reads};
 ghost use Rattle.form_core.specs.Steps.{map_err};
 ghost use Rattle.sound_core.specs.Faults.{failed_reads};
 ghost use Rattle.sound_core.specs.Files.{IsHeaderFault, LeadsToSound};
 ghost use Rattle.sound_core.specs.Naming.{IfRefusedAs, IsExact, NamesFault, plain};
+ghost use Rattle.sound_core.specs.Readers.{RunsOut};
 ghost use Rattle.sound_core.specs.Reads.{Reads};
 
 use crate::fault::{StreamFault, Unread};
@@ -44,6 +45,7 @@ pub fn read_prefix<R: Read>(alloc: Global, inlet: &mut Inlet<R>) -> Result<Front
     ensures read_failed { inlet_failures inlet.new ≡ inlet_failures inlet.old + failed_reads (map_err plain result) }
     // Whatever is returned, there were at most 2^40 reads.
     ensures reads { inlet_reads inlet.new ≤ inlet_reads inlet.old + 2 ^ 40 }
+    ensures turn_limit { IfErr result (λ u. plain u ≡ StreamFault.TurnLimit → RunsOut inlet.old inlet.new) }
 {
     if !can_count(inlet) {
         return Err(Unread::Stream(StreamFault::TurnLimit));

@@ -1,12 +1,12 @@
 //! A file that is read a block at a time, and in a limited number of reads.
 
-ghost use Rattle.std.specs.Prelude.{◌≡◌, ◌↔◌, ◌+◌, ◌-◌, ◌<◌, ◌≤◌, ◌^◌, ◌++◌, [], IsTrue, List, ℕ, IfErr, IfOk, MatchResult, OnErr, OnOk, drop, false, length, take, true};
+ghost use Rattle.std.specs.Prelude.{◌≡◌, ◌↔◌, ◌+◌, ◌-◌, ◌<◌, ◌≤◌, ◌^◌, [], IsTrue, IfErr, IfOk, MatchResult, OnErr, OnOk, drop, false, length, take, true};
 ghost use Rattle.std.specs.Io.KnownBytes.{IsAtEnd};
 ghost use Rattle.std.specs.Io.Iter.{u64_saturate};
 ghost use Rattle.chunk_core.specs.Inlets.{PullsAfter, inlet_failures, inlet_given, inlet_reader, inlet_reads};
 ghost use Rattle.sound_core.specs.Faults.{IsReadingFault, StopsReading};
-ghost use Rattle.sound_core.specs.Readers.{CanCount, CanFail, Counts, FallsShort, Fills, IsAtStart, IsReading, IsSame, Passes, PullsTo};
-ghost use Rattle.sound_core.specs.Reads.{Reads, ReadsAll, ReadsToEnd, ReadsUntil};
+ghost use Rattle.sound_core.specs.Readers.{BuffersAll, BuffersMore, BuffersUntil, CanCount, CanFail, Counts, CountsNoByte, EndsBefore, FillsBlock, IsAtStart, IsReading, IsSame, PassesNext, PullsIntoBlock, StopsWithin};
+ghost use Rattle.sound_core.specs.Reads.{ReadsToEnd};
 
 use crate::cause::Cause;
 use crate::fault::StreamFault;
@@ -137,10 +137,9 @@ impl<'a, R: Read> SoundReader<'a, R> {
         ensures same { IsSame self.old self.new }
         ensures reading { OnOk result (IsReading self.new) }
         ensures kept { self.new.ahead.now.items ≡ self.old.ahead.now.items }
-        ensures read { IfOk result (PullsTo R.remaining self.old.inlet.now self.new.inlet.now filled size
-            self.old.block.now.items self.new.block.now.items) }
+        ensures read { IfOk result (PullsIntoBlock R.remaining self.old self.new filled size) }
         ensures turn { OnOk result (inlet_reads self.new.inlet.now ≡ inlet_reads self.old.inlet.now + 1) }
-        ensures none { OnErr result (inlet_given self.new.inlet.now ≡ inlet_given self.old.inlet.now) }
+        ensures none { OnErr result (CountsNoByte self.old self.new) }
         ensures counts { Counts self.old self.new result }
         ensures fault { IfErr result IsReadingFault }
     {
@@ -162,12 +161,9 @@ impl<'a, R: Read> SoundReader<'a, R> {
         requires fits { size ≤ 65536 }
         ensures same { IsSame self.old self.new }
         ensures reading { OnOk result (IsReading self.new) }
-        ensures ok { IfOk result (λ full. full ≡ true → Fills R.remaining self.old.inlet.now self.new.inlet.now size
-            self.old.ahead.now.items self.new.ahead.now.items self.new.block.now.items) }
-        ensures short { IfOk result (λ full. full ≡ false → FallsShort R.remaining self.old.inlet.now self.new.inlet.now
-            size self.old.ahead.now.items) }
-        ensures pace { IfErr result (λ f. StopsReading f → inlet_given self.new.inlet.now
-            + length self.old.ahead.now.items ≤ inlet_given self.old.inlet.now + size) }
+        ensures ok { IfOk result (λ full. full ≡ true → FillsBlock R.remaining self.old self.new size) }
+        ensures short { IfOk result (λ full. full ≡ false → EndsBefore R.remaining self.old self.new size) }
+        ensures pace { IfErr result (StopsWithin self.old self.new size) }
         ensures counts { Counts self.old self.new result }
         ensures fault { IfErr result IsReadingFault }
     {
@@ -207,12 +203,10 @@ impl<'a, R: Read> SoundReader<'a, R> {
         requires reading { IsReading self.old }
         ensures same { IsSame self.old self.new }
         ensures reading { OnOk result (IsReading self.new) }
-        ensures read { IfOk result (λ n. (read : List ℕ) × Reads R.remaining self.old.inlet.now self.new.inlet.now read
-            × (n ≡ length read) × (self.new.ahead.now.items ≡ self.old.ahead.now.items ++ read)) }
+        ensures read { IfOk result (BuffersMore R.remaining self.old self.new) }
         ensures end { IfOk result (λ n. n ≡ 0 → IsAtEnd (R.remaining (inlet_reader self.new.inlet.now))) }
         ensures turn { IfOk result (λ n. inlet_reads self.new.inlet.now ≡ inlet_reads self.old.inlet.now + 1) }
-        ensures none { IfErr result (λ f. StopsReading f
-            → inlet_given self.new.inlet.now ≡ inlet_given self.old.inlet.now) }
+        ensures none { IfErr result (λ f. StopsReading f → CountsNoByte self.old self.new) }
         ensures counts { Counts self.old self.new result }
         ensures fault { IfErr result IsReadingFault }
     {
@@ -229,8 +223,7 @@ impl<'a, R: Read> SoundReader<'a, R> {
         requires reading { IsReading self.old }
         ensures same { IsSame self.old self.new }
         ensures reading { OnOk result (IsReading self.new) }
-        ensures read { OnOk result (ReadsUntil R.remaining self.old.inlet.now self.new.inlet.now
-            self.old.ahead.now.items self.new.ahead.now.items wanted) }
+        ensures read { OnOk result (BuffersUntil R.remaining self.old self.new wanted) }
         ensures counts { Counts self.old self.new result }
         ensures fault { IfErr result IsReadingFault }
     {
@@ -268,8 +261,7 @@ impl<'a, R: Read> SoundReader<'a, R> {
     pub(crate) fn read_all(&mut self) -> Result<(), StreamFault>
         requires reading { IsReading self.old }
         ensures same { IsSame self.old self.new }
-        ensures read { OnOk result (ReadsAll R.remaining self.old.inlet.now self.new.inlet.now self.old.ahead.now.items
-            self.new.ahead.now.items) }
+        ensures read { OnOk result (BuffersAll R.remaining self.old self.new) }
         ensures counts { Counts self.old self.new result }
         ensures fault { IfErr result IsReadingFault }
     {
@@ -332,10 +324,8 @@ impl<'a, R: Read> SoundReader<'a, R> {
         requires reading { IsReading self.old }
         ensures same { IsSame self.old self.new }
         ensures reading { OnOk result (IsReading self.new) }
-        ensures ok { IfOk result (λ whole. whole ≡ true → Passes R.remaining self.old.inlet.now self.new.inlet.now
-            wanted self.old.ahead.now.items self.new.ahead.now.items) }
-        ensures short { IfOk result (λ whole. whole ≡ false → FallsShort R.remaining self.old.inlet.now
-            self.new.inlet.now wanted self.old.ahead.now.items) }
+        ensures ok { IfOk result (λ whole. whole ≡ true → PassesNext R.remaining self.old self.new wanted) }
+        ensures short { IfOk result (λ whole. whole ≡ false → EndsBefore R.remaining self.old self.new wanted) }
         ensures counts { Counts self.old self.new result }
         ensures fault { IfErr result IsReadingFault }
     {

@@ -1,10 +1,10 @@
 //! What takes a sound while its file is read once.
 
-ghost use Rattle.std.specs.Prelude.{◌≡◌, ◌+◌, ◌++◌, [], ℕ, List, IfErr, OnOk, length};
+ghost use Rattle.std.specs.Prelude.{◌≡◌, [], ℕ, List, IfErr, OnOk, length};
 ghost use Rattle.dsd_bits.specs.Sounds.{sound_size};
 ghost use Rattle.dsd_bits.specs.declared.sound.Sound.{Sound};
 ghost use Rattle.sound_core.specs.Faults.{IsSinkFault};
-ghost use Rattle.sound_core.specs.Sinks.{IsFed};
+ghost use Rattle.sound_core.specs.Sinks.{HasBefore, HasNext, IsFed, RefusesNext};
 ghost use Rattle.sound_core.specs.declared.fault.StreamFault.{StreamFault};
 
 use crate::fault::StreamFault;
@@ -33,13 +33,9 @@ pub trait SoundSink {
 
     /// Takes the bytes of the next part of the sound.
     fn take(&mut self, alloc: Global, part: SoundPart, bytes: &[u8]) -> Result<(), StreamFault>
-        requires fed { (first : Self) × (before : List ℕ) × IsFed part.sound part.done before
-            × has first self.old part.sound part.done before }
+        requires fed { HasBefore has part self.old }
         requires size { length bytes.now ≡ sound_size part.sound.interleaving part.sound.channels part.bits }
-        ensures has { OnOk result ((first : Self) (before : List ℕ) → IsFed part.sound part.done before
-            → has first self.old part.sound part.done before
-            → has first self.new part.sound (part.done + part.bits) (before ++ bytes.now)) }
+        ensures has { OnOk result (HasNext has part self.old self.new bytes.now) }
         ensures own { IfErr result IsSinkFault }
-        ensures refused { IfErr result (λ f. (first : Self) (before : List ℕ) → IsFed part.sound part.done before
-            → has first self.old part.sound part.done before → refused first self.new part.sound (before ++ bytes.now) f) };
+        ensures refused { IfErr result (RefusesNext has refused part self.old self.new bytes.now) };
 }

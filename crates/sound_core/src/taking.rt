@@ -1,17 +1,14 @@
 //! A sound taken by a sink while its file is read once.
 
-ghost use Rattle.std.specs.Prelude.{◌≡◌, ◌+◌, ◌-◌, ◌<◌, ◌≤◌, ◌^◌, ◌++◌, [], ℕ, List, Err, IfErr, IfOk, IsErrOf, OnOk, false, length, true};
-ghost use Rattle.chunk_core.specs.Inlets.{inlet_failures, inlet_given, inlet_reader, inlet_reads};
-ghost use Rattle.form_core.specs.Opening.{opened_of};
+ghost use Rattle.std.specs.Prelude.{◌≡◌, ◌+◌, ◌-◌, ◌<◌, ◌≤◌, ◌^◌, [], IfErr, IfOk, IsErrOf, OnOk};
+ghost use Rattle.chunk_core.specs.Inlets.{inlet_failures, inlet_reads};
 ghost use Rattle.form_core.specs.Steps.{map_err};
-ghost use Rattle.form_core.specs.declared.fault.ReadFault.{ReadFault};
 ghost use Rattle.sound_core.specs.Causes.{HasFront, IsNamed};
 ghost use Rattle.sound_core.specs.Faults.{failed_reads};
 ghost use Rattle.sound_core.specs.Files.{IsHeaderOf};
-ghost use Rattle.sound_core.specs.Naming.{IfRefusedAs, NamesFault, plain};
-ghost use Rattle.sound_core.specs.Outlines.{around_of};
+ghost use Rattle.sound_core.specs.Naming.{IfRefusedAs, IsCutFault, IsExactUnless, NamesFault, plain};
 ghost use Rattle.sound_core.specs.Readers.{Counts, IsAtStart, IsReading, IsSame, RunsOut};
-ghost use Rattle.sound_core.specs.Sinks.{EndsInPart, EndsShort, IsFed, RefusesFile, RefusesPart, StopsPart, StopsSound, StopsTaking, TakesFile, TakesGiven, TakesPart, TakesSome};
+ghost use Rattle.sound_core.specs.Sinks.{BreaksOff, CutsSound, EndsInRead, GivesOutline, HasBefore, IsFed, RefusesFile, RefusesRead, StopsFile, StopsRead, TakesOutline, TakesRead, TakesSound};
 
 use crate::cause::Cause;
 use crate::fault::{StreamFault, Unread};
@@ -45,14 +42,11 @@ pub fn read_into<R: Read, S: SoundSink>(
 ) -> Result<Outline, StreamFault>
     requires sink_ready { S.ready sink.old }
     // The reader's file is the outline with some sound, and the sink has its bytes.
-    ensures ok { IfOk result (λ o. TakesFile
-        (S.has sink.old sink.new) (R.remaining (inlet_reader inlet.old)) (around_of o)) }
+    ensures ok { IfOk result (TakesOutline (S.has sink.old sink.new) R.remaining inlet.old) }
     // The same of the bytes that were read, if the reader's bytes aren't known.
-    ensures any_reader { IfOk result (λ o. TakesGiven
-        (S.has sink.old sink.new) R.remaining inlet.old inlet.new (around_of o)) }
+    ensures any_reader { IfOk result (GivesOutline (S.has sink.old sink.new) R.remaining inlet.old inlet.new) }
     // A fault of the file applies, and the sink has what came before it, or refused that.
-    ensures fault { IfErr result (StopsTaking S.has S.refused (R.remaining (inlet_reader inlet.old))
-        (inlet_given inlet.old) (inlet_given inlet.new) sink.old sink.new) }
+    ensures fault { IfErr result (StopsFile R.remaining S.has S.refused inlet.old inlet.new sink.old sink.new) }
     ensures read_failed { inlet_failures inlet.new ≡ inlet_failures inlet.old + failed_reads result }
     // Whatever is returned, there were at most 2^40 reads.
     ensures reads { inlet_reads inlet.new ≤ inlet_reads inlet.old + 2 ^ 40 }
@@ -80,17 +74,14 @@ pub fn read_named<R: Read, S: SoundSink>(
     sink: &mut S,
 ) -> Result<Outline, Unread>
     requires sink_ready { S.ready sink.old }
-    ensures ok { IfOk result (λ o. TakesFile
-        (S.has sink.old sink.new) (R.remaining (inlet_reader inlet.old)) (around_of o)) }
-    ensures any_reader { IfOk result (λ o. TakesGiven
-        (S.has sink.old sink.new) R.remaining inlet.old inlet.new (around_of o)) }
+    ensures ok { IfOk result (TakesOutline (S.has sink.old sink.new) R.remaining inlet.old) }
+    ensures any_reader { IfOk result (GivesOutline (S.has sink.old sink.new) R.remaining inlet.old inlet.new) }
     // The first fault of what was read, and of the reader's file.
     ensures named { IfErr result (λ u. IfRefusedAs u (NamesFault R.remaining inlet.old inlet.new)) }
     // None is missing, but where the sink refused the file.
-    ensures exact { IfErr result (λ u. u ≡ Unread.Stream StreamFault.FileRefused
-        → RefusesFile S.refused sink.old sink.new) }
-    ensures fault { IfErr result (λ u. StopsTaking S.has S.refused (R.remaining (inlet_reader inlet.old))
-        (inlet_given inlet.old) (inlet_given inlet.new) sink.old sink.new (plain u)) }
+    ensures exact { IfErr result (IsExactUnless (RefusesFile S.refused sink.old sink.new)) }
+    ensures fault { IfErr result (λ u. StopsFile R.remaining S.has S.refused inlet.old inlet.new sink.old sink.new
+        (plain u)) }
     ensures read_failed { inlet_failures inlet.new ≡ inlet_failures inlet.old + failed_reads (map_err plain result) }
     ensures reads { inlet_reads inlet.new ≤ inlet_reads inlet.old + 2 ^ 40 }
     ensures turn_limit { IfErr result (λ u. plain u ≡ StreamFault.TurnLimit → RunsOut inlet.old inlet.new) }
@@ -118,16 +109,15 @@ fn take_file<R: Read, S: SoundSink>(
     requires start { IsAtStart reader.old }
     requires ready { S.ready sink.old }
     ensures same { IsSame reader.old reader.new }
-    ensures ok { IfOk result (λ o. TakesFile
-        (S.has sink.old sink.new) (R.remaining (inlet_reader reader.old.inlet.now)) (around_of o)) }
-    ensures any_reader { IfOk result (λ o. TakesGiven
-        (S.has sink.old sink.new) R.remaining reader.old.inlet.now reader.new.inlet.now (around_of o)) }
+    ensures ok { IfOk result (TakesOutline (S.has sink.old sink.new) R.remaining reader.old.inlet.now) }
+    ensures any_reader { IfOk result (GivesOutline (S.has sink.old sink.new) R.remaining reader.old.inlet.now
+        reader.new.inlet.now) }
     ensures named { IfErr result (IsNamed (RefusesFile S.refused sink.old sink.new) R.remaining
         reader.old.inlet.now reader.new) }
     ensures prefix { IfErr result (λ f. f ≡ StreamFault.FileRefused → HasFront reader.new.cause → sink.new ≡ sink.old) }
     ensures counts { Counts reader.old reader.new result }
-    ensures fault { IfErr result (StopsTaking S.has S.refused (R.remaining (inlet_reader reader.old.inlet.now))
-        (inlet_given reader.old.inlet.now) (inlet_given reader.new.inlet.now) sink.old sink.new) }
+    ensures fault { IfErr result (StopsFile R.remaining S.has S.refused reader.old.inlet.now reader.new.inlet.now
+        sink.old sink.new) }
 {
     let sound = read_header(alloc, reader)?;
     let head = reader.take_head(alloc, sound.start)?;
@@ -149,8 +139,7 @@ fn take_file<R: Read, S: SoundSink>(
 // The first fault of a file of so many bytes that begins with this head, and ends inside its sound.
 fn cut_in(sound: &Sound, head: &[u8], total: u64) -> ReadFault
     requires { IsHeaderOf head.now sound.now }
-    ensures { (rest : List ℕ) → length (head.now ++ rest) ≡ total → total < length head.now + sound.now.size
-        → opened_of (head.now ++ rest) ≡ Err result }
+    ensures { IsCutFault head.now sound.now total result }
 {
     if sound.interleaving.has_blocks() {
         return ReadFault::Dsf(DsfFault::DataCut);
@@ -171,14 +160,11 @@ fn take_sound<R: Read, S: SoundSink>(
     requires reading { IsReading reader.old }
     ensures same { IsSame reader.old reader.new }
     ensures reading { OnOk result (IsReading reader.new) }
-    ensures ok { IfOk result (λ whole. whole ≡ true → TakesSome R.remaining S.has sound reader.old.inlet.now
-        reader.new.inlet.now sink.old sink.new sound.count reader.old.ahead.now.items reader.new.ahead.now.items) }
-    ensures short { IfOk result (λ whole. whole ≡ false → EndsShort R.remaining S.has S.refused sound reader.old.inlet.now
-        reader.new.inlet.now sink.old sink.new reader.old.ahead.now.items) }
+    ensures ok { IfOk result (TakesSound R.remaining S.has sound reader.old reader.new sink.old sink.new) }
+    ensures short { IfOk result (CutsSound R.remaining S.has S.refused sound reader.old reader.new sink.old sink.new) }
     ensures own { IfErr result (λ f. f ≡ StreamFault.FileRefused → RefusesFile S.refused sink.old sink.new) }
     ensures counts { Counts reader.old reader.new result }
-    ensures fault { IfErr result (StopsSound R.remaining S.has S.refused sound reader.old.inlet.now reader.new.inlet.now
-        sink.old sink.new reader.old.ahead.now.items) }
+    ensures fault { IfErr result (BreaksOff R.remaining S.has S.refused sound reader.old reader.new sink.old sink.new) }
 {
     sink.begin(alloc, sound)?;
     let most = segment_bits(sound.channels);
@@ -201,21 +187,15 @@ fn take_part<R: Read, S: SoundSink>(
     sink: &mut S,
     reader: &mut SoundReader<'_, R>,
 ) -> Result<bool, StreamFault>
-    requires fed { (first : S) × (before : List ℕ) × IsFed part.sound part.done before
-        × S.has first sink.old part.sound part.done before }
+    requires fed { HasBefore S.has part sink.old }
     requires reading { IsReading reader.old }
     ensures same { IsSame reader.old reader.new }
     ensures reading { OnOk result (IsReading reader.new) }
-    ensures ok { IfOk result (λ full. full ≡ true → TakesPart R.remaining S.has reader.old.inlet.now
-        reader.new.inlet.now sink.old sink.new part reader.old.ahead.now.items reader.new.ahead.now.items) }
-    ensures short { IfOk result (λ full. full ≡ false → EndsInPart R.remaining reader.old.inlet.now
-        reader.new.inlet.now sink.old sink.new part reader.old.ahead.now.items) }
-    ensures own { IfErr result (λ f. f ≡ StreamFault.FileRefused → RefusesPart R.remaining S.has S.refused
-        reader.old.inlet.now reader.new.inlet.now sink.old sink.new part reader.old.ahead.now.items
-        reader.new.ahead.now.items f) }
+    ensures ok { IfOk result (TakesRead R.remaining S.has reader.old reader.new sink.old sink.new part) }
+    ensures short { IfOk result (EndsInRead R.remaining reader.old reader.new sink.old sink.new part) }
+    ensures own { IfErr result (RefusesRead R.remaining S.has S.refused reader.old reader.new sink.old sink.new part) }
     ensures counts { Counts reader.old reader.new result }
-    ensures fault { IfErr result (StopsPart R.remaining S.has S.refused reader.old.inlet.now reader.new.inlet.now
-        sink.old sink.new part reader.old.ahead.now.items reader.new.ahead.now.items) }
+    ensures fault { IfErr result (StopsRead R.remaining S.has S.refused reader.old reader.new sink.old sink.new part) }
 {
     let size = segment_size(part.sound.interleaving, part.sound.channels, part.bits);
     if !reader.fill(size)? {

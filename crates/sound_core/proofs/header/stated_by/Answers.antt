@@ -1,4 +1,3 @@
-use Rattle.std.proofs.Common.{◌≡◌}
 use Rattle.dsd_bits.specs.declared.sound.SoundAt.TheVariants.{More, Found}
 use Rattle.sound_core.proofs.NamingLaws.{form_before, form_found, form_more, lost_refuses, past_refuses, unstated_refuses}
 use Rattle.sound_core.proofs.header.stated_by.Goals as goal

@@ -1,5 +1,3 @@
-use Rattle.std.proofs.Common.{◌≡◌, ◌∙◌, ap, sym}
-use Rattle.std.specs.Prelude.{Err}
 use Rattle.sound_core.proofs.NamingLaws.{blocks_before, blocks_more, blocks_named, blocks_refuse, blocks_state}
 use Rattle.sound_core.proofs.header.stated_by_blocks.Goals as goal
 

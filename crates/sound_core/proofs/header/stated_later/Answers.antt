@@ -1,4 +1,4 @@
-use Rattle.std.proofs.Common.{◌++◌, arith}
+use Rattle.std.proofs.Common.{◌++◌}
 use Rattle.sound_core.proofs.NamingLaws.{faulty_refuses}
 use Rattle.sound_core.proofs.header.stated_later.Goals as goal
 

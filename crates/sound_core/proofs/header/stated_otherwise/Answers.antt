@@ -1,4 +1,3 @@
-use Rattle.std.proofs.Common.{◌≡◌}
 use Rattle.sound_core.proofs.NamingLaws.{form_named, refused_by}
 use Rattle.sound_core.proofs.header.stated_otherwise.Goals as goal
 

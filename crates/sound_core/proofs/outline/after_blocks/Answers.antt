@@ -3,9 +3,9 @@ use Rattle.dsf_core.specs.Headers.{IsOutline}
 use Rattle.dsf_core.specs.declared.fault.DsfFault.TheVariants.{BadPointer}
 use Rattle.form_core.specs.declared.fault.ReadFault.TheVariants.{Dsf}
 use Rattle.sound_core.proofs.FaultLaws.{fault_is, memory_unnamed}
-use Rattle.sound_core.proofs.AfterLaws.{blocks_around, blocks_around_named, blocks_refused, dsf_not_accepted, tag_fault, tag_named}
+use Rattle.sound_core.proofs.TagLaws.{blocks_around, blocks_around_named, blocks_refused, dsf_not_accepted, tag_fault, tag_named}
 use Rattle.sound_core.proofs.ClosingLaws.{ends, has_order}
-use Rattle.sound_core.proofs.ReaderLaws.{counts_ok, counts_refused, counts_want, same_counts}
+use Rattle.sound_core.proofs.ReaderLaws.{counts_ok, counts_refused, counts_want}
 use Rattle.sound_core.specs.declared.outline.AfterSound.{AfterSound}
 use Rattle.sound_core.proofs.outline.after_blocks.Goals as goal
 

@@ -7,11 +7,10 @@ use Rattle.sound_core.specs.Outlines.{IsRestFault}
 use Rattle.sound_core.proofs.AfterLaws.{IsAfterSound, fails_is, frames_around, frames_named, frames_refused, is_after, not_memory}
 use Rattle.sound_core.proofs.ClosingLaws.{form_ends_at}
 use Rattle.sound_core.proofs.FaultLaws.{by_reading, fault_is, reading_unnamed}
-use Rattle.sound_core.proofs.ReaderLaws.{counts_kept, counts_kept_refused, counts_memory, same_counts}
+use Rattle.sound_core.proofs.ReaderLaws.{counts_kept, same_counts}
 use Rattle.dsdiff_core.specs.Located.{stated_size}
 use Rattle.dsdiff_core.specs.Reading.{recording_of}
 use Rattle.dsdiff_core.specs.Steps.{Fails}
-use Rattle.sound_core.specs.declared.outline.AfterSound.{AfterSound}
 use Rattle.sound_core.proofs.NamingLaws.{no_recording}
 use Rattle.dsdiff_core.proofs.HeadLaws.{ends_at_head}
 use Rattle.sound_core.proofs.outline.after_frames.Given.{Over}

@@ -1,6 +1,6 @@
 use Rattle.std.proofs.Common.{◌-◌, ℕ, [], inl, arith, refl}
 use Rattle.chunk_core.specs.Inlets.{inlet_reader}
-use Rattle.sound_core.proofs.AfterLaws.{short_at_tag, short_in_tag}
+use Rattle.sound_core.proofs.TagLaws.{short_at_tag, short_in_tag}
 use Rattle.sound_core.proofs.FaultLaws.{early_tag, fault_is, reading_in_tag, reading_unnamed}
 use Rattle.sound_core.proofs.ReadLaws.{reads_none}
 use Rattle.sound_core.proofs.OutlineLaws.{tag_none, tag_some}

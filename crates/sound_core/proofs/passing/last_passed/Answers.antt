@@ -1,4 +1,4 @@
-use Rattle.std.proofs.Common.{◌≡◌, ◌+◌, ◌-◌, ◌≤◌, ◌<◌, ℕ, ap, arith, inl, inr, length, length-append, length-drop, refl}
+use Rattle.std.proofs.Common.{◌+◌, ◌≤◌, ap, arith, inl, inr, length, length-append, length-drop, refl}
 use Rattle.std.proofs.lemmas.Bool.{cases_lt}
 use Rattle.dsdiff_core.specs.Faulty.{next_place}
 use Rattle.dsdiff_core.specs.Fields.{form_end}

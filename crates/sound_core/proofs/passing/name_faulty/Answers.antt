@@ -1,5 +1,4 @@
-use Rattle.std.proofs.Common.{◌≡◌, ◌+◌, ℕ, ap, arith, length, subst, sym}
-use Rattle.chunk_core.specs.Inlets.{inlet_given}
+use Rattle.std.proofs.Common.{subst, sym}
 use Rattle.chunk_core.specs.declared.inlet.Inlet.{Inlet}
 use Rattle.sound_core.specs.Reads.{Reads}
 use Rattle.sound_core.proofs.ReaderLaws.{same_on}

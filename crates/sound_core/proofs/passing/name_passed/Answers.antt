@@ -1,6 +1,5 @@
-use Rattle.std.proofs.Common.{◌≡◌, ◌-◌, ◌<◌, ◌++◌, ℕ, List, arith, refl}
-use Rattle.chunk_core.specs.Inlets.{inlet_given}
-use Rattle.sound_core.specs.Passing.{EndLater, EndsOn, GoesOn, WalksTo}
+use Rattle.std.proofs.Common.{◌<◌, ◌++◌, arith, refl}
+use Rattle.sound_core.specs.Passing.{EndsOn}
 use Rattle.sound_core.specs.declared.passing.Passed.TheVariants as passed
 use Rattle.sound_core.proofs.FaultLaws.{fault_is}
 use Rattle.sound_core.proofs.PassingLaws.{ends_named, on_end, on_now, walks_after}

@@ -1,16 +1,13 @@
-use Rattle.std.proofs.Common.{[], ◌≡◌, ◌+◌, ◌-◌, ◌≤◌, ◌<◌, ◌++◌, ◌∙◌, ◌^◌, ℕ, List, ap, arith, inl, inr, length, refl, subst, sym}
+use Rattle.std.proofs.Common.{[], ◌≡◌, ◌+◌, ◌≤◌, ◌<◌, ◌++◌, ◌∙◌, ◌^◌, ℕ, List, ap, arith, inl, inr, length, refl, subst, sym}
 use Rattle.std.specs.Io.KnownBytes.{IsAtEnd}
-use Rattle.chunk_core.specs.Inlets.{inlet_failures, inlet_given, inlet_reader}
-use Rattle.dsdiff_core.specs.declared.faulty.FaultyStart.{FaultyStart}
-use Rattle.dsdiff_core.specs.Faulty.{AreNext, EndsInNext, IsFaulty, next_place}
-use Rattle.dsdiff_core.specs.Headers.{size_at}
-use Rattle.sound_core.specs.Passing.{IsOn}
+use Rattle.chunk_core.specs.Inlets.{inlet_failures, inlet_reader}
+use Rattle.dsdiff_core.specs.Faulty.{AreNext, IsFaulty, next_place}
 use Rattle.sound_core.specs.declared.passing.Passed.TheVariants as passed
 use Rattle.std.proofs.lemmas.Bool.{cases_lt}
 use Rattle.sound_core.specs.Readers.{FallsShort, Passes}
 use Rattle.sound_core.proofs.FaultLaws.{fault_is}
 use Rattle.sound_core.proofs.PassingLaws.{after_all, chunk_cut, ends_here, faulty_here, form_passed, next_enough, next_here, no_head, on_later, on_short, pad_missing, pad_passed, walks_after}
-use Rattle.sound_core.proofs.ReaderLaws.{counts_later, counts_ok, same_counts, same_on}
+use Rattle.sound_core.proofs.ReaderLaws.{counts_later, same_counts}
 use Rattle.sound_core.proofs.passing.pass_chunk.Goals as goal
 
 pub read_until-requires : goal.read_until-requires

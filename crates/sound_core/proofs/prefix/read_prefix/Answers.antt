@@ -1,10 +1,11 @@
-use Rattle.std.proofs.Common.{◌∙◌, ap, arith, subst, sym}
-use Rattle.std.specs.Prelude.{IfErr, Result, ⊤}
+use Rattle.std.proofs.Common.{◌∙◌, ap, arith, inr, subst, sym}
+use Rattle.std.specs.Prelude.{Err, Result, ⊤}
 use Rattle.chunk_core.specs.Inlets.{inlet_failures, inlet_reader, inlet_reads}
 use Rattle.dsd_bits.specs.declared.sound.Sound.{Sound}
 use Rattle.sound_core.specs.Files.{IsHeaderFault}
 use Rattle.sound_core.specs.Naming.{IfRefusedAs, NamesFault, plain}
 use Rattle.sound_core.specs.Readers.{CountsFault}
+use Rattle.sound_core.specs.declared.fault.StreamFault.{StreamFault}
 use Rattle.sound_core.proofs.CauseLaws.{cause_on, header_exact, header_unread}
 use Rattle.sound_core.proofs.ReaderLaws.{same_counts}
 use Rattle.sound_core.proofs.prefix.read_prefix.Given.{Over}
@@ -49,3 +50,9 @@ returns-clause-reads g c =
     let at = (goal.at.returns-clause-reads g c).After-unread in
     let is = sym (c.inlet-in-Err-1.given.1 (sym (c.unread.ensures.same.reference ∙ c.read_header.ensures.same.reference ∙ c.new-reader.ensures.reference))) in
     omega (arith, (counts_are g at).most, ap inlet_reads is, c.new-reader.ensures.limit)
+
+pub returns-clause-turn_limit : goal.returns-clause-turn_limit
+returns-clause-turn_limit g c = λ turn.
+    let at = (goal.at.returns-clause-turn_limit g c).After-unread in
+    let is = sym (c.inlet-in-Err-1.given.1 (sym (c.unread.ensures.same.reference ∙ c.read_header.ensures.same.reference ∙ c.new-reader.ensures.reference))) in
+    inr (sym (ap inlet_reads is) ∙ (counts_are g at).turns (ap (λ (f : StreamFault). let r : Result (Unit {0}) StreamFault = Err f in r) turn) ∙ c.new-reader.ensures.limit)

@@ -1,4 +1,4 @@
-use Rattle.std.proofs.Common.{◌≡◌, ◌∙◌, arith, sym}
+use Rattle.std.proofs.Common.{arith, sym}
 use Rattle.dsdiff_core.proofs.CutLaws.{head_is_chunk}
 use Rattle.dsdiff_core.proofs.HeadLaws.{ends_at_head}
 use Rattle.sound_core.proofs.ClosingLaws.{form_ends_at, has_order, no_order}

@@ -1,9 +1,7 @@
-use Rattle.std.proofs.Common.{◌≡◌, ◌++◌, ◌∙◌, ℕ, ap, arith, inl, inr, length, refl, subst, sym, take}
-use Rattle.chunk_core.specs.Inlets.{inlet_reader}
+use Rattle.std.proofs.Common.{◌≡◌, ◌++◌, ◌∙◌, ℕ, ap, arith, inl, inr, length, refl, sym, take}
 use Rattle.dsd_bits.specs.Sounds.{sound_size}
-use Rattle.sound_core.specs.Readers.{FallsShort, Fills, Passes}
+use Rattle.sound_core.specs.Readers.{Fills, Passes}
 use Rattle.sound_core.proofs.FaultLaws.{fault_is, reading_in_pass, reading_unnamed}
-use Rattle.sound_core.proofs.ReaderLaws.{counts_own}
 use Rattle.sound_core.proofs.taking.take_part.Given.{Over}
 use Rattle.sound_core.proofs.taking.take_part.Goals as goal
 use Rattle.sound_core.proofs.taking.take_part.Goals.{After-split_at}

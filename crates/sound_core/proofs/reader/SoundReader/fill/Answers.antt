@@ -1,4 +1,4 @@
-use Rattle.std.proofs.Common.{◌≡◌, ◌<◌, ◌++◌, [], ◌∙◌, ap, append-nil, append_assoc, arith, length, length-append, length-take, subst, sym, take}
+use Rattle.std.proofs.Common.{◌≡◌, ◌++◌, [], ◌∙◌, ap, append-nil, append_assoc, arith, length-append, length-take, subst, sym, take}
 use Rattle.chunk_core.specs.Inlets.{inlet_failures}
 use Rattle.sound_core.specs.Reads.{Reads}
 use Rattle.sound_core.proofs.FaultLaws.{fault_is}

@@ -21,6 +21,7 @@ pub mod PartNewLaws
 pub mod PartPieceLaws
 pub mod PartPlayLaws
 pub mod PartSinkLaws
+pub mod PartFileLaws
 pub mod PartFaultLaws
 pub mod FaultLaws
 pub mod WaveLaws

@@ -1,5 +1,5 @@
 -- Which faults of a part are true, by where they arose.
-use Rattle.std.proofs.Common.{ℕ, ◌-◌, ◌<◌, ◌≤◌, ◌^◌, inl, inr, List, ◌++◌, Option, None, Some, IfSome, refl, subst}
+use Rattle.std.proofs.Common.{ℕ, ◌-◌, ◌<◌, ◌≤◌, ◌^◌, inl, inr, List, ◌++◌, Option, None, Some, IfSome, arith, refl, subst}
 use Rattle.dsd_bits.specs.declared.sound.Sound.{Sound}
 use Rattle.fir_core.specs.Decimator.{Decimator}
 use Rattle.wave_core.specs.Sizes.{riff_size}
@@ -9,8 +9,7 @@ use Rattle.sound_core.specs.Outlines.{IsOutlineFault}
 use Rattle.sound_core.specs.declared.fault.StreamFault.{StreamFault}
 use Rattle.sound_core.specs.declared.fault.StreamFault.TheVariants.{FileRefused, RateNotDivided, TooLarge, ReadFailed, WriteFailed, TurnLimit, Memory}
 use Rattle.sound_core.proofs.FaultLaws.{by_writing}
-use Rattle.player_core.specs.Laws.{total_frames}
-use Rattle.player_core.specs.PartPlaying.{AppliesToPart}
+use Rattle.player_core.specs.PartPlaying.{AppliesToPart, IsInside}
 use Rattle.player_core.specs.Parts.{frames_sound}
 use Rattle.player_core.specs.PartSinks.{IsPartOpeningFault}
 use Rattle.player_core.specs.Wave.{IsOpeningFault}
@@ -28,10 +27,10 @@ part_outline_holds (Some xs) d start stop TurnLimit h = tt
 part_outline_holds (Some xs) d start stop Memory h = tt
 
 -- ---- where the header is written
-pub part_opening : (d : Decimator) (s : Sound) (start stop : ℕ) → 0 < d.factor → stop - start ≤ total_frames d s → (f : StreamFault) → IsOpeningFault d (frames_sound d s (stop - start)) f → IsPartOpeningFault d s start stop f
+pub part_opening : (d : Decimator) (s : Sound) (start stop : ℕ) → 0 < d.factor → IsInside d s start stop → (f : StreamFault) → IsOpeningFault d (frames_sound d s (stop - start)) f → IsPartOpeningFault d s start stop f
 part_opening d s start stop some inside FileRefused h = absurd h
 part_opening d s start stop some inside RateNotDivided h = h
-part_opening d s start stop some inside TooLarge h = subst (λ n. 2 ^ 32 ≤ riff_size s.channels d.width n) (frames_number d s (stop - start) some inside) h.1
+part_opening d s start stop some inside TooLarge h = (inside, h.0, subst (λ n. 2 ^ 32 ≤ riff_size s.channels d.width n) (frames_number d s (stop - start) some (omega (arith, inside.0, inside.1))) h.1)
 part_opening d s start stop some inside ReadFailed h = absurd h
 part_opening d s start stop some inside WriteFailed h = tt
 part_opening d s start stop some inside TurnLimit h = absurd h
@@ -40,7 +39,7 @@ part_opening d s start stop some inside Memory h = tt
 pub part_opening_holds : (d : Decimator) (prefix rest : List ℕ) (s : Sound) (start stop : ℕ) → LeadsToSound prefix s → (f : StreamFault) → IsPartOpeningFault d s start stop f → AppliesToPart d start stop (prefix ++ rest) f
 part_opening_holds d prefix rest s start stop states FileRefused h = inr (record { prefix = prefix; rest = rest; sound = s; file_is = refl; states = states; outside = h })
 part_opening_holds d prefix rest s start stop states RateNotDivided h = record { prefix = prefix; rest = rest; sound = s; file_is = refl; states = states; not_divided = h }
-part_opening_holds d prefix rest s start stop states TooLarge h = record { prefix = prefix; rest = rest; sound = s; file_is = refl; states = states; large = h }
+part_opening_holds d prefix rest s start stop states TooLarge h = record { prefix = prefix; rest = rest; sound = s; file_is = refl; states = states; inside = h.0; divided = h.1; large = h.2 }
 part_opening_holds d prefix rest s start stop states ReadFailed h = absurd h
 part_opening_holds d prefix rest s start stop states WriteFailed h = tt
 part_opening_holds d prefix rest s start stop states TurnLimit h = absurd h

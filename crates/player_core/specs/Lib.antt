@@ -10,6 +10,7 @@ pub mod PartPieces
 pub mod PartPlaying
 pub mod PartSinks
 pub mod PausedView
+pub mod Outlets
 pub mod Wave
 pub mod Pieces
 pub mod Playing

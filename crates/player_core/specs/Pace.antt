@@ -8,7 +8,9 @@ use Rattle.wave_core.specs.Sizes.{block_align, header_size}
 use Rattle.sound_core.specs.Files.{LeadsToSound}
 use Rattle.sound_core.specs.Sinks.{sound_given}
 use Rattle.player_core.specs.Playing.{PlaysBy, Applies, WritesPrefix}
+use Rattle.chunk_core.specs.Inlets.{inlet_given, inlet_reader}
 use Rattle.chunk_core.specs.Outlets.{outlet_failures, outlet_writer}
+use Rattle.chunk_core.specs.declared.inlet.Inlet.{Inlet}
 use Rattle.chunk_core.specs.declared.outlet.Outlet.{Outlet}
 use Rattle.sound_core.specs.Faults.{IsBeforeWriting, StopsReading, failed_writes}
 use Rattle.sound_core.specs.declared.fault.StreamFault.{StreamFault}
@@ -32,6 +34,12 @@ WritesFrames d s n bytes held_old held_new = (prefix : List ℕ) × (back : List
 abbrev pub KeepsUpBy : Option (List ℕ) → Decimator → List ℕ → ℕ → Option (List ℕ) → Option (List ℕ) → Type 0
 KeepsUpBy left_old d prefix given held_old held_new = IfSome left_old (λ left. (bytes : List ℕ) (s : Sound) → PlaysBy d (prefix ++ left) bytes → LeadsToSound (prefix ++ left) s → 131072 < sound_given s given
     → WritesFrames d s (sound_given s given - 131072) bytes held_old held_new)
+
+-- if this fault stops the reading, what was written lags what was read by at most 131,072 bytes of the sound, as
+-- `KeepsUpBy` says
+abbrev pub Lags : {R W : Type 0} → (R → Option (List ℕ)) → (W → Option (List ℕ)) → Decimator → Inlet R → Inlet R → Outlet W → Outlet W → StreamFault → Type 0
+Lags left held d inlet_old inlet_new old new f = StopsReading f
+    → KeepsUpBy (left (inlet_reader inlet_old)) d [] (inlet_given inlet_new - inlet_given inlet_old) (held (outlet_writer old)) (held (outlet_writer new))
 
 -- ---- stages
 

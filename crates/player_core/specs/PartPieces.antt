@@ -1,9 +1,13 @@
 -- A part of a sound that is played piece by piece.
-use Rattle.std.specs.Prelude.{◌≡◌, ℕ, List, ◌++◌, length, Option}
+use Rattle.std.specs.Prelude.{◌≡◌, ℕ, ◌-◌, List, ◌++◌, drop, length, Option}
 use Rattle.std.specs.Io.KnownBytes.{Appends}
 use Rattle.chunk_core.specs.Outlets.{AppendsPrefix}
-use Rattle.player_core.specs.PartView.{IsPartFed, part_all, part_due, part_rest}
+use Rattle.player_core.specs.PartView.{IsPartFed, part_all, part_due, part_rest, part_start}
 use Rattle.player_core.specs.declared.parts.PartPlayer.{PartPlayer}
+
+-- the bytes of a piece that are in the part's rest, if `came` bytes of the sound came before the piece
+abbrev pub rest_piece : PartPlayer → ℕ → List ℕ → List ℕ
+rest_piece p came piece = drop (part_start p - came) piece
 
 -- after whatever bytes of the rest the player was fed, it was fed these, and what of the part was due then and not
 -- before was written

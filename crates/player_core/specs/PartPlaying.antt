@@ -39,6 +39,10 @@ pub record PlaysPartBy (d : Decimator) (start stop : ℕ) (file bytes : List ℕ
   pub inside : stop ≤ frame_count d recording.channels
   pub text : wave_text (part_pcm recording d start stop) ≡ Some bytes
 
+-- the part lies in a sound
+abbrev pub IsInside : Decimator → Sound → ℕ → ℕ → Type 0
+IsInside d s start stop = (start ≤ stop) × (stop ≤ total_frames d s)
+
 -- the part lies outside of a sound
 abbrev pub IsOutside : Decimator → Sound → ℕ → ℕ → Type 0
 IsOutside d s start stop = (stop < start) ⊎ (total_frames d s < stop)
@@ -52,14 +56,16 @@ pub record IsOutsideOf (d : Decimator) (start stop : ℕ) (file : List ℕ) : Ty
   pub states : LeadsToSound prefix sound
   pub outside : IsOutside d sound start stop
 
--- the prefix of the file tells of a sound whose rate the factor divides, and the sizes of the part's WAVE file do not
--- fit
+-- the prefix of the file tells of a sound in which the part lies and whose rate the factor divides, and the sizes of the
+-- part's WAVE file do not fit
 pub record IsPartTooLarge (d : Decimator) (start stop : ℕ) (file : List ℕ) : Type 0 where
   pub prefix : List ℕ
   pub rest : List ℕ
   pub sound : Sound
   pub file_is : file ≡ prefix ++ rest
   pub states : LeadsToSound prefix sound
+  pub inside : IsInside d sound start stop
+  pub divided : sound.rate % d.factor ≡ 0
   pub large : 2 ^ 32 ≤ riff_size sound.channels d.width (stop - start)
 
 -- this fault of playing a part stands
@@ -71,6 +77,10 @@ AppliesToPart d start stop file ReadFailed = ⊤
 AppliesToPart d start stop file WriteFailed = ⊤
 AppliesToPart d start stop file TurnLimit = ⊤
 AppliesToPart d start stop file Memory = ⊤
+
+-- this fault of playing a part stands for the reader's file, if that is known
+abbrev pub AppliesToPartBy : Option (List ℕ) → Decimator → ℕ → ℕ → StreamFault → Type 0
+AppliesToPartBy left d start stop f = IfSome left (λ file. AppliesToPart d start stop file f)
 
 -- a file whose part is played is refused for memory, a device or the number of reads alone
 abbrev pub PartOnlyFromOutsideBy : Option (List ℕ) → Decimator → ℕ → ℕ → StreamFault → Type 0

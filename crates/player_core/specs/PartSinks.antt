@@ -1,7 +1,9 @@
 -- What plays a part of a sound to an outlet while its file is read.
 use Rattle.std.specs.Prelude.{◌≡◌, ◌≢◌, ◌⊎◌, ℕ, ◌+◌, ◌-◌, ◌%◌, ◌<◌, ◌≤◌, ◌^◌, List, [], ◌++◌, drop, length, Option, Some, Err, ⊤}
 use Rattle.std.specs.Io.KnownBytes.{Appends}
+use Rattle.chunk_core.specs.Inlets.{inlet_reader}
 use Rattle.chunk_core.specs.Outlets.{AppendsPrefix, outlet_failures, outlet_writer}
+use Rattle.chunk_core.specs.declared.inlet.Inlet.{Inlet}
 use Rattle.dsd_bits.specs.declared.sound.Sound.{Sound}
 use Rattle.dsd_bits.specs.Sounds.{IsSound}
 use Rattle.fir_core.specs.Decimator.{Decimator}
@@ -10,9 +12,10 @@ use Rattle.sound_core.specs.Faults.{IsBeforeWriting, failed_writes}
 use Rattle.sound_core.specs.declared.fault.StreamFault.{StreamFault}
 use Rattle.sound_core.specs.declared.fault.StreamFault.TheVariants.{FileRefused, RateNotDivided, TooLarge, WriteFailed, Memory}
 use Rattle.player_core.specs.Laws.{total_frames}
-use Rattle.player_core.specs.PartPlaying.{IsOutside}
+use Rattle.player_core.specs.PartPlaying.{IsInside, IsOutside, PartFails, PlaysPartBy}
 use Rattle.player_core.specs.Parts.{frames_sound, part_file}
 use Rattle.player_core.specs.PartView.{IsPartComplete, IsPartFed, IsPartOf, IsPartPlayer, part_due, part_start}
+use Rattle.player_core.specs.Playing.{PlaysReadTo, PlaysTo}
 use Rattle.player_core.specs.Wave.{sound_header}
 use Rattle.player_core.specs.declared.part_sink.PartSink.{PartSink}
 use Rattle.player_core.specs.declared.parts.PartPlayer.{PartPlayer}
@@ -51,12 +54,12 @@ pub record IsPlayingPart {W : Type 0} (held : W → Option (List ℕ)) (first no
   pub feeding : IsFeedingPart held first now s looked_at
   pub all_or_complete : (passed_over ≡ []) ⊎ IsPartComplete feeding.player
 
--- a fault of the part's header: the part lies outside of the sound, the factor does not divide the rate, the part's
--- sizes do not fit, or the header is not written
+-- a fault of the part's header: the part lies outside of the sound; the factor does not divide the rate; neither is so,
+-- but the part's sizes do not fit; or the header is not written
 abbrev pub IsPartOpeningFault : Decimator → Sound → ℕ → ℕ → StreamFault → Type 0
 IsPartOpeningFault d s start stop FileRefused = IsOutside d s start stop
 IsPartOpeningFault d s start stop RateNotDivided = s.rate % d.factor ≢ 0
-IsPartOpeningFault d s start stop TooLarge = 2 ^ 32 ≤ riff_size s.channels d.width (stop - start)
+IsPartOpeningFault d s start stop TooLarge = IsInside d s start stop × (s.rate % d.factor ≡ 0) × (2 ^ 32 ≤ riff_size s.channels d.width (stop - start))
 IsPartOpeningFault d s start stop WriteFailed = ⊤
 IsPartOpeningFault d s start stop Memory = ⊤
 IsPartOpeningFault d s start stop _ = ⊥
@@ -75,3 +78,17 @@ pub record FinishesPlayingPart {W : Type 0} (held : W → Option (List ℕ)) (fi
   pub same : now.outlet.ghost_name ≡ first.outlet.ghost_name
   pub written : Appends (held (outlet_writer first.outlet.now)) (held (outlet_writer now.outlet.now)) (part_file first.taps.now s first.start first.stop bytes)
   pub failures : outlet_failures now.outlet.now ≡ outlet_failures first.outlet.now
+
+-- ---- a file that is read into the sink
+
+-- what the part of the inlet's file plays was written
+abbrev pub PartSinkPlays : {R W : Type 0} → (R → Option (List ℕ)) → (W → Option (List ℕ)) → Inlet R → PartSink W → PartSink W → ℕ → Type 0
+PartSinkPlays left held inlet old new = PlaysTo left held (PlaysPartBy old.taps.now old.start old.stop) inlet old.outlet.now new.outlet.now
+
+-- what the part of the bytes plays that were read from the inlet was written
+abbrev pub PartSinkPlaysRead : {R W : Type 0} → (R → Option (List ℕ)) → (W → Option (List ℕ)) → Inlet R → Inlet R → PartSink W → PartSink W → ℕ → Type 0
+PartSinkPlaysRead left held inlet_old inlet_new old new = PlaysReadTo left held (PlaysPartBy old.taps.now old.start old.stop) inlet_old inlet_new old.outlet.now new.outlet.now
+
+-- why the part of the inlet's file is not played to its end
+abbrev pub PartSinkFails : {R W : Type 0} → (R → Option (List ℕ)) → (W → Option (List ℕ)) → Inlet R → PartSink W → PartSink W → StreamFault → Type 0
+PartSinkFails left held inlet old new f = PartFails held (left (inlet_reader inlet)) old.taps.now old.start old.stop old.outlet.now new.outlet.now f

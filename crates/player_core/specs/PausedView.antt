@@ -1,6 +1,7 @@
 -- What a player of a part holds beside its filter.
-use Rattle.std.specs.Prelude.{◌≡◌}
-use Rattle.player_core.specs.PartView.{part_fed, part_rest}
+use Rattle.std.specs.Prelude.{◌≡◌, ℕ, List}
+use Rattle.fir_core.specs.Decimator.{Decimator}
+use Rattle.player_core.specs.PartView.{IsPartFed, IsPartPlayer, part_fed, part_filter, part_rest}
 use Rattle.player_core.specs.declared.player.Player.{Player}
 use Rattle.player_core.specs.declared.parts.PartPlayer.{PartPlayer}
 use Rattle.player_core.specs.declared.pausing.PausedPart.{PausedPart}
@@ -28,3 +29,11 @@ pub record IsSamePlace (old new : PartPlayer) : Type 0 where
   pub start : new.start ≡ old.start
   pub skip : new.skip ≡ old.skip
   pub stop : new.stop ≡ old.stop
+
+-- the new player can play on, if the one that was paused could, by this filter
+abbrev pub ResumesReady : PausedPart → Decimator → PartPlayer → Type 0
+ResumesReady q d new = (p : PartPlayer) → IsPausedPart p q → part_filter p ≡ d → IsPartPlayer p → IsPartPlayer new
+
+-- the new player was fed what the one that was paused was fed, by this filter
+abbrev pub ResumesFed : PausedPart → Decimator → PartPlayer → Type 0
+ResumesFed q d new = (p : PartPlayer) (bytes : List ℕ) → IsPausedPart p q → part_filter p ≡ d → IsPartFed p bytes → IsPartFed new bytes

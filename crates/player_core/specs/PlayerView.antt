@@ -6,12 +6,13 @@ use Rattle.dsd_bits.specs.declared.interleaving.Interleaving.TheVariants.{Bytes}
 use Rattle.dsd_bits.specs.declared.sound.Sound.{Sound}
 use Rattle.dsd_bits.specs.Sounds.{IsSound}
 use Rattle.fir_core.specs.Decimator.{Decimator}
-use Rattle.fir_core.specs.Streams.{Fits}
+use Rattle.fir_core.specs.Streams.{Feeds, Fits}
 use Rattle.fir_core.specs.StreamView.{IsStream, state_of}
 use Rattle.fir_core.specs.declared.stream.Stream.{Stream}
 use Rattle.player_core.specs.Due.{all_bytes, bytes_known, channel_bytes, channel_whole, channels_known, due_bytes, frames_due}
 use Rattle.player_core.specs.Frames.{tile_of}
-use Rattle.player_core.specs.Groups.{group_size}
+use Rattle.player_core.specs.Groups.{channel_part, group_size}
+use Rattle.player_core.specs.declared.player.Part.{Part}
 use Rattle.player_core.specs.declared.player.Player.{Player}
 
 -- the filter by which a player plays
@@ -68,6 +69,22 @@ pub record IsPlayer (p : Player) : Type 0 where
   pub each : AreChannels p.taps.now p.sound.count (bytes_known p.sound p.fed) p.streams.items
   pub history : (bytes : List ℕ) × IsPlayerFed p bytes
 
+-- a player of the same sound by the same filter, which was fed as many bytes
+abbrev pub IsSamePlayer : Player → Player → Type 0
+IsSamePlayer old new = (new.taps ≡ old.taps) × (new.sound ≡ old.sound) × (new.fed ≡ old.fed)
+
+-- a player of the same sound by the same filter, which was fed n more bytes
+abbrev pub GoesOn : Player → Player → ℕ → Type 0
+GoesOn old new n = (filter_of new ≡ filter_of old) × (sound_of new ≡ sound_of old) × (fed_of new ≡ fed_of old + n)
+
+-- a stream was fed the first bytes of its channel in whole groups of sound bytes
+abbrev pub FeedsChannel : Stream → Stream → Part → List ℕ → List ℤ → List ℤ → Type 0
+FeedsChannel old new part groups tile_old tile_new = Feeds (state_of old) (state_of new) (channel_part part.interleaving part.channels groups part.channel 0 part.number) tile_old tile_new
+
+-- streams of all channels, each after as many bytes as the others, were fed n more bytes
+abbrev pub AdvanceAll : ℕ → ℕ → List Stream → List Stream → Type 0
+AdvanceAll count n old new = (d : Decimator) (fed : ℕ) → AreChannels d count fed old → AreChannels d count (fed + n) new
+
 -- streams that fit whole groups of sound bytes, which are `fed` bytes of each channel, fit `number` more after them,
 -- and returned the samples that are due then and not before
 abbrev pub FeedAll : Decimator → Sound → ℕ → ℕ → List Stream → List Stream → List ℕ → List ℤ → Type 0
@@ -75,10 +92,18 @@ FeedAll d s fed number old new groups tile = (prefix : List ℕ) (k : ℕ) → l
     → bytes_known s (length prefix) ≡ fed → bytes_known s (length (prefix ++ groups)) ≡ fed + number
     → AllFit s old prefix → AllFit s new (prefix ++ groups) × (tile ≡ tile_of d (channels_known s (prefix ++ groups)) (frames_due d s (length prefix)) (frames_due d s (length (prefix ++ groups)) - frames_due d s (length prefix)))
 
+-- streams of all channels, whatever they were fed before, were fed these groups, as `FeedAll` says
+abbrev pub FeedChannels : Sound → ℕ → List Stream → List Stream → List ℕ → List ℤ → Type 0
+FeedChannels s number old new groups tile = (d : Decimator) (fed : ℕ) → AreChannels d s.count fed old → FeedAll d s fed number old new groups tile
+
 -- streams that fit all sound bytes returned the rest of their samples
 abbrev pub FinishAll : Decimator → Sound → List Stream → List ℤ → Type 0
 FinishAll d s streams tile = (bytes : List ℕ) → AreChannels d s.count (bytes_known s (length bytes)) streams → AllFit s streams bytes
     → tile ≡ tile_of d (map (channel_whole s bytes) (range_with_len 0 s.channels)) (frames_due d s (length bytes)) (div_ceil s.count d.factor - frames_due d s (length bytes))
+
+-- streams of all channels of a sound returned the rest of their samples, as `FinishAll` says
+abbrev pub FinishChannels : List Stream → List ℤ → Type 0
+FinishChannels streams tile = (d : Decimator) (s : Sound) → length streams ≡ s.channels → FinishAll d s streams tile
 
 -- after whatever sound bytes the player was fed, it was fed these, and returned the bytes that were due then and not
 -- before

@@ -1,8 +1,10 @@
 -- What is played of a reader's file, and which faults apply.
-use Rattle.std.specs.Prelude.{◌≡◌, ◌≢◌, ℕ, ◌%◌, ◌≤◌, ◌^◌, List, ◌++◌, length, Option, Some, IfSome, ⊤}
+use Rattle.std.specs.Prelude.{◌≡◌, ◌≢◌, ℕ, ◌%◌, ◌≤◌, ◌^◌, ◌⊎◌, List, ◌++◌, length, Option, Some, IfSome, ⊤}
 use Rattle.std.specs.Io.KnownBytes.{Appends}
-use Rattle.chunk_core.specs.Outlets.{AppendsPrefix}
+use Rattle.chunk_core.specs.Inlets.{inlet_reader}
+use Rattle.chunk_core.specs.Outlets.{AppendsPrefix, outlet_writer}
 use Rattle.chunk_core.specs.declared.inlet.Inlet.{Inlet}
+use Rattle.chunk_core.specs.declared.outlet.Outlet.{Outlet}
 use Rattle.dsd_bits.specs.declared.sound.Sound.{Sound}
 use Rattle.dsd_bits.specs.Contents.{Content}
 use Rattle.fir_core.specs.Decimator.{Decimator}
@@ -12,6 +14,7 @@ use Rattle.wave_core.specs.Sizes.{riff_size}
 use Rattle.wave_core.specs.Texts.{wave_text}
 use Rattle.sound_core.specs.Faults.{IsFromOutside}
 use Rattle.sound_core.specs.Files.{HoldsRecording, IsRefused, LeadsToSound}
+use Rattle.sound_core.specs.Readers.{CanFail, RunsOut}
 use Rattle.sound_core.specs.Reads.{Reads}
 use Rattle.sound_core.specs.declared.fault.StreamFault.{StreamFault}
 use Rattle.sound_core.specs.declared.fault.StreamFault.TheVariants.{FileRefused, RateNotDivided, TooLarge, ReadFailed, WriteFailed, TurnLimit, Memory}
@@ -52,6 +55,14 @@ Applies d file WriteFailed = ⊤
 Applies d file TurnLimit = ⊤
 Applies d file Memory = ⊤
 
+-- this fault applies to the reader's file, if that is known
+abbrev pub AppliesBy : Option (List ℕ) → Decimator → StreamFault → Type 0
+AppliesBy left d f = IfSome left (λ file. Applies d file f)
+
+-- why playing reaches its limit: no further failure of the outlet can be counted, or the reads run out
+abbrev pub IsLimited : {R W : Type 0} → Outlet W → Inlet R → Inlet R → Type 0
+IsLimited outlet inlet_old inlet_new = (CanFail outlet → ⊥) ⊎ RunsOut inlet_old inlet_new
+
 -- ---- whatever it is that says what a file plays
 
 -- n bytes were written, and are what the reader's file plays, if it is known
@@ -69,3 +80,18 @@ WritesPrefix left Plays held_old held_new = IfSome left (λ file. (bytes : List 
 -- a file that can be played is refused only for memory, a device or the number of reads
 abbrev pub OnlyFromOutsideBy : Option (List ℕ) → Decimator → StreamFault → Type 0
 OnlyFromOutsideBy left_old d f = IfSome left_old (λ file. (bytes : List ℕ) → PlaysBy d file bytes → IsFromOutside f)
+
+-- ---- what is played from an inlet to an outlet
+
+-- what the inlet's file plays was written to the outlet, if the file is known
+abbrev pub PlaysTo : {R W : Type 0} → (R → Option (List ℕ)) → (W → Option (List ℕ)) → (List ℕ → List ℕ → Type 0) → Inlet R → Outlet W → Outlet W → ℕ → Type 0
+PlaysTo left held Plays inlet old new = PlaysFile (left (inlet_reader inlet)) Plays (held (outlet_writer old)) (held (outlet_writer new))
+
+-- what the bytes play that were read from the inlet was written to the outlet; this also holds if its bytes aren't
+-- known
+abbrev pub PlaysReadTo : {R W : Type 0} → (R → Option (List ℕ)) → (W → Option (List ℕ)) → (List ℕ → List ℕ → Type 0) → Inlet R → Inlet R → Outlet W → Outlet W → ℕ → Type 0
+PlaysReadTo left held Plays inlet_old inlet_new old new = PlaysGiven left inlet_old inlet_new Plays (held (outlet_writer old)) (held (outlet_writer new))
+
+-- a prefix of whatever the inlet's file plays was written to the outlet
+abbrev pub WritesPrefixTo : {R W : Type 0} → (R → Option (List ℕ)) → (W → Option (List ℕ)) → (List ℕ → List ℕ → Type 0) → Inlet R → Outlet W → Outlet W → Type 0
+WritesPrefixTo left held Plays inlet old new = WritesPrefix (left (inlet_reader inlet)) Plays (held (outlet_writer old)) (held (outlet_writer new))

@@ -1,11 +1,10 @@
 //! The bytes of one channel among sound bytes that hold several.
 
-ghost use Rattle.std.specs.Prelude.{◌≡◌, ℕ, ◌+◌, ◌-◌, ◌*◌, ◌/◌, ◌%◌, ◌<◌, ◌≤◌, ◌++◌, OnOk, drop, length, map, slice_index};
-ghost use Rattle.std.specs.List.{range_with_len};
+ghost use Rattle.std.specs.Prelude.{◌≡◌, ◌*◌, ◌/◌, ◌<◌, ◌≤◌, ◌++◌, OnOk, drop, length, map};
 ghost use Rattle.dsd_bits.specs.Blocks.{ordered};
 ghost use Rattle.player_core.specs.Due as Due;
 ghost use Rattle.player_core.specs.Groups as Groups;
-ghost use Rattle.player_core.specs.Groups.{channel_part, in_order};
+ghost use Rattle.player_core.specs.Groups.{PicksChannel, block_bytes, channel_part, whole_size};
 
 use dsd_bits::{BitOrder, Interleaving, Sound, reverse};
 use std::alloc::AllocError;
@@ -51,8 +50,7 @@ pub(crate) fn fill_channel(
     number: usize,
 ) -> Result<(), AllocError>
     requires channel { (channel < channels) × (channels ≤ 6) }
-    requires enough { number ≤ length groups.now / Groups.group_size interleaving channels * Groups.part_size
-        interleaving }
+    requires enough { number ≤ whole_size interleaving channels (length groups.now) }
     ensures { OnOk result (own.new.items ≡ channel_part interleaving channels groups.now channel 0 number) }
 {
     own.clear();
@@ -84,8 +82,7 @@ fn fill_strided(
 fn pick(to: &mut [u8], groups: &[u8], channels: usize, channel: usize)
     requires channel { channel < channels }
     requires enough { length to.old * channels ≤ length groups.now }
-    ensures { (frame : ℕ) → frame < length to.old
-        → slice_index to.new frame ≡ slice_index groups.now (frame * channels + channel) }
+    ensures { PicksChannel channels channel groups.now (length to.old) to.new }
 {
     if channels == 2 {
         pick_each(to, groups, 2, channel);
@@ -99,8 +96,7 @@ fn pick(to: &mut [u8], groups: &[u8], channels: usize, channel: usize)
 fn pick_each(to: &mut [u8], groups: &[u8], channels: usize, channel: usize)
     requires channel { channel < channels }
     requires enough { length to.old * channels ≤ length groups.now }
-    ensures { (frame : ℕ) → frame < length to.old
-        → slice_index to.new frame ≡ slice_index groups.now (frame * channels + channel) }
+    ensures { PicksChannel channels channel groups.now (length to.old) to.new }
 {
     for frame in 0..to.len() {
         to[frame] = groups[frame * channels + channel];
@@ -118,8 +114,7 @@ fn push_blocks(
 ) -> Result<(), AllocError>
     requires channel { (channel < channels) × (channels ≤ 6) }
     requires enough { number ≤ length groups.now / (channels * 4096) * 4096 }
-    ensures { OnOk result (own.new.items
-        ≡ own.old.items ++ channel_part (Interleaving.Blocks order) channels groups.now channel 0 number) }
+    ensures { OnOk result (own.new.items ≡ own.old.items ++ block_bytes order channels groups.now channel number) }
 {
     for group in 0..number.div_ceil(BLOCK) {
         let (_, block) = groups.split_at((group * channels + channel) * BLOCK);

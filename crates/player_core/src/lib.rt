@@ -27,8 +27,11 @@
 //!   (`specs/Laws.antt`).
 //! - `PlaysBy d file bytes` says that these bytes are the WAVE text of the file's recording by this decimator, `Applies
 //!   d file fault` that a fault applies (`specs/Playing.antt`).
-//! - `KeepsUpBy left d prefix given old new` says that what was written lags what was read by at most 131,072 bytes of
-//!   the sound (`specs/Pace.antt`).
+//! - `PlaysTo` says that what an inlet's file plays was written to an outlet, `PlaysReadTo` the same of the bytes that
+//!   were read, and `WritesPrefixTo` that a prefix of it was written (`specs/Playing.antt`).
+//! - `Lags` says that what was written lags what was read by at most 131,072 bytes of the sound, as `KeepsUpBy` defines
+//!   it (`specs/Pace.antt`).
+//! - `OnOutlet held old new P` says that P holds of the bytes before and after a call (`specs/Outlets.antt`).
 //! - `IsPlaying held first now s bytes` says what the sink has written after these bytes of a sound
 //!   (`specs/Sinks.antt`).
 //!

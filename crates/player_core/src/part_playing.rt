@@ -1,13 +1,13 @@
 //! The way of a part of a file's frames, from a reader to a writer.
 
-ghost use Rattle.std.specs.Prelude.{◌≡◌, ◌⊎◌, ◌+◌, ◌-◌, ◌<◌, ◌≤◌, ◌^◌, IfErr, IfOk, IfSome, IsErrOf, OnErr, OnOk};
+ghost use Rattle.std.specs.Prelude.{◌≡◌, ◌+◌, ◌≤◌, ◌^◌, IfErr, IfOk, IsErrOf, OnErr, OnOk};
 ghost use Rattle.chunk_core.specs.Inlets.{inlet_failures, inlet_reader, inlet_reads};
 ghost use Rattle.chunk_core.specs.Outlets.{outlet_failures, outlet_writer};
 ghost use Rattle.fir_core.specs.Decimator.{IsWithinLimits};
 ghost use Rattle.sound_core.specs.Faults.{IsBeforeWriting, failed_reads, failed_writes};
-ghost use Rattle.sound_core.specs.Readers.{CanFail, RunsOut};
-ghost use Rattle.player_core.specs.PartPlaying.{AppliesToPart, PartFails, PartOnlyFromOutsideBy, PlaysPartBy};
-ghost use Rattle.player_core.specs.Playing.{PlaysFile, PlaysGiven, WritesPrefix};
+ghost use Rattle.player_core.specs.PartPlaying.{AppliesToPartBy, PartOnlyFromOutsideBy, PlaysPartBy};
+ghost use Rattle.player_core.specs.PartSinks.{PartSinkFails, PartSinkPlays, PartSinkPlaysRead};
+ghost use Rattle.player_core.specs.Playing.{IsLimited, PlaysReadTo, PlaysTo, WritesPrefixTo};
 
 use crate::laws::part_is_played;
 use crate::part_sink::{PartSink, finish_part, frames_sound};
@@ -35,23 +35,22 @@ pub fn play_part<R: Read, W: Write>(
     outlet: &mut Outlet<W>,
 ) -> Result<u64, StreamFault>
     // What is played of the part of the reader's file was written, however its reads are cut.
-    ensures ok { IfOk result (PlaysFile (R.remaining (inlet_reader inlet.old)) (PlaysPartBy taps.now start stop)
-        (W.contents (outlet_writer outlet.old)) (W.contents (outlet_writer outlet.new))) }
+    ensures ok { IfOk result (PlaysTo R.remaining W.contents (PlaysPartBy taps.now start stop) inlet.old
+        outlet.old outlet.new) }
     // The same of what was read, where the reader doesn't tell its bytes.
-    ensures any_reader { IfOk result (PlaysGiven R.remaining inlet.old inlet.new (PlaysPartBy taps.now start stop)
-        (W.contents (outlet_writer outlet.old)) (W.contents (outlet_writer outlet.new))) }
+    ensures any_reader { IfOk result (PlaysReadTo R.remaining W.contents (PlaysPartBy taps.now start stop)
+        inlet.old inlet.new outlet.old outlet.new) }
     // A fault of the file stands; a part that is played is refused from outside alone, and a prefix of it was written.
-    ensures fault { IfErr result (λ f. IfSome (R.remaining (inlet_reader inlet.old)) (λ file. AppliesToPart taps.now start stop file f)) }
+    ensures fault { IfErr result (AppliesToPartBy (R.remaining (inlet_reader inlet.old)) taps.now start stop) }
     ensures cause { IfErr result (PartOnlyFromOutsideBy (R.remaining (inlet_reader inlet.old)) taps.now start stop) }
     ensures unwritten { IfErr result (λ f. IsBeforeWriting f → outlet_writer outlet.new ≡ outlet_writer outlet.old) }
-    ensures prefix { OnErr result (WritesPrefix (R.remaining (inlet_reader inlet.old)) (PlaysPartBy taps.now start stop)
-        (W.contents (outlet_writer outlet.old)) (W.contents (outlet_writer outlet.new))) }
+    ensures prefix { OnErr result (WritesPrefixTo R.remaining W.contents (PlaysPartBy taps.now start stop) inlet.old
+        outlet.old outlet.new) }
     ensures read_failed { inlet_failures inlet.new ≡ inlet_failures inlet.old + failed_reads result }
     ensures write_failed { outlet_failures outlet.new ≡ outlet_failures outlet.old + failed_writes result }
     // Whatever is answered, there were at most 2^40 reads.
     ensures reads { inlet_reads inlet.new ≤ inlet_reads inlet.old + 2 ^ 40 }
-    ensures turn_limit { IsErrOf result StreamFault.TurnLimit
-        → (CanFail outlet.old → ⊥) ⊎ RunsOut inlet.old inlet.new }
+    ensures turn_limit { IsErrOf result StreamFault.TurnLimit → IsLimited outlet.old inlet.old inlet.new }
 {
     part_is_played();
     keeps_limits(taps);
@@ -76,17 +75,13 @@ fn play_part_file<R: Read, W: Write>(
 ) -> Result<u64, StreamFault>
     requires least { 8 ≤ sink.old.taps.now.factor }
     ensures same { sink.new.outlet.ghost_name ≡ sink.old.outlet.ghost_name }
-    ensures ok { IfOk result (PlaysFile (R.remaining (inlet_reader inlet.old)) (PlaysPartBy sink.old.taps.now sink.old.start sink.old.stop)
-        (W.contents (outlet_writer sink.old.outlet.now)) (W.contents (outlet_writer sink.new.outlet.now))) }
-    ensures any_reader { IfOk result (PlaysGiven R.remaining inlet.old inlet.new (PlaysPartBy sink.old.taps.now sink.old.start sink.old.stop)
-        (W.contents (outlet_writer sink.old.outlet.now)) (W.contents (outlet_writer sink.new.outlet.now))) }
+    ensures ok { IfOk result (PartSinkPlays R.remaining W.contents inlet.old sink.old sink.new) }
+    ensures any_reader { IfOk result (PartSinkPlaysRead R.remaining W.contents inlet.old inlet.new sink.old sink.new) }
     ensures failures { OnOk result (outlet_failures sink.new.outlet.now ≡ outlet_failures sink.old.outlet.now) }
-    ensures fault { IfErr result (PartFails W.contents (R.remaining (inlet_reader inlet.old)) sink.old.taps.now
-        sink.old.start sink.old.stop sink.old.outlet.now sink.new.outlet.now) }
+    ensures fault { IfErr result (PartSinkFails R.remaining W.contents inlet.old sink.old sink.new) }
     ensures read_failed { inlet_failures inlet.new ≡ inlet_failures inlet.old + failed_reads result }
     ensures reads { inlet_reads inlet.new ≤ inlet_reads inlet.old + 2 ^ 40 }
-    ensures turn_limit { IsErrOf result StreamFault.TurnLimit
-        → (CanFail sink.old.outlet.now → ⊥) ⊎ RunsOut inlet.old inlet.new }
+    ensures turn_limit { IsErrOf result StreamFault.TurnLimit → IsLimited sink.old.outlet.now inlet.old inlet.new }
 {
     part_is_played();
     if !can_fail(sink.outlet) {

@@ -1,16 +1,17 @@
 //! What plays a part of a sound while its file is read.
 
-ghost use Rattle.std.specs.Prelude.{◌≡◌, ◌⊎◌, ◌+◌, ◌-◌, ◌<◌, ◌≤◌, ◌^◌, [], List, ℕ, IfErr, IsFalse, IsTrue, OnErr, OnOk, Some, drop, length};
-ghost use Rattle.chunk_core.specs.Outlets.{outlet_failures, outlet_writer};
+ghost use Rattle.std.specs.Prelude.{◌≡◌, ◌⊎◌, ◌+◌, ◌-◌, ◌<◌, ◌≤◌, ◌^◌, [], IfErr, IsFalse, IsTrue, OnErr, OnOk, Some, length};
+ghost use Rattle.chunk_core.specs.Outlets.{outlet_failures};
 ghost use Rattle.dsd_bits.specs.Sounds.{IsSound};
 ghost use Rattle.fir_core.specs.Decimator.{IsWithinLimits};
 ghost use Rattle.player_core.specs.Laws.{total_frames};
-ghost use Rattle.player_core.specs.PartPlaying.{IsOutside};
-ghost use Rattle.player_core.specs.PartPieces.{PutsPartDue, PutsPartPrefix, PutsPartRest};
+ghost use Rattle.player_core.specs.PartPlaying.{IsInside, IsOutside};
+ghost use Rattle.player_core.specs.Outlets.{OnOutlet};
+ghost use Rattle.player_core.specs.PartPieces.{PutsPartDue, PutsPartPrefix, PutsPartRest, rest_piece};
 ghost use Rattle.player_core.specs.PartSinks.{FinishesPlayingPart, IsPlayingPart, RefusesPlayedPart};
-ghost use Rattle.player_core.specs.PartView.{IsPartComplete, IsPartPlayer, IsSamePart, part_fed, part_rest, part_start};
+ghost use Rattle.player_core.specs.PartView.{IsPartComplete, IsPartPlayer, IsSamePart, part_fed, part_rest};
+ghost use Rattle.player_core.specs.Sinks.{FinishesAll, HasAll, RefusesAll};
 ghost use Rattle.player_core.specs.Parts as Parts;
-ghost use Rattle.player_core.specs.declared.part_sink.PartSink.{PartSink as Sink};
 ghost use Rattle.sound_core.specs.Faults.{IsWritingFault, failed_writes};
 
 use crate::parts::PartPlayer;
@@ -118,7 +119,7 @@ fn put_in<T: Drop>(place: &mut Option<T>, value: T)
 
 // Whether a sound has frames `start` to `stop - 1`.
 fn lies_in(taps: &Taps, sound: &Sound, start: usize, stop: usize) -> bool
-    ensures inside { IsTrue result → (start ≤ stop) × (stop ≤ total_frames taps.now sound.now) }
+    ensures inside { IsTrue result → IsInside taps.now sound.now start stop }
     ensures outside { IsFalse result → IsOutside taps.now sound.now start stop }
 {
     start <= stop && stop as u64 <= total_frames(taps, sound)
@@ -152,14 +153,14 @@ fn put_part_due<W: Write>(
     outlet: &mut Outlet<W>,
 ) -> Result<(), StreamFault>
     requires player { IsPartPlayer player.old }
-    requires few { part_fed player.old + length (drop (part_start player.old - came) piece.now) ≤ (part_rest player.old).size }
+    requires few { part_fed player.old + length (rest_piece player.old came piece.now) ≤ (part_rest player.old).size }
     requires ready { outlet_failures outlet.old < 2 ^ 64 - 1 }
     ensures player { OnOk result (IsPartPlayer player.new) }
     ensures same { OnOk result (IsSamePart player.old player.new) }
-    ensures ok { OnOk result (PutsPartDue player.old player.new (drop (part_start player.old - came) piece.now)
-        (W.contents (outlet_writer outlet.old)) (W.contents (outlet_writer outlet.new))) }
-    ensures prefix { OnErr result (PutsPartPrefix player.old (drop (part_start player.old - came) piece.now)
-        (W.contents (outlet_writer outlet.old)) (W.contents (outlet_writer outlet.new))) }
+    ensures ok { OnOk result (OnOutlet W.contents outlet.old outlet.new
+        (PutsPartDue player.old player.new (rest_piece player.old came piece.now))) }
+    ensures prefix { OnErr result (OnOutlet W.contents outlet.old outlet.new
+        (PutsPartPrefix player.old (rest_piece player.old came piece.now))) }
     ensures fault { IfErr result IsWritingFault }
     ensures failures { outlet_failures outlet.new ≡ outlet_failures outlet.old + failed_writes result }
 {
@@ -179,10 +180,8 @@ fn put_part_rest<W: Write>(
     requires player { IsPartPlayer player.old }
     requires all { (part_fed player.old ≡ (part_rest player.old).size) ⊎ IsPartComplete player.old }
     requires ready { outlet_failures outlet.old < 2 ^ 64 - 1 }
-    ensures ok { OnOk result (PutsPartRest player.old (W.contents (outlet_writer outlet.old))
-        (W.contents (outlet_writer outlet.new))) }
-    ensures prefix { OnErr result (PutsPartPrefix player.old [] (W.contents (outlet_writer outlet.old))
-        (W.contents (outlet_writer outlet.new))) }
+    ensures ok { OnOk result (OnOutlet W.contents outlet.old outlet.new (PutsPartRest player.old)) }
+    ensures prefix { OnErr result (OnOutlet W.contents outlet.old outlet.new (PutsPartPrefix player.old [])) }
     ensures fault { IfErr result IsWritingFault }
     ensures failures { outlet_failures outlet.new ≡ outlet_failures outlet.old + failed_writes result }
 {
@@ -201,13 +200,9 @@ pub(crate) fn finish_part<W: Write>(
     sink: &mut PartSink<'_, '_, W>,
     sound: &Sound,
 ) -> Result<(), StreamFault>
-    requires { (first : Sink W) × (bytes : List ℕ) × IsPlayingPart W.contents first sink.old sound.now bytes
-        × (length bytes ≡ sound.now.size) }
-    ensures ok { OnOk result ((first : Sink W) (bytes : List ℕ) → IsPlayingPart W.contents first sink.old sound.now bytes
-        → length bytes ≡ sound.now.size → FinishesPlayingPart W.contents first sink.new sound.now bytes) }
-    ensures refused { IfErr result (λ f. (first : Sink W) (bytes : List ℕ)
-        → IsPlayingPart W.contents first sink.old sound.now bytes → length bytes ≡ sound.now.size
-        → RefusesPlayedPart W.contents first sink.new sound.now bytes f) }
+    requires { HasAll W.contents IsPlayingPart sink.old sound.now }
+    ensures ok { OnOk result (FinishesAll W.contents IsPlayingPart FinishesPlayingPart sink.old sink.new sound.now) }
+    ensures refused { IfErr result (RefusesAll W.contents IsPlayingPart RefusesPlayedPart sink.old sink.new sound.now) }
     ensures fault { IfErr result IsWritingFault }
 {
     match &mut *sink.player {

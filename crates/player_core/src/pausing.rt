@@ -50,7 +50,7 @@ impl PausedPlayer {
         ensures filter { filter_of result ≡ taps.now }
         ensures same { (p : Playing) → IsPaused p self → (sound_of result ≡ sound_of p) × (fed_of result ≡ fed_of p) }
         ensures ready { (p : Playing) → IsPaused p self → filter_of p ≡ taps.now → IsPlayer p → IsPlayer result }
-        ensures fed { (p : Playing) (bytes : List ℕ) → IsPaused p self → IsPlayerFed p bytes → IsPlayerFed result bytes }
+        ensures fed { (p : Playing) (came : List ℕ) → IsPaused p self → IsPlayerFed p came → IsPlayerFed result came }
     {
         Player {
             taps,
@@ -76,9 +76,9 @@ pub struct PausedPart {
 }
 
 impl PausedPart {
-    ghost use Rattle.std.specs.Prelude.{◌≡◌, List, ℕ};
-    ghost use Rattle.player_core.specs.PausedView.{IsPausedPart, IsSamePlace};
-    ghost use Rattle.player_core.specs.PartView.{IsPartFed, IsPartPlayer, part_filter};
+    ghost use Rattle.std.specs.Prelude.{◌≡◌};
+    ghost use Rattle.player_core.specs.PausedView.{IsPausedPart, IsSamePlace, ResumesFed, ResumesReady};
+    ghost use Rattle.player_core.specs.PartView.{part_filter};
     ghost use Rattle.player_core.specs.declared.parts.PartPlayer.{PartPlayer as Playing};
 
     /// What a player holds beside its filter.
@@ -107,10 +107,8 @@ impl PausedPart {
     pub fn resume<'a>(self, taps: &'a Taps) -> PartPlayer<'a>
         ensures filter { part_filter result ≡ taps.now }
         ensures same { (p : Playing) → IsPausedPart p self → IsSamePlace p result }
-        ensures ready { (p : Playing) → IsPausedPart p self → part_filter p ≡ taps.now → IsPartPlayer p
-            → IsPartPlayer result }
-        ensures fed { (p : Playing) (bytes : List ℕ) → IsPausedPart p self → part_filter p ≡ taps.now
-            → IsPartFed p bytes → IsPartFed result bytes }
+        ensures ready { ResumesReady self taps.now result }
+        ensures fed { ResumesFed self taps.now result }
     {
         PartPlayer {
             player: self.player.resume(taps),

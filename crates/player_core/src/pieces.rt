@@ -1,8 +1,9 @@
 //! The frames of a sound that comes piece by piece.
 
 ghost use Rattle.std.specs.Prelude.{◌≡◌, ◌+◌, ◌-◌, ◌<◌, ◌≤◌, ◌^◌, [], IfErr, OnErr, OnOk, length};
-ghost use Rattle.chunk_core.specs.Outlets.{outlet_failures, outlet_writer};
-ghost use Rattle.player_core.specs.PlayerView.{IsPlayer, fed_of, filter_of, sound_of};
+ghost use Rattle.chunk_core.specs.Outlets.{outlet_failures};
+ghost use Rattle.player_core.specs.Outlets.{OnOutlet};
+ghost use Rattle.player_core.specs.PlayerView.{GoesOn, IsPlayer, fed_of, sound_of};
 ghost use Rattle.sound_core.specs.Faults.{IsWritingFault, failed_writes};
 ghost use Rattle.player_core.specs.Pieces.{PutsDue, PutsPrefixOf, PutsRest};
 
@@ -22,12 +23,9 @@ pub(crate) fn put_due<W: Write>(
     requires few { fed_of player.old + length piece.now ≤ (sound_of player.old).size }
     requires ready { outlet_failures outlet.old < 2 ^ 64 - 1 }
     ensures player { OnOk result (IsPlayer player.new) }
-    ensures same { OnOk result ((filter_of player.new ≡ filter_of player.old)
-        × (sound_of player.new ≡ sound_of player.old) × (fed_of player.new ≡ fed_of player.old + length piece.now)) }
-    ensures ok { OnOk result (PutsDue player.old player.new piece.now (W.contents (outlet_writer outlet.old))
-        (W.contents (outlet_writer outlet.new))) }
-    ensures prefix { OnErr result (PutsPrefixOf player.old piece.now (W.contents (outlet_writer outlet.old))
-        (W.contents (outlet_writer outlet.new))) }
+    ensures same { OnOk result (GoesOn player.old player.new (length piece.now)) }
+    ensures ok { OnOk result (OnOutlet W.contents outlet.old outlet.new (PutsDue player.old player.new piece.now)) }
+    ensures prefix { OnErr result (OnOutlet W.contents outlet.old outlet.new (PutsPrefixOf player.old piece.now)) }
     ensures fault { IfErr result IsWritingFault }
     ensures failures { outlet_failures outlet.new ≡ outlet_failures outlet.old + failed_writes result }
 {
@@ -45,10 +43,8 @@ pub(crate) fn put_rest<W: Write>(
     requires player { IsPlayer player.old }
     requires all { fed_of player.old ≡ (sound_of player.old).size }
     requires ready { outlet_failures outlet.old < 2 ^ 64 - 1 }
-    ensures ok { OnOk result (PutsRest player.old (W.contents (outlet_writer outlet.old))
-        (W.contents (outlet_writer outlet.new))) }
-    ensures prefix { OnErr result (PutsPrefixOf player.old [] (W.contents (outlet_writer outlet.old))
-        (W.contents (outlet_writer outlet.new))) }
+    ensures ok { OnOk result (OnOutlet W.contents outlet.old outlet.new (PutsRest player.old)) }
+    ensures prefix { OnErr result (OnOutlet W.contents outlet.old outlet.new (PutsPrefixOf player.old [])) }
     ensures fault { IfErr result IsWritingFault }
     ensures failures { outlet_failures outlet.new ≡ outlet_failures outlet.old + failed_writes result }
 {

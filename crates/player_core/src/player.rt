@@ -1,18 +1,12 @@
 //! Frames of a sound whose bytes come piece by piece.
 
-ghost use Rattle.std.specs.Prelude.{◌≡◌, ℕ, ◌+◌, ◌*◌, ◌/◌, ◌^◌, ◌≤◌, ◌<◌, ◌++◌, All, IfOk, OnOk, length};
-ghost use Rattle.std.specs.List.{flat_map};
+ghost use Rattle.std.specs.Prelude.{◌≡◌, ◌+◌, ◌^◌, ◌≤◌, ◌<◌, ◌++◌, All, IfOk, OnOk, length};
 ghost use Rattle.std.specs.Int.{div_ceil};
-ghost use Rattle.dsd_bits.specs.declared.sound.Sound.{Sound};
-ghost use Rattle.fir_core.specs.Decimator.{Decimator};
-ghost use Rattle.fir_core.specs.Streams.{Feeds};
-ghost use Rattle.fir_core.specs.StreamView.{IsStream, state_of};
+ghost use Rattle.fir_core.specs.StreamView.{IsStream};
 ghost use Rattle.wave_core.specs.Contents.{IsSample, IsWidth};
-ghost use Rattle.wave_core.specs.Frames.{frames_of};
-ghost use Rattle.wave_core.specs.Texts.{sample_bytes};
-ghost use Rattle.player_core.specs.Groups as Groups;
-ghost use Rattle.player_core.specs.Groups.{channel_part};
-ghost use Rattle.player_core.specs.PlayerView.{AreChannels, AreNew, AreReady, AreWhole, FeedAll, FinishAll};
+ghost use Rattle.player_core.specs.Frames.{tile_bytes};
+ghost use Rattle.player_core.specs.Groups.{whole_size};
+ghost use Rattle.player_core.specs.PlayerView.{AdvanceAll, AreNew, AreReady, AreWhole, FeedChannels, FeedsChannel, FinishChannels};
 
 use crate::groups::{bytes_known, drop_first, fill_channel, group_size};
 use dsd_bits::{Interleaving, Sound};
@@ -36,7 +30,7 @@ pub struct Player<'a> {
 impl<'a> Player<'a> {
     ghost use Rattle.std.specs.Prelude.{◌≡◌, ◌+◌, ◌%◌, ◌≤◌, [], IfOk, OnOk, length};
     ghost use Rattle.dsd_bits.specs.Sounds.{IsSound};
-    ghost use Rattle.player_core.specs.PlayerView.{FeedsPlayer, FinishesPlayer, IsPlayerFed, IsPlayer};
+    ghost use Rattle.player_core.specs.PlayerView.{FeedsPlayer, FinishesPlayer, IsPlayerFed, IsPlayer, IsSamePlayer};
 
     /// The player before the first byte of a sound: 1 to 6 channels of the same number of bits, whole bytes if they are
     /// in frames. The only refusal is out of memory.
@@ -99,8 +93,7 @@ impl<'a> Player<'a> {
     pub fn finish(&mut self, out: &mut Vec<u8>) -> Result<(), AllocError>
         requires ready { IsPlayer self.old }
         requires all { self.old.fed ≡ self.old.sound.size }
-        ensures same { (self.new.taps ≡ self.old.taps) × (self.new.sound ≡ self.old.sound)
-            × (self.new.fed ≡ self.old.fed) }
+        ensures same { IsSamePlayer self.old self.new }
         ensures ok { OnOk result (FinishesPlayer self.old out.old.items out.new.items) }
     {
         finish_all(&mut self.streams, &mut self.tile)?;
@@ -136,8 +129,7 @@ fn push_tile(out: &mut Vec<u8>, width: u32, tile: &[i32], channels: usize) -> Re
     requires channels { 1 ≤ channels }
     requires width { IsWidth width }
     requires values { All (IsSample width) tile.now }
-    ensures { OnOk result (out.new.items
-        ≡ out.old.items ++ flat_map (sample_bytes width) (frames_of tile.now (length tile.now / channels))) }
+    ensures { OnOk result (out.new.items ≡ out.old.items ++ tile_bytes width channels tile.now) }
 {
     let frames = tile.len() / channels;
     if frames == 0 {
@@ -158,12 +150,9 @@ fn feed_all(
 ) -> Result<(), AllocError>
     requires channels { (length streams.old ≡ sound.now.channels) × (sound.now.channels ≤ 6) }
     requires ready { AreReady number streams.old }
-    requires enough { number ≤ length groups.now / Groups.group_size sound.now.interleaving
-        sound.now.channels * Groups.part_size sound.now.interleaving }
-    ensures channels { OnOk result ((d : Decimator) (fed : ℕ) → AreChannels d sound.now.count fed streams.old
-        → AreChannels d sound.now.count (fed + number) streams.new) }
-    ensures fed { OnOk result ((d : Decimator) (fed : ℕ) → AreChannels d sound.now.count fed streams.old
-        → FeedAll d sound.now fed number streams.old streams.new groups.now tile.new.items) }
+    requires enough { number ≤ whole_size sound.now.interleaving sound.now.channels (length groups.now) }
+    ensures channels { OnOk result (AdvanceAll sound.now.count number streams.old streams.new) }
+    ensures fed { OnOk result (FeedChannels sound.now number streams.old streams.new groups.now tile.new.items) }
 {
     tile.clear();
     for (channel, stream) in streams.iter_mut().enumerate() {
@@ -198,12 +187,9 @@ fn feed_one(
     requires ready { IsStream stream.old }
     requires few { stream.old.fed + part.number ≤ div_ceil stream.old.count 8 }
     requires channel { (part.channel < part.channels) × (part.channels ≤ 6) }
-    requires enough { part.number ≤ length groups.now / Groups.group_size part.interleaving
-        part.channels * Groups.part_size part.interleaving }
+    requires enough { part.number ≤ whole_size part.interleaving part.channels (length groups.now) }
     ensures ready { IsStream stream.new }
-    ensures ok { OnOk result (Feeds (state_of stream.old) (state_of stream.new)
-        (channel_part part.interleaving part.channels groups.now part.channel 0 part.number)
-        tile.old.items tile.new.items) }
+    ensures ok { OnOk result (FeedsChannel stream.old stream.new part groups.now tile.old.items tile.new.items) }
     ensures fed { OnOk result (stream.new.fed ≡ stream.old.fed + part.number) }
     ensures same { (stream.new.taps ≡ stream.old.taps) × (stream.new.count ≡ stream.old.count) }
 {
@@ -221,8 +207,7 @@ fn feed_one(
 // Returns the rest of each stream's samples. They replace what `tile` held, channel by channel.
 fn finish_all(streams: &mut [Stream], tile: &mut Vec<i32>) -> Result<(), AllocError>
     requires ready { AreWhole streams.old }
-    ensures { OnOk result ((d : Decimator) (s : Sound) → length streams.old ≡ s.channels
-        → FinishAll d s streams.old tile.new.items) }
+    ensures { OnOk result (FinishChannels streams.old tile.new.items) }
 {
     tile.clear();
     for stream in streams.iter_mut() {

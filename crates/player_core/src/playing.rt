@@ -1,12 +1,12 @@
 //! From a reader of a file to a writer of its frames.
 
-ghost use Rattle.std.specs.Prelude.{◌≡◌, ◌⊎◌, ◌+◌, ◌-◌, ◌<◌, ◌≤◌, ◌^◌, [], IfErr, IfOk, IfSome, IsErrOf, OnErr, OnOk};
-ghost use Rattle.chunk_core.specs.Inlets.{inlet_failures, inlet_given, inlet_reader, inlet_reads};
+ghost use Rattle.std.specs.Prelude.{◌≡◌, ◌+◌, ◌≤◌, ◌^◌, IfErr, IfOk, IsErrOf, OnErr, OnOk};
+ghost use Rattle.chunk_core.specs.Inlets.{inlet_failures, inlet_reader, inlet_reads};
 ghost use Rattle.chunk_core.specs.Outlets.{outlet_failures, outlet_writer};
-ghost use Rattle.sound_core.specs.Faults.{IsBeforeWriting, StopsReading, failed_reads, failed_writes};
-ghost use Rattle.sound_core.specs.Readers.{CanFail, RunsOut};
-ghost use Rattle.player_core.specs.Pace.{KeepsUpBy, PlayFails};
-ghost use Rattle.player_core.specs.Playing.{OnlyFromOutsideBy, PlaysBy, PlaysFile, PlaysGiven, Applies, WritesPrefix};
+ghost use Rattle.sound_core.specs.Faults.{IsBeforeWriting, failed_reads, failed_writes};
+ghost use Rattle.player_core.specs.Pace.{Lags};
+ghost use Rattle.player_core.specs.Playing.{AppliesBy, IsLimited, OnlyFromOutsideBy, PlaysBy, PlaysReadTo, PlaysTo, WritesPrefixTo};
+ghost use Rattle.player_core.specs.Sinks.{SinkFails, SinkPlays, SinkPlaysRead};
 
 use crate::laws::sound_is_played;
 use crate::sink::{PlayingSink, finish};
@@ -28,29 +28,24 @@ pub fn play<R: Read, W: Write>(
     outlet: &mut Outlet<W>,
 ) -> Result<u64, StreamFault>
     // What the reader's file plays was written, however its reads are cut.
-    ensures ok { IfOk result (PlaysFile (R.remaining (inlet_reader inlet.old)) (PlaysBy taps.now)
-        (W.contents (outlet_writer outlet.old)) (W.contents (outlet_writer outlet.new))) }
+    ensures ok { IfOk result (PlaysTo R.remaining W.contents (PlaysBy taps.now) inlet.old outlet.old outlet.new) }
     // The same of the bytes that were read, if the reader's bytes aren't known.
-    ensures any_reader { IfOk result (PlaysGiven R.remaining inlet.old inlet.new (PlaysBy taps.now)
-        (W.contents (outlet_writer outlet.old)) (W.contents (outlet_writer outlet.new))) }
+    ensures any_reader { IfOk result (PlaysReadTo R.remaining W.contents (PlaysBy taps.now) inlet.old inlet.new
+        outlet.old outlet.new) }
     // A fault of the file applies; a file that can be played is refused only from outside, and a prefix of its WAVE
     // file was written.
-    ensures fault { IfErr result (λ f. IfSome (R.remaining (inlet_reader inlet.old)) (λ file. Applies taps.now file f)) }
+    ensures fault { IfErr result (AppliesBy (R.remaining (inlet_reader inlet.old)) taps.now) }
     ensures cause { IfErr result (OnlyFromOutsideBy (R.remaining (inlet_reader inlet.old)) taps.now) }
     // Nothing is written for a sound that can't be played.
     ensures unwritten { IfErr result (λ f. IsBeforeWriting f → outlet_writer outlet.new ≡ outlet_writer outlet.old) }
-    ensures prefix { OnErr result (WritesPrefix (R.remaining (inlet_reader inlet.old)) (PlaysBy taps.now)
-        (W.contents (outlet_writer outlet.old)) (W.contents (outlet_writer outlet.new))) }
+    ensures prefix { OnErr result (WritesPrefixTo R.remaining W.contents (PlaysBy taps.now) inlet.old outlet.old outlet.new) }
     // If the reading stops, what was written lags by at most 131,072 bytes of the one sound that the file describes.
-    ensures keeps_up { IfErr result (λ f. StopsReading f
-        → KeepsUpBy (R.remaining (inlet_reader inlet.old)) taps.now [] (inlet_given inlet.new - inlet_given inlet.old)
-        (W.contents (outlet_writer outlet.old)) (W.contents (outlet_writer outlet.new))) }
+    ensures keeps_up { IfErr result (Lags R.remaining W.contents taps.now inlet.old inlet.new outlet.old outlet.new) }
     ensures read_failed { inlet_failures inlet.new ≡ inlet_failures inlet.old + failed_reads result }
     ensures write_failed { outlet_failures outlet.new ≡ outlet_failures outlet.old + failed_writes result }
     // Whatever is returned, there were at most 2^40 reads.
     ensures reads { inlet_reads inlet.new ≤ inlet_reads inlet.old + 2 ^ 40 }
-    ensures turn_limit { IsErrOf result StreamFault.TurnLimit
-        → (CanFail outlet.old → ⊥) ⊎ RunsOut inlet.old inlet.new }
+    ensures turn_limit { IsErrOf result StreamFault.TurnLimit → IsLimited outlet.old inlet.old inlet.new }
 {
     sound_is_played();
     let mut player = None;
@@ -66,17 +61,13 @@ fn play_file<R: Read, W: Write>(
     sink: &mut PlayingSink<'_, '_, W>,
 ) -> Result<u64, StreamFault>
     ensures same { sink.new.outlet.ghost_name ≡ sink.old.outlet.ghost_name }
-    ensures ok { IfOk result (PlaysFile (R.remaining (inlet_reader inlet.old)) (PlaysBy sink.old.taps.now)
-        (W.contents (outlet_writer sink.old.outlet.now)) (W.contents (outlet_writer sink.new.outlet.now))) }
-    ensures any_reader { IfOk result (PlaysGiven R.remaining inlet.old inlet.new (PlaysBy sink.old.taps.now)
-        (W.contents (outlet_writer sink.old.outlet.now)) (W.contents (outlet_writer sink.new.outlet.now))) }
+    ensures ok { IfOk result (SinkPlays R.remaining W.contents inlet.old sink.old sink.new) }
+    ensures any_reader { IfOk result (SinkPlaysRead R.remaining W.contents inlet.old inlet.new sink.old sink.new) }
     ensures failures { OnOk result (outlet_failures sink.new.outlet.now ≡ outlet_failures sink.old.outlet.now) }
-    ensures fault { IfErr result (PlayFails W.contents (R.remaining (inlet_reader inlet.old)) sink.old.taps.now
-        (inlet_given inlet.new - inlet_given inlet.old) sink.old.outlet.now sink.new.outlet.now) }
+    ensures fault { IfErr result (SinkFails R.remaining W.contents inlet.old inlet.new sink.old sink.new) }
     ensures read_failed { inlet_failures inlet.new ≡ inlet_failures inlet.old + failed_reads result }
     ensures reads { inlet_reads inlet.new ≤ inlet_reads inlet.old + 2 ^ 40 }
-    ensures turn_limit { IsErrOf result StreamFault.TurnLimit
-        → (CanFail sink.old.outlet.now → ⊥) ⊎ RunsOut inlet.old inlet.new }
+    ensures turn_limit { IsErrOf result StreamFault.TurnLimit → IsLimited sink.old.outlet.now inlet.old inlet.new }
 {
     sound_is_played();
     if !can_fail(sink.outlet) {

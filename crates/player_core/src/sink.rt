@@ -1,8 +1,7 @@
 //! A sink that plays a sound while its file is read.
 
-ghost use Rattle.std.specs.Prelude.{◌≡◌, ◌-◌, ◌<◌, ◌^◌, List, ℕ, IfErr, OnOk, Some, length};
-ghost use Rattle.player_core.specs.Sinks.{FinishesPlaying, IsPlaying, RefusesPlaying};
-ghost use Rattle.player_core.specs.declared.sink.PlayingSink.{PlayingSink as Sink};
+ghost use Rattle.std.specs.Prelude.{◌≡◌, IfErr, OnOk, Some};
+ghost use Rattle.player_core.specs.Sinks.{FinishesAll, FinishesPlaying, HasAll, IsPlaying, RefusesAll, RefusesPlaying};
 ghost use Rattle.sound_core.specs.Faults.{IsWritingFault};
 
 use crate::pieces::{put_due, put_rest};
@@ -91,13 +90,9 @@ pub(crate) fn finish<W: Write>(
     sink: &mut PlayingSink<'_, '_, W>,
     sound: &Sound,
 ) -> Result<(), StreamFault>
-    requires { (first : Sink W) × (bytes : List ℕ) × IsPlaying W.contents first sink.old sound.now bytes
-        × (length bytes ≡ sound.now.size) }
-    ensures ok { OnOk result ((first : Sink W) (bytes : List ℕ) → IsPlaying W.contents first sink.old sound.now bytes
-        → length bytes ≡ sound.now.size → FinishesPlaying W.contents first sink.new sound.now bytes) }
-    ensures refused { IfErr result (λ f. (first : Sink W) (bytes : List ℕ)
-        → IsPlaying W.contents first sink.old sound.now bytes → length bytes ≡ sound.now.size
-        → RefusesPlaying W.contents first sink.new sound.now bytes f) }
+    requires { HasAll W.contents IsPlaying sink.old sound.now }
+    ensures ok { OnOk result (FinishesAll W.contents IsPlaying FinishesPlaying sink.old sink.new sound.now) }
+    ensures refused { IfErr result (RefusesAll W.contents IsPlaying RefusesPlaying sink.old sink.new sound.now) }
     ensures fault { IfErr result IsWritingFault }
 {
     match &mut *sink.player {

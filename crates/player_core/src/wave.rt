@@ -1,9 +1,10 @@
 //! What is written around the frames.
 
-ghost use Rattle.std.specs.Prelude.{◌≡◌, ◌+◌, ◌-◌, ◌/◌, ◌<◌, ◌≤◌, ◌^◌, IfErr, IfOk, OnErr, OnOk};
+ghost use Rattle.std.specs.Prelude.{◌≡◌, ◌+◌, ◌-◌, ◌/◌, ◌<◌, ◌≤◌, ◌^◌, IfErr, OnErr, OnOk};
 ghost use Rattle.chunk_core.specs.Outlets.{Puts, PutsPrefix, outlet_failures, outlet_writer};
 ghost use Rattle.dsd_bits.specs.Sounds.{IsSound};
 ghost use Rattle.player_core.specs.Laws.{total_frames};
+ghost use Rattle.player_core.specs.Outlets.{OnOutlet};
 ghost use Rattle.wave_core.specs.Contents.{spec_of};
 ghost use Rattle.sound_core.specs.Faults.{IsBeforeWriting, IsWritingFault, failed_writes};
 ghost use Rattle.player_core.specs.Wave.{IsOpeningFault, OpensWave, wave_file_size, sound_header, pad_of};
@@ -51,8 +52,7 @@ pub(crate) fn put_header<W: Write>(
 ) -> Result<(), StreamFault>
     requires sound { IsSound sound.now }
     requires ready { outlet_failures outlet.old < 2 ^ 64 - 1 }
-    ensures ok { OnOk result (OpensWave taps.now sound.now (W.contents (outlet_writer outlet.old))
-        (W.contents (outlet_writer outlet.new))) }
+    ensures ok { OnOk result (OnOutlet W.contents outlet.old outlet.new (OpensWave taps.now sound.now)) }
     ensures err { OnErr result (PutsPrefix W.contents outlet.old outlet.new (sound_header taps.now sound.now)) }
     ensures least { OnOk result (8 ≤ taps.now.factor) }
     ensures fault { IfErr result (IsOpeningFault taps.now sound.now) }
@@ -81,8 +81,7 @@ pub(crate) fn put_pad<W: Write>(
 ) -> Result<(), StreamFault>
     requires sound { IsSound sound.now }
     requires ready { outlet_failures outlet.old < 2 ^ 64 - 1 }
-    ensures ok { OnOk result (Puts W.contents outlet.old outlet.new
-        (pad_of taps.now sound.now)) }
+    ensures ok { OnOk result (Puts W.contents outlet.old outlet.new (pad_of taps.now sound.now)) }
     ensures err { OnErr result (PutsPrefix W.contents outlet.old outlet.new (pad_of taps.now sound.now)) }
     ensures fault { IfErr result IsWritingFault }
     ensures failures { outlet_failures outlet.new ≡ outlet_failures outlet.old + failed_writes result }

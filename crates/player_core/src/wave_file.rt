@@ -1,11 +1,10 @@
 //! The WAVE file of a recording's samples.
 
 ghost use Rattle.std.specs.Prelude.{◌≡◌, ◌+◌, ◌*◌, ◌/◌, ◌%◌, ◌≤◌, ◌++◌, ◌↔◌, IfOk, OnOk, None, Some};
-ghost use Rattle.std.specs.List.{flat_map};
 ghost use Rattle.dsd_bits.specs.Channels.{IsLevel};
-ghost use Rattle.wave_core.specs.Texts.{sample_bytes, wave_text};
+ghost use Rattle.wave_core.specs.Texts.{wave_text};
 ghost use Rattle.fir_core.specs.Windows.{aligned};
-ghost use Rattle.player_core.specs.Frames.{frame_count, frames_below, tile_of};
+ghost use Rattle.player_core.specs.Frames.{frame_bytes, frame_count, tile_of};
 ghost use Rattle.player_core.specs.Samples.{pcm};
 
 use crate::spec::wave_spec;
@@ -49,8 +48,7 @@ fn push_tiles(
 ) -> Result<(), AllocError>
     requires level { IsLevel channels.now }
     requires count { count ≡ frame_count taps.now channels.now }
-    ensures { OnOk result (out.new.items
-        ≡ out.old.items ++ flat_map (sample_bytes taps.now.width) (frames_below taps.now channels.now count)) }
+    ensures { OnOk result (out.new.items ≡ out.old.items ++ frame_bytes taps.now channels.now count) }
 {
     let tables = Tables::new(alloc, taps)?;
     let width = taps.width();

@@ -5,7 +5,7 @@ use Rattle.sound_core.specs.declared.fault.StreamFault.TheVariants.{TurnLimit}
 use Rattle.sound_core.proofs.FaultLaws.{fault_is}
 use Rattle.sound_core.proofs.TakingLaws.{not_begun}
 use Rattle.player_core.proofs.PartPlayLaws.{frames_are_sound}
-use Rattle.player_core.proofs.PartSinkLaws.{Stops, part_end_requires, part_end_stops, part_ended, part_fails, part_file_played, part_given_played, part_lies_in, part_same_outlet, part_size_is}
+use Rattle.player_core.proofs.PartFileLaws.{Stops, part_end_requires, part_end_stops, part_ended, part_fails, part_file_played, part_given_played, part_lies_in, part_same_outlet, part_size_is}
 use Rattle.player_core.proofs.part_playing.play_part_file.Given.{Over}
 use Rattle.player_core.proofs.part_playing.play_part_file.Goals as goal
 use Rattle.player_core.proofs.part_playing.play_part_file.Goals.{In_err-finish_part}

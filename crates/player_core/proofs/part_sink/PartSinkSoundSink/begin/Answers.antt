@@ -41,7 +41,7 @@ returns-in_err-put_header-clause-refused g c =
     let b = g.W.Write.contents (outlet_writer c.put_header.new.outlet) in
     rw (fault_is c.from_residual.result _ c.from_residual.ensures.1) (record {
       same = refl;
-      fault = part_opening d s p.start p.stop (omega (arith, c.frames_sound-frames.ensures.limits.least_factor)) (omega (arith, at.0, at.1)) f (subst (λ (t : Sound). IsOpeningFault d t f) frames c.in_err-put_header.ensures.fault);
+      fault = part_opening d s p.start p.stop (omega (arith, c.frames_sound-frames.ensures.limits.least_factor)) at f (subst (λ (t : Sound). IsOpeningFault d t f) frames c.in_err-put_header.ensures.fault);
       unwritten = c.in_err-put_header.ensures.unwritten;
       prefix = λ rest long. prefix_more a b (sound_header d fs) (part_bytes d s ([] ++ rest) p.start p.stop ++ pad_of d fs) (subst (λ (t : Sound). AppendsPrefix a b (sound_header d t)) frames err);
       failures = c.in_err-put_header.ensures.failures;

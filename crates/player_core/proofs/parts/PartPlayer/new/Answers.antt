@@ -4,7 +4,7 @@ use Rattle.player_core.specs.declared.parts.PartPlayer.{PartPlayer}
 use Rattle.player_core.proofs.PartLaws.{few_times, frame_small, group_small, groups_few, rest_sound, total_few}
 use Rattle.player_core.proofs.PartNewLaws.{new_fed, new_part}
 use Rattle.player_core.proofs.parts.PartPlayer.new.Goals as goal
-use Rattle.player_core.proofs.parts.PartPlayer.new.Goals.{After-group_size, After-new-2, After-frame_size-align}
+use Rattle.player_core.proofs.parts.PartPlayer.new.Goals.{After-new-2, After-frame_size-align}
 
 few : (c : After-frame_size-align) → c.place_before-place.result.groups ≤ 2 ^ 37
 few c =
@@ -51,12 +51,12 @@ made c = record {
 }
 
 pub returns-clause-fed : goal.returns-clause-fed
-returns-clause-fed c = new_fed (made (goal.at.returns-clause-fed c).After-new-2) c.in_ok-player.ensures.fed refl
+returns-clause-fed c = new_fed _ c.in_ok-player.ensures.fed refl
 
 pub returns-clause-ready : goal.returns-clause-ready
 returns-clause-ready c = record {
   player = c.in_ok-player.ensures.ready;
-  history = ([], new_fed (made (goal.at.returns-clause-ready c).After-new-2) c.in_ok-player.ensures.fed refl);
+  history = ([], new_fed _ c.in_ok-player.ensures.fed refl);
 }
 
 pub returns-clause-part : goal.returns-clause-part

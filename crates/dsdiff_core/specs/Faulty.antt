@@ -1,6 +1,6 @@
 -- DSDIFF forms whose first chunks already show that the file holds no recording. Their fault is open while a later
 -- chunk that is the second of its kind would be reported instead of it.
-use Rattle.std.specs.Prelude.{◌≡◌, ◌≤◌, ◌<◌, ◌⊎◌, ℕ, ◌+◌, Bool, true, false, List, [], ◌++◌, length, map, drop, find, is_some, Result, Ok, Err}
+use Rattle.std.specs.Prelude.{◌≡◌, ◌≤◌, ◌<◌, ◌⊎◌, ℕ, ◌+◌, ◌%◌, Bool, true, false, ◌&&◌, ◌||◌, List, [], ◌∷◌, ◌++◌, length, map, drop, find, is_some, Result, Ok, Err}
 use Rattle.chunk_core.specs.declared.layout.Span.{Span}
 use Rattle.chunk_core.specs.Places.{span_chunk}
 use Rattle.chunk_core.specs.Reading.{spans_in}
@@ -41,6 +41,31 @@ abbrev pub TellFault : List ℕ → List Span → DsdiffFault → Bool → Type 
 TellFault file lead fault false = (1 ≤ length lead) × (kinds_of file lead ≡ Err fault)
 TellFault file lead fault true = (kinds_of file lead ≡ Ok tt) × (is_some (find (holds_property file) lead) ≡ true) × (property_of file lead ≡ Err fault)
 
+-- these first chunks have no such fault
+abbrev pub TellNone : List ℕ → List Span → Type 0
+TellNone file lead = (fault : DsdiffFault) (is_open : Bool) → TellFault file lead fault is_open → ⊥
+
+-- these are the chunks of a form before a place that is even, in the form and where the last of them ends
+pub record AreFirst (prefix : List ℕ) (at : ℕ) (lead : List Span) : Type 0 where
+  pub form : form_of prefix ≡ Ok tt
+  pub low : 16 ≤ at
+  pub even : at % 2 ≡ 0
+  pub inside : at ≤ length prefix
+  pub in_form : at ≤ 12 + form_size prefix
+  pub found : spans_in prefix 16 at ≡ Ok lead
+
+-- the chunks of a form before a place have this fault
+abbrev pub HaveFault : List ℕ → ℕ → DsdiffFault → Bool → Type 0
+HaveFault prefix at fault is_open = (lead : List Span) × AreFirst prefix at lead × TellFault prefix lead fault is_open
+
+-- there are no such chunks before the place, or they have no fault
+abbrev pub HaveNone : List ℕ → ℕ → Type 0
+HaveNone prefix at = (fault : DsdiffFault) (is_open : Bool) → HaveFault prefix at fault is_open → ⊥
+
+-- one more chunk of these kinds is the second of one
+abbrev pub is_second_after : FaultyStart → Bool → Bool → Bool → Bool
+is_second_after s is_version is_property is_sound = (is_version && s.version) || ((is_property && s.property) || ((is_sound && s.sound) || false))
+
 -- whichever chunks follow these first ones, the form has the fault that `s` gives; `s` also says whether a version, a
 -- sound property and a sound are among these first chunks
 pub record AreJudged (file : List ℕ) (lead : List Span) (s : FaultyStart) : Type 0 where
@@ -48,6 +73,10 @@ pub record AreJudged (file : List ℕ) (lead : List Span) (s : FaultyStart) : Ty
   pub version : s.version ≡ is_some (find (span_has FVER) lead)
   pub property : s.property ≡ is_some (find (holds_property file) lead)
   pub sound : s.sound ≡ is_some (find (span_has DSD) lead)
+
+-- where `s` is told of the first chunks, `next` is told of them and one more with this ID, which may be a sound property
+abbrev pub JudgesNext : FaultyStart → List ℕ → Bool → FaultyStart → Type 0
+JudgesNext s id is_property next = (file : List ℕ) (lead : List Span) (span : Span) → AreJudged file lead s → span.id ≡ id → holds_property file span ≡ is_property → AreJudged file (lead ++ span ∷ []) next
 
 -- where the next chunk begins, after the first ones and their pad
 abbrev pub next_place : FaultyStart → ℕ

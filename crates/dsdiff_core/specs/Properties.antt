@@ -1,5 +1,6 @@
 -- The sound property: rate, channels and compression.
-use Rattle.std.specs.Prelude.{ℕ, ◌+◌, ◌*◌, List, [], length, take, drop, find, Option, Some, None, Result, Ok, Err, nat_lt, if◌then◌else◌}
+use Rattle.std.specs.Prelude.{ℕ, ◌+◌, ◌*◌, List, [], length, take, drop, find, Option, Some, None, option_map, Result, Ok, Err, nat_lt, if◌then◌else◌}
+use Rattle.std.specs.Borrow.{Bor}
 use Rattle.byteorder.specs.Endian.{big_number}
 use Rattle.chunk_core.specs.declared.layout.Span.{Span}
 use Rattle.chunk_core.specs.Reading.{spans_in}
@@ -61,6 +62,10 @@ fields_of rates names kinds = do
   raw ← raw_of kinds
   limits ← limits_of rate channels.0
   Ok (rate, ids_in channels.0 channels.1)
+
+-- the same of slices that may be there
+abbrev pub fields_in : Option (Bor (List ℕ)) → Option (Bor (List ℕ)) → Option (Bor (List ℕ)) → Result (ℕ × List (List ℕ)) DsdiffFault
+fields_in rates names kinds = fields_of (option_map (λ x. x.now) rates) (option_map (λ x. x.now) names) (option_map (λ x. x.now) kinds)
 
 -- the property of the sound among the form's chunks
 unfoldable pub property_of : List ℕ → List Span → Result PropertyFields DsdiffFault

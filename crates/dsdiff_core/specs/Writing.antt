@@ -5,7 +5,8 @@ use Rattle.chunk_core.specs.Chunks.{Chunk, spell}
 use Rattle.dsd_bits.specs.declared.marks.Place.{Place}
 use Rattle.dsd_bits.specs.declared.marks.Place.TheVariants.{Property, Master, Form}
 use Rattle.dsd_bits.specs.Channels.{count_of}
-use Rattle.dsd_bits.specs.Contents.{Content, MarkContent, OtherContent}
+use Rattle.dsd_bits.specs.declared.marks.Other.{Other}
+use Rattle.dsd_bits.specs.Contents.{Content, MarkContent, OtherContent, other_content}
 use Rattle.dsd_bits.specs.Ids.{FVER, PROP, SND, FS, CHNL, CMPR, DSD, DIIN, MARK}
 use Rattle.dsd_bits.specs.Lacing.{laced}
 use Rattle.dsd_bits.specs.Shape.{at_place}
@@ -60,6 +61,14 @@ master_chunks r = map mark_chunk r.marks ++ others_of Master r.others
 abbrev pub edited_master : List Chunk → List Chunk
 edited_master [] = []
 edited_master (c ∷ cs) = record { id = DIIN; content = flat_map spell (c ∷ cs) } ∷ []
+
+-- the edited master of a recording, spelled
+abbrev pub master_text : Content → List ℕ
+master_text r = flat_map spell (edited_master (master_chunks r))
+
+-- the kept chunks of a place, spelled
+abbrev pub others_text : Place → List Other → List ℕ
+others_text place others = flat_map spell (others_of place (map other_content others))
 
 -- what follows the sound: the edited master, then the kept chunks
 abbrev pub last_chunks : Content → List Chunk

@@ -1,16 +1,15 @@
 //! Forms whose first chunks tell that their file holds no recording.
 
-ghost use Rattle.std.specs.Prelude.{◌≡◌, ◌≤◌, ◌<◌, ◌+◌, ◌++◌, ◌^◌, ◌%◌, ◌∷◌, ◌&&◌, ◌||◌, [], All, List, ℕ, Err, IfOk, IfSome, IsNone, Ok, drop, false, length, take};
+ghost use Rattle.std.specs.Prelude.{◌≡◌, ◌≤◌, ◌<◌, ◌+◌, ◌++◌, ◌^◌, ◌%◌, ◌||◌, All, List, ℕ, Err, IfNone, IfOk, IfSome, IsNone, Ok, drop, length, take};
 ghost use Rattle.chunk_core.specs.declared.layout.Span.{Span};
 ghost use Rattle.chunk_core.specs.Places.{LiesIn};
 ghost use Rattle.chunk_core.specs.Reading.{spans_in};
-ghost use Rattle.dsdiff_core.specs.Faulty.{AreJudged, AreNext, EndsInNext, IsFaulty, IsSeen, TellFault, fault_with, kinds_of, next_place};
+ghost use Rattle.dsdiff_core.specs.Faulty.{AreNext, EndsInNext, HaveFault, HaveNone, IsFaulty, IsSeen, JudgesNext, TellFault, TellNone, fault_with, is_second_after, kinds_of, next_place};
 ghost use Rattle.dsdiff_core.specs.Fields.{form_size};
 ghost use Rattle.dsdiff_core.specs.Headers.{form_of, size_at};
 ghost use Rattle.dsdiff_core.specs.Kinds.{is_property};
 ghost use Rattle.dsdiff_core.specs.Held.{MayBeInMemory, held};
 ghost use Rattle.dsdiff_core.specs.Reading.{recording_of};
-ghost use Rattle.dsdiff_core.specs.Spans.{holds_property};
 ghost use Rattle.dsdiff_core.specs.Steps.{Gives};
 
 use crate::fault::DsdiffFault;
@@ -53,8 +52,9 @@ pub struct NextChunk {
     pub after: FaultyStart,
 }
 
-/// What the chunks of a form before the place `at` tell of the first fault of each file that begins with `prefix`; none
-/// if such a file may hold a recording.
+/// What the chunks of a form before the place `at` tell of the first fault of each file that begins with `prefix`. It is
+/// `None` if `at` isn't an even place in the form where a chunk ends, or if these chunks have no fault in their
+/// version, in the kinds that may occur once, or in their sound property.
 ///
 /// The only refusal is out of memory.
 pub fn faulty_start(
@@ -64,6 +64,9 @@ pub fn faulty_start(
 ) -> Result<Option<FaultyStart>, AllocError>
     ensures place { IfOk result (λ o. IfSome o (λ s. (next_place s ≡ at) × (at ≤ length prefix.now))) }
     ensures faulty { IfOk result (λ o. IfSome o (λ s. (rest : List ℕ) → IsFaulty (prefix.now ++ rest) s)) }
+    // It is the fault of these chunks, and none only if they have none.
+    ensures fault { IfOk result (λ o. IfSome o (λ s. HaveFault prefix.now at s.fault s.is_open)) }
+    ensures none { IfOk result (λ o. IfNone o (HaveNone prefix.now at)) }
 {
     if at < 16 || at % 2 != 0 || prefix.len() < at {
         return Ok(None);
@@ -97,6 +100,8 @@ fn start_of(
     requires inside { All (LiesIn 16 at) lead.now }
     ensures place { IfOk result (λ o. IfSome o (λ s. next_place s ≡ at)) }
     ensures faulty { IfOk result (λ o. IfSome o (λ s. (rest : List ℕ) → IsFaulty (prefix.now ++ rest) s)) }
+    ensures fault { IfOk result (λ o. IfSome o (λ s. TellFault prefix.now lead.now s.fault s.is_open)) }
+    ensures none { IfOk result (λ o. IfNone o (TellNone prefix.now lead.now)) }
 {
     let file = whole(prefix);
     let Some((fault, is_open)) = fault_of(alloc, file, lead)? else {
@@ -121,7 +126,8 @@ fn fault_of(
     lead: &[Span],
 ) -> Result<Option<(DsdiffFault, bool)>, AllocError>
     requires { All (MayBeInMemory file) lead.now }
-    ensures { IfOk result (λ o. IfSome o (λ x. TellFault (held file.entry) lead.now x.0 x.1)) }
+    ensures fault { IfOk result (λ o. IfSome o (λ x. TellFault (held file.entry) lead.now x.0 x.1)) }
+    ensures none { IfOk result (λ o. IfNone o (TellNone (held file.entry) lead.now)) }
 {
     if lead.is_empty() {
         return Ok(None);
@@ -150,7 +156,8 @@ fn property_fault(
 ) -> Result<Option<(DsdiffFault, bool)>, AllocError>
     requires held { All (MayBeInMemory file) lead.now }
     requires kinds { kinds_of (held file) lead.now ≡ Ok tt }
-    ensures { IfOk result (λ o. IfSome o (λ x. TellFault (held file.entry) lead.now x.0 x.1)) }
+    ensures fault { IfOk result (λ o. IfSome o (λ x. TellFault (held file.entry) lead.now x.0 x.1)) }
+    ensures none { IfOk result (λ o. IfNone o (TellNone (held file.entry) lead.now)) }
 {
     if first_sound_property(file, lead).is_none() {
         return Ok(None);
@@ -210,8 +217,7 @@ fn is_property_head(chunk: Head, bytes: &[u8]) -> bool
 
 // What is told once one more chunk is passed, but where that ends.
 fn judged_after(start: FaultyStart, id: [u8; 4], is_property: bool) -> FaultyStart
-    ensures { (file : List ℕ) (lead : List Span) (s : Span) → AreJudged file lead start → s.id ≡ id
-        → holds_property file s ≡ is_property → AreJudged file (lead ++ s ∷ []) result }
+    ensures { JudgesNext start id is_property result }
 {
     let is_version = id == *b"FVER";
     let is_sound = id == *b"DSD ";
@@ -231,8 +237,7 @@ fn judged_after(start: FaultyStart, id: [u8; 4], is_property: bool) -> FaultySta
 
 // Whether a chunk of these kinds is the second of one.
 fn is_second(start: FaultyStart, is_version: bool, is_property: bool, is_sound: bool) -> bool
-    ensures { result ≡ ((is_version && start.version)
-        || ((is_property && start.property) || ((is_sound && start.sound) || false))) }
+    ensures { result ≡ is_second_after start is_version is_property is_sound }
 {
     is_version && start.version || is_property && start.property || is_sound && start.sound
 }

@@ -1,9 +1,9 @@
 //! A file whose sound isn't in memory.
 
-ghost use Rattle.std.specs.Prelude.{◌≡◌, ◌≤◌, ◌+◌, ◌<◌, ◌^◌, [], All, IfOk, length};
+ghost use Rattle.std.specs.Prelude.{◌≡◌, ◌≤◌, ◌+◌, ◌<◌, [], All, IfOk, length};
 ghost use Rattle.chunk_core.specs.Places.{span_chunk};
 ghost use Rattle.chunk_core.specs.Reading.{spans_in};
-ghost use Rattle.chunk_core.specs.Steps.{Gives as WalkGives};
+ghost use Rattle.chunk_core.specs.Steps.{Gives as Walks};
 ghost use Rattle.dsdiff_core.specs.Fields.{form_end};
 ghost use Rattle.dsdiff_core.specs.Steps.{Gives, walked};
 ghost use Rattle.dsdiff_core.specs.Held.{IsAround, IsHeld, MayBeInMemory, IsInMemory, held};
@@ -66,7 +66,7 @@ pub(crate) fn walk_inside(
 ) -> Result<Vec<Span>, ChunkFault>
     requires stands { IsInMemory file span }
     requires start { (span.start ≤ start) × (start ≤ span.start + span.size) }
-    ensures exact { WalkGives (λ spans. spans.items) result (spans_in (held file.entry) start (span.start + span.size)) }
+    ensures exact { Walks (λ spans. spans.items) result (spans_in (held file.entry) start (span.start + span.size)) }
     ensures inside { IfOk result (λ spans. All (IsInMemory file.entry) spans.items) }
 {
     let data = data_of(file, span);

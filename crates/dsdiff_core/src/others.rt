@@ -1,10 +1,7 @@
 //! Chunks that are kept as their bytes.
 
-ghost use Rattle.std.specs.Prelude.{◌≡◌, ◌++◌, All, IfOk, OnOk, map};
-ghost use Rattle.chunk_core.specs.Places.{span_chunk};
-ghost use Rattle.dsd_bits.specs.Contents.{other_content};
-ghost use Rattle.dsd_bits.specs.Shape.{has_part};
-ghost use Rattle.dsdiff_core.specs.Others.{kept};
+ghost use Rattle.std.specs.Prelude.{◌≡◌, ◌++◌, All, IfOk, OnOk};
+ghost use Rattle.dsdiff_core.specs.Others.{contents, has_part_in, kept_at};
 ghost use Rattle.dsdiff_core.specs.Reading.{kept_others};
 ghost use Rattle.dsdiff_core.specs.Held.{MayBeInMemory, IsInMemoryFor, IsInMemory, held};
 
@@ -25,7 +22,7 @@ pub(crate) fn kept_chunks(
     requires parts { All (IsInMemory file) parts.now }
     requires inner { All (IsInMemory file) inner.now }
     requires top { All (MayBeInMemory file) top.now }
-    ensures { IfOk result (λ v. map other_content v.items ≡ kept_others (held file.entry) parts.now inner.now top.now) }
+    ensures { IfOk result (λ v. contents v ≡ kept_others (held file.entry) parts.now inner.now top.now) }
 {
     let mut others = Vec::new(alloc);
     push_kept(alloc, &mut others, Place::Property, file, parts)?;
@@ -43,8 +40,7 @@ fn push_kept(
     spans: &[Span],
 ) -> Result<(), AllocError>
     requires { All (IsInMemoryFor place file) spans.now }
-    ensures { OnOk result (map other_content others.new.items
-        ≡ map other_content others.old.items ++ kept place (map (span_chunk (held file.entry)) spans.now)) }
+    ensures { OnOk result (contents others.new ≡ contents others.old ++ kept_at (held file.entry) place spans.now) }
 {
     for span in spans {
         if !is_read(place, file, *span) {
@@ -59,7 +55,7 @@ fn push_kept(
 // Whether a recording has a part of its own for a chunk of this place.
 fn is_read(place: Place, file: Held, span: Span) -> bool
     requires { IsInMemoryFor place file span }
-    ensures { result ≡ has_part place (span_chunk (held file.entry) span).id (span_chunk (held file.entry) span).content }
+    ensures { result ≡ has_part_in (held file.entry) place span }
 {
     match place {
         Place::Property => span.id == *b"FS  " || span.id == *b"CHNL" || span.id == *b"CMPR",

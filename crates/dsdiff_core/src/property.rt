@@ -3,7 +3,7 @@
 ghost use Rattle.std.specs.Prelude.{◌≡◌, ◌≤◌, ◌<◌, ◌*◌, All, IfOk, length, option_map};
 ghost use Rattle.dsd_bits.specs.Limits.{IsRate};
 ghost use Rattle.dsdiff_core.specs.Fields.{ids_in};
-ghost use Rattle.dsdiff_core.specs.Properties.{fields_of, limits_of, ids_and_number, property_of, rate_of, raw_of, stated_of};
+ghost use Rattle.dsdiff_core.specs.Properties.{fields_in, limits_of, ids_and_number, property_of, rate_of, raw_of, stated_of};
 ghost use Rattle.dsdiff_core.specs.Held.{MayBeInMemory, IsInMemory, held};
 ghost use Rattle.dsdiff_core.specs.Steps.{Gives};
 
@@ -61,9 +61,7 @@ fn read_fields(
     names: Option<&[u8]>,
     kinds: Option<&[u8]>,
 ) -> Result<(u32, Vec<[u8; 4]>), DsdiffFault>
-    ensures exact { Gives (λ x. (x.0, x.1.items)) result
-        (fields_of (option_map (λ x. x.now) rates.entry) (option_map (λ x. x.now) names.entry)
-        (option_map (λ x. x.now) kinds.entry)) }
+    ensures exact { Gives (λ x. (x.0, x.1.items)) result (fields_in rates.entry names.entry kinds.entry) }
     ensures rate { IfOk result (λ x. IsRate x.0) }
     ensures number { IfOk result (λ x. (1 ≤ length x.1.items) × (length x.1.items ≤ 6)) }
 {

@@ -4,13 +4,13 @@ ghost use Rattle.std.specs.Prelude.{◌≡◌, ◌+◌, ◌<◌, ◌≤◌, ◌%
 ghost use Rattle.byteorder.specs.Endian.{big_bytes};
 ghost use Rattle.chunk_core.specs.Chunks.{spell};
 ghost use Rattle.dsd_bits.specs.Channels.{count_of};
-ghost use Rattle.dsd_bits.specs.Contents.{mark_content, other_content};
+ghost use Rattle.dsd_bits.specs.Contents.{mark_content};
 ghost use Rattle.dsd_bits.specs.Ids.{SND};
 ghost use Rattle.dsd_bits.specs.Shape.{HasShape, same_place};
 ghost use Rattle.dsdiff_core.specs.Files.{IsDsdiff};
 ghost use Rattle.dsdiff_core.specs.MarkBytes.{mark_bytes};
 ghost use Rattle.dsdiff_core.specs.ReadAgain.{as_stored};
-ghost use Rattle.dsdiff_core.specs.Writing.{channels_chunk, dsdiff_text, edited_master, first_chunks, head_text, mark_chunk, master_chunks, others_of, property_chunks, tail_text};
+ghost use Rattle.dsdiff_core.specs.Writing.{channels_chunk, dsdiff_text, first_chunks, head_text, mark_chunk, master_chunks, master_text, others_text, property_chunks, tail_text};
 
 use crate::fields::{fields_fit, keeps_shape};
 use crate::write_fault::WriteFault;
@@ -159,8 +159,7 @@ fn channels_data(alloc: Global, ids: &[[u8; 4]]) -> Result<Vec<u8>, AllocError>
 // Appends the edited master, which is left out if it would be empty.
 fn push_master(alloc: Global, out: &mut Vec<u8>, recording: &Recording) -> Result<(), AllocError>
     requires { HasShape recording.now }
-    ensures { OnOk result (out.new.items
-        ≡ out.old.items ++ flat_map spell (edited_master (master_chunks recording.now))) }
+    ensures { OnOk result (out.new.items ≡ out.old.items ++ master_text recording.now) }
 {
     let master = master_data(alloc, recording)?;
     if !master.is_empty() {
@@ -213,8 +212,7 @@ fn mark_data(alloc: Global, mark: &Mark) -> Result<Vec<u8>, AllocError>
 
 // Appends the kept chunks of a place.
 fn push_others(out: &mut Vec<u8>, others: &[Other], place: Place) -> Result<(), AllocError>
-    ensures { OnOk result (out.new.items
-        ≡ out.old.items ++ flat_map spell (others_of place (map other_content others.now))) }
+    ensures { OnOk result (out.new.items ≡ out.old.items ++ others_text place others.now) }
 {
     for other in others {
         if holds_at(other, place) {

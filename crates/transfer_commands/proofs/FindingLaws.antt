@@ -102,7 +102,7 @@ refused_any : (f : PlayedFrames) (rate : ℕ) (span : Span) (fault : SpanFault) 
 refused_any f rate span NoMark (inl none) unnamed marks = absurd (unnamed (inl (is_named span.from none)))
 refused_any f rate span NoMark (inr none) unnamed marks = absurd (unnamed (inr (is_named span.to none)))
 refused_any f rate span PartOutside h unnamed marks = (h.0, h.1, have_any f rate marks span h.0 h.1 h.2, h.3)
-refused_any f rate span PartReversed h unnamed marks = (h.0, h.1, have_any f rate marks span h.0 h.1 h.2, h.3)
+refused_any f rate span PartReversed h unnamed marks = (h.0, h.1, have_any f rate marks span h.0 h.1 h.2, h.3, h.4)
 
 pub lacking_any : (project : List ℕ) (sound : Sound) (span : Span) (fault : SpanFault) (none : List MarkContent) (frames : PlayedFrames) → none ≡ [] → AreFramesOf project sound.rate sound.count frames → SpanRefused frames sound.rate none span fault
     → IsNotInSound project sound span (Spans fault)

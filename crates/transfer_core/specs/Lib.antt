@@ -1,5 +1,6 @@
 pub mod Conversions
 pub mod Converting
+pub mod Ends
 pub mod Faults
 pub mod Laws
 pub mod PartStreaming

@@ -1,5 +1,5 @@
 -- Where a part begins and ends, by places in a recording.
-use Rattle.std.specs.Prelude.{◌≡◌, ◌≢◌, ℕ, ◌+◌, ◌*◌, ◌/◌, ◌%◌, ◌<◌, ◌≤◌, ◌^◌, ◌⊎◌, ℤ, pos, negsuc, List, length, slice_get, Option, Some, None}
+use Rattle.std.specs.Prelude.{◌≡◌, ◌≢◌, ℕ, ◌*◌, ◌/◌, ◌%◌, ◌<◌, ◌≤◌, ◌^◌, ◌⊎◌, ℤ, pos, negsuc, List, length, slice_get, Option, Some, None}
 use Rattle.std.specs.Int.{div_ceil}
 use Rattle.dsd_bits.specs.Contents.{MarkContent}
 use Rattle.dsdiff_core.specs.MarkPlaces.{place_of}
@@ -69,9 +69,9 @@ abbrev pub IsNoMarkIn : List MarkContent → Option Place → Type 0
 IsNoMarkIn marks (Some place) = IsNoMark marks place
 IsNoMarkIn marks None = ⊥
 
--- why there is no such part: a mark that isn't there, a place behind the recording's end, or an end before the
--- beginning
+-- why there is no such part, the first of these: a mark that isn't there; a place behind the recording's end; an end
+-- before the beginning, where both lie in the recording
 abbrev pub SpanRefused : PlayedFrames → ℕ → List MarkContent → Span → SpanFault → Type 0
 SpanRefused f rate marks span NoMark = IsNoMarkIn marks span.from ⊎ IsNoMarkIn marks span.to
 SpanRefused f rate marks span PartOutside = (start : ℕ) × (stop : ℕ) × HaveFrames f rate marks span start stop × ((f.count < start) ⊎ (f.count < stop))
-SpanRefused f rate marks span PartReversed = (start : ℕ) × (stop : ℕ) × HaveFrames f rate marks span start stop × (stop < start)
+SpanRefused f rate marks span PartReversed = (start : ℕ) × (stop : ℕ) × HaveFrames f rate marks span start stop × (stop < start) × (start ≤ f.count)

@@ -1,15 +1,15 @@
 //! Converts a recording from one form to another: in memory, or from a reader to a writer.
 
-ghost use Rattle.std.specs.Prelude.{◌≡◌, ◌⊎◌, ◌+◌, ◌-◌, ◌<◌, ◌≤◌, ◌^◌, Err, IfErr, IfOk, IsErrOf, OnErr};
-ghost use Rattle.chunk_core.specs.Inlets.{inlet_failures, inlet_reader, inlet_reads};
-ghost use Rattle.chunk_core.specs.Outlets.{outlet_failures, outlet_writer};
+ghost use Rattle.std.specs.Prelude.{◌≡◌, ◌+◌, ◌-◌, ◌<◌, ◌≤◌, ◌^◌, Err, IfErr, IfOk, IsErrOf, OnErr};
+ghost use Rattle.chunk_core.specs.Inlets.{inlet_failures, inlet_reads};
+ghost use Rattle.chunk_core.specs.Outlets.{outlet_failures};
 ghost use Rattle.sound_core.specs.Faults.{failed_reads, failed_writes};
 ghost use Rattle.sound_core.specs.Outlines.{AreStated, around_of};
-ghost use Rattle.sound_core.specs.Readers.{CanFail, RunsOut};
 ghost use Rattle.form_core.specs.Parts.{FitsIn};
 ghost use Rattle.form_core.specs.Steps.{GivesUnless};
-ghost use Rattle.transfer_core.specs.Conversions.{ConversionApplies, ConvertsReader, ConvertsPrefix, ConvertsGiven};
+ghost use Rattle.transfer_core.specs.Conversions.{ConversionApplies};
 ghost use Rattle.transfer_core.specs.Converting.{IsConverted, IsKept, contents, converted_of};
+ghost use Rattle.transfer_core.specs.Ends.{AreSpent, ConvertsAll, Rewrites, StartsFile, WritesNothing, left_in};
 ghost use Rattle.transfer_core.specs.Faults.{as_stream};
 
 use crate::fault::Fault;
@@ -68,28 +68,23 @@ pub fn convert_stream<R: Read, W: Write>(
 ) -> Result<u64, Fault>
     requires reported { AreStated (around_of outline.now) }
     // What the reader's file is converted to was written, however its bytes are split into reads.
-    ensures ok { IfOk result (ConvertsReader (R.remaining (inlet_reader inlet.old)) form
-        (W.contents (outlet_writer outlet.old)) (W.contents (outlet_writer outlet.new))) }
+    ensures ok { IfOk result (ConvertsAll R.remaining inlet.old form W.contents outlet.old outlet.new) }
     // If the reader's bytes aren't known, the same holds of what was read, as many bytes as were counted.
-    ensures any_reader { IfOk result (ConvertsGiven R.remaining inlet.old inlet.new form
-        (W.contents (outlet_writer outlet.old)) (W.contents (outlet_writer outlet.new))) }
+    ensures any_reader { IfOk result (Rewrites R.remaining inlet.old inlet.new form W.contents outlet.old outlet.new) }
     // If it is refused, a prefix was written.
-    ensures prefix { OnErr result (ConvertsPrefix (R.remaining (inlet_reader inlet.old)) (around_of outline.now) form
-        (W.contents (outlet_writer outlet.old)) (W.contents (outlet_writer outlet.new))) }
+    ensures prefix { OnErr result (StartsFile R.remaining inlet.old outline.now form W.contents outlet.old outlet.new) }
     // A fault that is returned is true.
-    ensures refused { IfErr result (ConversionApplies (R.remaining (inlet_reader inlet.old))
-        (around_of outline.now) form) }
+    ensures refused { IfErr result (ConversionApplies (left_in R.remaining inlet.old) (around_of outline.now) form) }
     ensures not_whole_bytes { (FitsIn form outline.now.sound.count → ⊥) → result ≡ Err Fault.NotWholeBytes }
     ensures read_failed { inlet_failures inlet.new ≡ inlet_failures inlet.old + failed_reads (as_stream result) }
     ensures write_failed { outlet_failures outlet.new
         ≡ outlet_failures outlet.old + failed_writes (as_stream result) }
     // Whatever is returned, there were at most 2^40 reads.
     ensures reads { inlet_reads inlet.new ≤ inlet_reads inlet.old + 2 ^ 40 }
-    ensures turn_limit { IsErrOf result (Fault.Stream StreamFault.TurnLimit)
-        → (CanFail outlet.old → ⊥) ⊎ RunsOut inlet.old inlet.new }
+    ensures turn_limit { IsErrOf result (Fault.Stream StreamFault.TurnLimit) → AreSpent outlet.old inlet.old inlet.new }
     // What is refused before the first read and the first write.
     ensures unread { IsErrOf result Fault.NotWholeBytes → inlet_reads inlet.new ≡ inlet_reads inlet.old }
-    ensures unwritten { IsErrOf result Fault.NotWholeBytes → outlet_writer outlet.new ≡ outlet_writer outlet.old }
+    ensures unwritten { IsErrOf result Fault.NotWholeBytes → WritesNothing outlet.old outlet.new }
 {
     written_in_parts();
     let ends = ends_in(alloc, &outline.recording, form, outline.sound.count)?;

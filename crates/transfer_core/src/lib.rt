@@ -10,7 +10,7 @@
 //! - `Converts file form bytes dropped` says that these bytes are the file of the form that is written for the file's
 //!   recording (`specs/Converting.antt`). `Plays project file bytes` says that these bytes are the WAVE text of the
 //!   samples of the file's recording (`specs/Playing.antt`). `specs/Conversions.antt` and `specs/Streaming.antt` say
-//!   the same of a reader and a writer.
+//!   the same of a reader and a writer, and `specs/Ends.antt` of the inlet and the outlet of a call.
 //! - `SaysTakes text names` says that a project text cuts the takes of these names, `SaysSplice text splice` and
 //!   `SaysDecimator text decimator` that it has this splice or this decimator (`specs/Projects.antt`).
 //! - `converted_of`, `played_of`, `take_names_of`, `splice_of` and `decimator_of` are the readings in the order of the

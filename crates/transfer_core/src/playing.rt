@@ -1,15 +1,14 @@
 //! Makes a WAVE file of a project and a file: in memory, or from a reader to a writer.
 
-ghost use Rattle.std.specs.Prelude.{◌≡◌, ◌⊎◌, ℕ, ◌+◌, ◌-◌, ◌<◌, ◌≤◌, ◌^◌, List, IfErr, IfOk, IsErrOf, OnErr};
-ghost use Rattle.chunk_core.specs.Inlets.{inlet_failures, inlet_given, inlet_reader, inlet_reads};
-ghost use Rattle.chunk_core.specs.Outlets.{outlet_failures, outlet_writer};
+ghost use Rattle.std.specs.Prelude.{◌≡◌, ◌+◌, ◌-◌, ◌<◌, ◌≤◌, ◌^◌, IfErr, IfOk, IsErrOf, OnErr};
+ghost use Rattle.chunk_core.specs.Inlets.{inlet_failures, inlet_reads};
+ghost use Rattle.chunk_core.specs.Outlets.{outlet_failures};
 ghost use Rattle.sound_core.specs.Faults.{StopsReading, failed_reads, failed_writes};
-ghost use Rattle.sound_core.specs.Readers.{CanFail, RunsOut};
+ghost use Rattle.transfer_core.specs.Ends.{AreSpent, LagsLittle, PlaysAll, PlaysRead, Starts, WritesNothing, left_in};
 ghost use Rattle.transfer_core.specs.Faults.{OfStream, as_stream};
 ghost use Rattle.transfer_core.specs.Playing.{Plays, played_of};
 ghost use Rattle.form_core.specs.Steps.{GivesUnless};
-ghost use Rattle.transfer_core.specs.Streaming.{FailsBeforeWriting, KeepsUp, OnlyFromOutside, SaysNone, StreamApplies};
-ghost use Rattle.player_core.specs.Playing.{PlaysFile, PlaysGiven, WritesPrefix};
+ghost use Rattle.transfer_core.specs.Streaming.{FailsBeforeWriting, OnlyFromOutside, SaysNone, StreamApplies};
 
 use crate::fault::Fault;
 use crate::projects::decimator_of;
@@ -67,32 +66,27 @@ pub fn play_stream<R: Read, W: Write>(
     outlet: &mut Outlet<W>,
 ) -> Result<u64, Fault>
     // What project and file play to was written, however its bytes are split into reads.
-    ensures ok { IfOk result (PlaysFile (R.remaining (inlet_reader inlet.old)) (Plays project.now)
-        (W.contents (outlet_writer outlet.old)) (W.contents (outlet_writer outlet.new))) }
+    ensures ok { IfOk result (PlaysAll R.remaining inlet.old (Plays project.now) W.contents outlet.old outlet.new) }
     // If the reader's bytes aren't known, the same holds of what was read.
-    ensures any_reader { IfOk result (PlaysGiven R.remaining inlet.old inlet.new (Plays project.now)
-        (W.contents (outlet_writer outlet.old)) (W.contents (outlet_writer outlet.new))) }
+    ensures any_reader { IfOk result (PlaysRead R.remaining inlet.old inlet.new (Plays project.now)
+        W.contents outlet.old outlet.new) }
     // What can be played is refused only because of a device, the limit of reads or memory, and a prefix of it was
     // written.
-    ensures cause { IfErr result (OnlyFromOutside (R.remaining (inlet_reader inlet.old)) project.now) }
-    ensures prefix { OnErr result (WritesPrefix (R.remaining (inlet_reader inlet.old)) (Plays project.now)
-        (W.contents (outlet_writer outlet.old)) (W.contents (outlet_writer outlet.new))) }
+    ensures cause { IfErr result (OnlyFromOutside (left_in R.remaining inlet.old) project.now) }
+    ensures prefix { OnErr result (Starts R.remaining inlet.old (Plays project.now) W.contents outlet.old outlet.new) }
     // If the reading stops, what was written lags by at most 131,072 bytes of the one sound that the file states.
     ensures keeps_up { IfErr result (λ fault. OfStream StopsReading fault
-        → KeepsUp (R.remaining (inlet_reader inlet.old)) project.now (inlet_given inlet.new - inlet_given inlet.old)
-        (W.contents (outlet_writer outlet.old)) (W.contents (outlet_writer outlet.new))) }
+        → LagsLittle R.remaining inlet.old inlet.new project.now W.contents outlet.old outlet.new) }
     // A fault that is returned is true.
-    ensures refused { IfErr result (StreamApplies (R.remaining (inlet_reader inlet.old)) project.now) }
+    ensures refused { IfErr result (StreamApplies (left_in R.remaining inlet.old) project.now) }
     ensures read_failed { inlet_failures inlet.new ≡ inlet_failures inlet.old + failed_reads (as_stream result) }
     ensures write_failed { outlet_failures outlet.new ≡ outlet_failures outlet.old + failed_writes (as_stream result) }
     // Whatever is returned, there were at most 2^40 reads.
     ensures reads { inlet_reads inlet.new ≤ inlet_reads inlet.old + 2 ^ 40 }
-    ensures turn_limit { IsErrOf result (Fault.Stream StreamFault.TurnLimit)
-        → (CanFail outlet.old → ⊥) ⊎ RunsOut inlet.old inlet.new }
+    ensures turn_limit { IsErrOf result (Fault.Stream StreamFault.TurnLimit) → AreSpent outlet.old inlet.old inlet.new }
     // What is refused before the first read, and before the first write.
     ensures unread { SaysNone project.now → inlet_reads inlet.new ≡ inlet_reads inlet.old }
-    ensures unwritten { IfErr result (λ fault. FailsBeforeWriting fault
-        → outlet_writer outlet.new ≡ outlet_writer outlet.old) }
+    ensures unwritten { IfErr result (λ fault. FailsBeforeWriting fault → WritesNothing outlet.old outlet.new) }
 {
     accepted_files_state_one_sound();
     let taps = decimator_of(alloc, project)?;

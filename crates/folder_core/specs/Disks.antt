@@ -1,7 +1,8 @@
 -- What contracts see of the folder of the operating system: what it remembers of its calls.
-use Rattle.std.specs.Prelude.{◌≡◌, ◌≢◌, ◌⊎◌, IsTrue, true, false, None, Some, if◌then◌else◌}
+use Rattle.std.specs.Prelude.{◌≡◌, ◌≢◌, ◌⊎◌, true, false, Option, None, Some, if◌then◌else◌}
 use Rattle.std.specs.Option.{option_or}
 use Rattle.std.specs.IoError.{error_kind}
+use Rattle.std.specs.declared.io.Error.{Error}
 use Rattle.std.specs.declared.io.ErrorKind.{ErrorKind}
 use Rattle.std.specs.declared.io.ErrorKind.TheVariants.{OutOfMemory}
 use Rattle.folder_core.specs.declared.disk.Disk.{Disk}
@@ -25,6 +26,10 @@ next_step notes = if notes.has_kept then Second else First
 -- a file was kept
 abbrev pub kept_notes : Notes → Notes
 kept_notes notes = record notes { has_kept = true }
+
+-- the failure of a file by an error
+abbrev pub failure_by : Step → Error → Failure
+failure_by step error = record { step = step; error = error }
 
 -- a file failed by this, which is remembered if nothing failed before
 abbrev pub noting : Failure → Notes → Notes
@@ -54,6 +59,7 @@ MayUseOutput old new = (new ≡ old) ⊎ (new ≡ record old { used_output = tru
 abbrev pub CreatingFailed : Notes → Notes → Type 0
 CreatingFailed old new = (between : Notes) × MayUseOutput old between × MakingFailed (next_step old) between new
 
--- nothing is remembered, or a failure of the file that is being made
-abbrev pub MayNoteFailure : Notes → Notes → Type 0
-MayNoteFailure old new = (new ≡ old) ⊎ NotesFailure (next_step old) old new
+-- why the first write of the file that is being made failed is remembered, if one did and nothing failed before
+abbrev pub noting_write : Option Error → Notes → Notes
+noting_write None notes = notes
+noting_write (Some error) notes = noting (failure_by (next_step notes) error) notes

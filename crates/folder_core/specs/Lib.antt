@@ -1,3 +1,4 @@
+pub mod DiskFiles
 pub mod Disks
 pub mod Files
 pub mod GappedFiles

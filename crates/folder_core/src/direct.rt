@@ -1,6 +1,9 @@
 //! A writer to something that is written directly, such as a pipe.
 
+ghost use Rattle.std.specs.Prelude.{◌≡◌, ◌∷◌, [], OnOk};
+ghost use Rattle.std.specs.Io.KnownBytes.{Appends, Keeps};
 ghost use Rattle.std.specs.Io.{WritesAtMost};
+ghost use Rattle.folder_core.specs.DiskFiles.{TakesBytes, direct_contents, held_bytes};
 
 use std::io;
 use std::io::Write;
@@ -23,7 +26,10 @@ enum Kept {
 }
 
 impl<W> Direct<W> {
-    pub(crate) fn new(to: W) -> Direct<W> {
+    pub(crate) fn new(to: W) -> Direct<W>
+        ensures writer { result.to ≡ to }
+        ensures empty { held_bytes result.kept ≡ [] }
+    {
         Direct {
             to,
             kept: Kept::None,
@@ -40,6 +46,8 @@ impl<W: Write> Direct<W> {
     /// Takes bytes, and holds back the last.
     pub(crate) fn write(&mut self, buf: &[u8]) -> io::Result<usize>
         ensures bound { WritesAtMost result buf.now }
+        ensures bytes { TakesBytes (direct_contents W.contents self.old) (direct_contents W.contents self.new) result
+            buf.now }
     {
         if buf.is_empty() {
             return Ok(0);
@@ -60,7 +68,10 @@ impl<W: Write> Direct<W> {
     }
 
     // Holds back one more byte.
-    fn keep(&mut self, byte: u8) -> io::Result<()> {
+    fn keep(&mut self, byte: u8) -> io::Result<()>
+        ensures { OnOk result (Appends (direct_contents W.contents self.old) (direct_contents W.contents self.new)
+            (byte ∷ [])) }
+    {
         if let Kept::Two(_, _) = self.kept {
             self.flush()?;
         }
@@ -72,7 +83,10 @@ impl<W: Write> Direct<W> {
     }
 
     /// Writes what was held back, in one write if the system takes it whole.
-    pub(crate) fn flush(&mut self) -> io::Result<()> {
+    pub(crate) fn flush(&mut self) -> io::Result<()>
+        ensures bytes { OnOk result (Keeps (direct_contents W.contents self.old) (W.contents self.new.to)) }
+        ensures empty { held_bytes self.new.kept ≡ [] }
+    {
         let kept = self.kept;
         self.kept = Kept::None;
         match kept {

@@ -1,7 +1,8 @@
 //! The folder of the operating system.
 
-ghost use Rattle.std.specs.Prelude.{◌≡◌, OnErr, OnOk};
-ghost use Rattle.folder_core.specs.Disks.{MakingFailed, CreatingFailed, IsFresh, IsRefused, MayNoteFailure, MayUseOutput, NotesFailure, kept_notes, notes_of, next_step};
+ghost use Rattle.std.specs.Prelude.{◌≡◌, None, IfOk, IfSome, IsErr, OnErr, OnOk};
+ghost use Rattle.folder_core.specs.DiskFiles.{failure_of};
+ghost use Rattle.folder_core.specs.Disks.{MakingFailed, CreatingFailed, IsFresh, IsRefused, MayUseOutput, NotesFailure, kept_notes, notes_of, next_step, noting_write};
 ghost use Rattle.folder_core.specs.Files.{unknown_view};
 ghost use Rattle.folder_core.specs.declared.notes.Step.TheVariants.{Second};
 
@@ -130,7 +131,8 @@ where
     }
 
     fn create_file(&mut self, name: &str) -> io::Result<DiskFile<R::File, Printer<'a, R>>>
-        ensures { MayUseOutput (notes_of self.old) (notes_of self.new) }
+        ensures notes { MayUseOutput (notes_of self.old) (notes_of self.new) }
+        ensures fresh { IfOk result (λ file. failure_of file ≡ None) }
     {
         let place = self.place_of(name)?;
         if !self.opened.is_null() && self.opened.is_output(self.rt, name) {
@@ -202,6 +204,7 @@ where
 
     fn create(&mut self, name: &str) -> Result<DiskFile<R::File, Printer<'a, R>>, FolderFault>
         ensures made { OnOk result (MayUseOutput (notes_of self.old) (notes_of self.new)) }
+        ensures fresh { IfOk result (λ file. failure_of file ≡ None) }
         ensures failed { OnErr result (CreatingFailed (notes_of self.old) (notes_of self.new)) }
     {
         match self.create_file(name) {
@@ -221,6 +224,8 @@ where
         ensures kept { OnOk result (notes_of self.new ≡ kept_notes (notes_of self.old)) }
         ensures failed { OnErr result (NotesFailure (next_step (notes_of self.old)) (notes_of self.old)
             (notes_of self.new)) }
+        ensures heeded { IfSome (failure_of out.entry) (λ error. IsErr result
+            × (notes_of self.new ≡ noting_write (failure_of out.entry) (notes_of self.old))) }
     {
         let _ = name;
         match out.put_in_place(self.rt) {
@@ -237,7 +242,7 @@ where
 
     // An old file stays. If there is none, the new one gets the name.
     fn give_up(&mut self, name: &str, out: DiskFile<R::File, Printer<'a, R>>)
-        ensures { MayNoteFailure (notes_of self.old) (notes_of self.new) }
+        ensures { notes_of self.new ≡ noting_write (failure_of out.entry) (notes_of self.old) }
     {
         let _ = name;
         if let Some(error) = out.give_up(self.rt) {

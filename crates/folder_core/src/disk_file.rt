@@ -1,6 +1,12 @@
 //! A file of the operating system that is being written.
 
+ghost use Rattle.std.specs.Prelude.{◌≡◌, None, Some, false, Err, IfSome, OnOk};
+ghost use Rattle.std.specs.Io.KnownBytes.{Keeps};
 ghost use Rattle.std.specs.Io.{WritesAtMost};
+ghost use Rattle.std.specs.Option.{option_or};
+ghost use Rattle.std.specs.IoError.{error_kind};
+ghost use Rattle.std.specs.declared.io.ErrorKind.TheVariants.{WriteZero};
+ghost use Rattle.folder_core.specs.DiskFiles.{NotesCount, NotesFlush, NotesWrite, TakesBytes, destination_contents, direct_contents, failure_of, file_contents};
 
 use crate::direct::Direct;
 use crate::places::TargetPath;
@@ -13,7 +19,7 @@ use std::{fs, io};
 /// [`give_up`](crate::Folder::give_up).
 pub struct DiskFile<F, O> {
     destination: Destination<F, O>,
-    // Why the first write that failed did.
+    // Why the first write or flush that failed did.
     failure: Option<Error>,
 }
 
@@ -44,22 +50,30 @@ struct InPlace<F> {
 
 impl<F, O> DiskFile<F, O> {
     // A file that is written directly. `holds_old` says that it still holds what it held before.
-    pub(crate) fn in_place(file: F, holds_old: bool) -> Self {
+    pub(crate) fn in_place(file: F, holds_old: bool) -> Self
+        ensures { failure_of result ≡ None }
+    {
         let file = Direct::new(file);
         Self::to(Destination::InPlace(InPlace { file, holds_old }))
     }
 
     // A file that is written under another name, and then gets its own.
-    pub(crate) fn beside(file: F, leftover: String, target: TargetPath) -> Self {
+    pub(crate) fn beside(file: F, leftover: String, target: TargetPath) -> Self
+        ensures { failure_of result ≡ None }
+    {
         Self::to(Destination::Beside(file, Beside { leftover, target }))
     }
 
     // Standard output.
-    pub(crate) fn output(output: O) -> Self {
+    pub(crate) fn output(output: O) -> Self
+        ensures { failure_of result ≡ None }
+    {
         Self::to(Destination::Output(Direct::new(output)))
     }
 
-    fn to(destination: Destination<F, O>) -> Self {
+    fn to(destination: Destination<F, O>) -> Self
+        ensures { failure_of result ≡ None }
+    {
         DiskFile {
             destination,
             failure: None,
@@ -68,21 +82,30 @@ impl<F, O> DiskFile<F, O> {
 }
 
 impl<F: Write + OpenFile + Drop, O: Write + Drop> DiskFile<F, O> {
-    // Gives the file its name once its bytes are on the device, or else removes what was written.
-    pub(crate) fn put_in_place<R: Files>(self, rt: &R) -> io::Result<()> {
+    // Gives the file its name once its bytes are on the device. If a write failed, it returns why, and removes what was
+    // written under another name.
+    pub(crate) fn put_in_place<R: Files>(self, rt: &R) -> io::Result<()>
+        ensures heeded { IfSome (failure_of self) (λ error. result ≡ Err error) }
+    {
         let DiskFile {
             destination,
             failure,
         } = self;
-        match destination {
+        let ended = match destination {
             Destination::Beside(file, beside) => beside.end(rt, &file, failure),
             Destination::InPlace(mut stands) => stands.end(),
             Destination::Output(mut output) => output.flush(),
+        };
+        match failure {
+            Some(failed) => Err(failed),
+            None => ended,
         }
     }
 
     // Gives the file its name if no other has it, or else removes what was written. Returns why a write failed.
-    pub(crate) fn give_up<R: Files>(self, rt: &R) -> Option<Error> {
+    pub(crate) fn give_up<R: Files>(self, rt: &R) -> Option<Error>
+        ensures { result ≡ failure_of self }
+    {
         let DiskFile {
             destination,
             failure,
@@ -102,26 +125,36 @@ impl<F: Write + OpenFile + Drop, O: Write + Drop> DiskFile<F, O> {
 
 impl<F, O> DiskFile<F, O> {
     // Remembers a write that took nothing of some bytes.
-    fn remember_count(&mut self, count: usize, buf: &[u8]) {
+    fn remember_count(&mut self, count: usize, buf: &[u8])
+        ensures notes { NotesCount count buf.now (failure_of self.old) (failure_of self.new) }
+        ensures same { self.new.destination ≡ self.old.destination }
+    {
         if count == 0 && !buf.is_empty() {
-            self.failure = self.failure.or(Some(untaken()));
+            self.remember(untaken());
         }
+    }
+
+    // Remembers why a write failed, if none did before.
+    fn remember(&mut self, error: Error)
+        ensures notes { failure_of self.new ≡ option_or (failure_of self.old) (Some error) }
+        ensures same { self.new.destination ≡ self.old.destination }
+    {
+        self.failure = self.failure.or(Some(error));
     }
 }
 
 // The error of a write that took nothing.
-fn untaken() -> Error {
+fn untaken() -> Error
+    ensures { error_kind result ≡ WriteZero }
+{
     Error::from(ErrorKind::WriteZero)
 }
 
 impl Beside {
     // Puts what was written in the place of its target, or removes it if a write failed or it can't be put there.
-    fn end<R: Files>(
-        &self,
-        rt: &R,
-        file: &impl OpenFile,
-        failure: Option<Error>,
-    ) -> io::Result<()> {
+    fn end<R: Files>(&self, rt: &R, file: &impl OpenFile, failure: Option<Error>) -> io::Result<()>
+        ensures heeded { IfSome failure (λ error. result ≡ Err error) }
+    {
         let put = match failure {
             Some(error) => Err(error),
             None => self.replace(rt, file),
@@ -145,7 +178,10 @@ impl Beside {
 
 impl<F: Write + OpenFile> InPlace<F> {
     // Removes what the file held before.
-    fn empty(&mut self) -> io::Result<()> {
+    fn empty(&mut self) -> io::Result<()>
+        ensures same { self.new.file ≡ self.old.file }
+        ensures emptied { OnOk result (self.new.holds_old ≡ false) }
+    {
         if self.holds_old {
             self.file.get_ref().set_len(0)?;
             self.holds_old = false;
@@ -154,7 +190,10 @@ impl<F: Write + OpenFile> InPlace<F> {
     }
 
     // Writes what was held back. A file to which nothing was written becomes empty.
-    fn end(&mut self) -> io::Result<()> {
+    fn end(&mut self) -> io::Result<()>
+        ensures written { OnOk result (Keeps (direct_contents F.contents self.old.file) (F.contents self.new.file.to)) }
+        ensures emptied { OnOk result (self.new.holds_old ≡ false) }
+    {
         self.empty()?;
         self.file.flush()
     }
@@ -163,6 +202,8 @@ impl<F: Write + OpenFile> InPlace<F> {
 impl<F: Write + OpenFile, O: Write> Destination<F, O> {
     fn write(&mut self, buf: &[u8]) -> io::Result<usize>
         ensures bound { WritesAtMost result buf.now }
+        ensures bytes { TakesBytes (destination_contents F.contents O.contents self.old)
+            (destination_contents F.contents O.contents self.new) result buf.now }
     {
         match self {
             Destination::Beside(file, _) => file.write(buf),
@@ -174,7 +215,10 @@ impl<F: Write + OpenFile, O: Write> Destination<F, O> {
         }
     }
 
-    fn flush(&mut self) -> io::Result<()> {
+    fn flush(&mut self) -> io::Result<()>
+        ensures bytes { OnOk result (Keeps (destination_contents F.contents O.contents self.old)
+            (destination_contents F.contents O.contents self.new)) }
+    {
         match self {
             Destination::Beside(file, _) => file.flush(),
             Destination::InPlace(stands) => stands.file.flush(),
@@ -184,20 +228,35 @@ impl<F: Write + OpenFile, O: Write> Destination<F, O> {
 }
 
 impl<F: Write + OpenFile, O: Write> Write for DiskFile<F, O> {
-    fn write(&mut self, buf: &[u8]) -> io::Result<usize> {
+    fn write(&mut self, buf: &[u8]) -> io::Result<usize>
+        ensures bound { WritesAtMost result buf.now }
+        ensures taken { TakesBytes (file_contents F.contents O.contents self.old)
+            (file_contents F.contents O.contents self.new) result buf.now }
+        ensures notes { NotesWrite result buf.now (failure_of self.old) (failure_of self.new) }
+    {
         match self.destination.write(buf) {
             Ok(count) => {
                 self.remember_count(count, buf);
                 Ok(count)
             }
             Err(error) => {
-                self.failure = self.failure.or(Some(error));
+                self.remember(error);
                 Err(error)
             }
         }
     }
 
-    fn flush(&mut self) -> io::Result<()> {
-        self.destination.flush()
+    fn flush(&mut self) -> io::Result<()>
+        ensures kept { OnOk result (Keeps (file_contents F.contents O.contents self.old)
+            (file_contents F.contents O.contents self.new)) }
+        ensures notes { NotesFlush result (failure_of self.old) (failure_of self.new) }
+    {
+        match self.destination.flush() {
+            Ok(()) => Ok(()),
+            Err(error) => {
+                self.remember(error);
+                Err(error)
+            }
+        }
     }
 }

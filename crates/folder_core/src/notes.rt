@@ -3,7 +3,7 @@
 ghost use Rattle.std.specs.Prelude.{◌≡◌, ◌↔◌, IsTrue};
 ghost use Rattle.std.specs.IoError.{error_kind};
 ghost use Rattle.std.specs.declared.io.ErrorKind.TheVariants.{OutOfMemory};
-ghost use Rattle.folder_core.specs.Disks.{MakingFailed, IsFresh, NotesFailure, RunsOut, next_step};
+ghost use Rattle.folder_core.specs.Disks.{IsFresh, RunsOut, failure_by, next_step, noting};
 
 use std::io::{Error, ErrorKind};
 
@@ -77,14 +77,14 @@ impl Notes {
 
     /// Remembers why a file that is made failed, if none did before.
     pub(crate) fn add_failure(&mut self, step: Step, error: Error)
-        ensures { NotesFailure step self.old self.new }
+        ensures { self.new ≡ noting (failure_by step error) self.old }
     {
         self.failure = self.failure.or(Some(Failure { step, error }));
     }
 
     /// Remembers both of an error.
     pub(crate) fn add_failed(&mut self, step: Step, error: Error)
-        ensures { MakingFailed step self.old self.new }
+        ensures { RunsOut (error_kind error) (noting (failure_by step error) self.old) self.new }
     {
         self.failure = self.failure.or(Some(Failure { step, error }));
         self.add_error(error);

@@ -1,5 +1,8 @@
 //! Where new files of the operating system go.
 
+ghost use Rattle.std.specs.Prelude.{◌≡◌, None, IfOk};
+ghost use Rattle.folder_core.specs.DiskFiles.{failure_of};
+
 use crate::disk_file::DiskFile;
 use crate::leftovers::{MOST_ADDED_BYTES, create_beside, folder_of, remove_abandoned};
 use crate::opened::{Opened, STANDARD};
@@ -51,6 +54,7 @@ impl Place {
     ) -> io::Result<DiskFile<R::File, Printer<'a, R>>>
     where
         R::File: AsFd,
+        ensures fresh { IfOk result (λ file. failure_of file ≡ None) }
     {
         match self {
             Place::Path(path, leftover) => {
@@ -101,6 +105,7 @@ fn create_at<'a, R: Files + Print>(
 ) -> io::Result<DiskFile<R::File, Printer<'a, R>>>
 where
     R::File: AsFd,
+    ensures { IfOk result (λ file. failure_of file ≡ None) }
 {
     target.check_writable(rt)?;
     remove_abandoned(rt, target.path(), &mut leftover);
@@ -117,7 +122,9 @@ fn as_it_holds<'a, R: Files + Print>(
     rt: &'a R,
     path: &str,
     opened: &Opened,
-) -> io::Result<DiskFile<R::File, Printer<'a, R>>> {
+) -> io::Result<DiskFile<R::File, Printer<'a, R>>>
+    ensures { IfOk result (λ file. failure_of file ≡ None) }
+{
     if opened.is_output(rt, path) {
         if opened.is_output_source() {
             return Err(refused());

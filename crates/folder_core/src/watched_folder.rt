@@ -1,7 +1,7 @@
 //! A folder that shows how far its files are read.
 
-ghost use Rattle.std.specs.Prelude.{◌≡◌};
-ghost use Rattle.folder_core.specs.WatchedFolders.{watched_file, watched_folder};
+ghost use Rattle.std.specs.Prelude.{◌≡◌, false};
+ghost use Rattle.folder_core.specs.WatchedFolders.{shows, watched_file, watched_folder};
 
 use crate::folder::{Folder, FolderFault, Work};
 use crate::progress::{ProgressLine, Stint, clear_stint, show_sizes, show_stint};
@@ -38,9 +38,10 @@ pub struct WatchedFile<'a, I, R: Clock + Eprint> {
 }
 
 impl<'a, F: Folder, R: Clock> WatchedFolder<'a, F, R> {
-    /// Watches this folder. `is_shown` says whether anything is shown.
+    /// Watches this folder. `is_shown` says whether anything is shown; nothing is, either, if the time isn't known.
     pub fn new(rt: &'a R, folder: F, is_shown: bool) -> Self
-        ensures { watched_folder result ≡ folder }
+        ensures folder { watched_folder result ≡ folder }
+        ensures quiet { is_shown ≡ false → shows result ≡ false }
     {
         let start = if is_shown {
             Instant::now(rt).ok()

@@ -2,9 +2,10 @@
 //! [`sum_task_of`] reads those of `sum`, which takes any number of files. An [`Explanation`] is the text of a line that
 //! explains a fault or a rejection.
 //!
-//! What it promises, beside that it is safe: which place of frames or marks a word names (`specs/Places.antt`), that a
-//! part that is asked for has a place, that `sum` isn't refused for a form (`specs/Asked.antt`), and that an explanation
-//! isn't empty. Which words ask for what is tested by `tests/try_commands`.
+//! What it promises, beside that it is safe: which place a word names (frames and marks in `specs/Places.antt`, times
+//! in `specs/Times.antt`), that a part that is asked for has a place, that `sum` isn't refused for a form
+//! (`specs/Asked.antt`), and that an explanation isn't empty. Which words ask for what is tested by
+//! `tests/try_commands`.
 //!
 //! ```text
 //! match task_of(alloc, &words) {

@@ -1,9 +1,10 @@
 //! A place in a recording, as a word names it.
 
-ghost use Rattle.std.specs.Prelude.{◌≡◌, ◌≢◌, ◌<◌, ◌∷◌, ℕ, IfSome, List, SomeIff, slice_index};
+ghost use Rattle.std.specs.Prelude.{◌≡◌, ◌≢◌, ◌<◌, ◌∷◌, [], ℕ, List, SomeIff, slice_index};
 ghost use Rattle.std.specs.Char.{digit_value};
 ghost use Rattle.std.specs.Str.Parse.{digits_value};
-ghost use Rattle.words_core.specs.Places.{IsNumbered, IsTime, NamesNumber};
+ghost use Rattle.words_core.specs.Places.{IsNumbered, NamesNumber};
+ghost use Rattle.words_core.specs.Times.{IsTimed, StepsBy, in_range, is_field, rest_time, time_of};
 ghost use Rattle.words_core.specs.declared.place.Place.TheVariants as places;
 
 /// A place in a recording.
@@ -27,7 +28,7 @@ pub fn place_named(word: &str) -> Option<Place>
     // 64 is `@`, and 35 is `#`.
     ensures frame { (digits : List ℕ) → word.now ≡ 64 ∷ digits → IsNumbered places.Frame digits result }
     ensures mark { (digits : List ℕ) → word.now ≡ 35 ∷ digits → IsNumbered places.Mark digits result }
-    ensures time { slice_index word.now 0 ≢ 64 → slice_index word.now 0 ≢ 35 → IfSome result IsTime }
+    ensures time { slice_index word.now 0 ≢ 64 → slice_index word.now 0 ≢ 35 → IsTimed word.now result }
 {
     let bytes = word.as_bytes();
     match bytes.split_first() {
@@ -65,13 +66,13 @@ fn number_named(digits: &[u8]) -> Option<u64>
     Some(number)
 }
 
-// A time that is read up to a byte: what the fields before count in units of this one, this field, how many digits it
-// has, how many fields came before, what the next digit behind the point is worth, and what those behind it are.
+// A time that is read up to a byte: what the fields before count in units of this one, this field and whether it has a
+// digit, how many fields came before, what the last digit behind the point is worth, and what those behind it are.
 #[derive(Clone, Copy)]
 struct Reading {
     before: u64,
     number: u64,
-    digits: u32,
+    has_digit: bool,
     fields: u32,
     worth: u64,
     nanoseconds: u64,
@@ -79,35 +80,51 @@ struct Reading {
 }
 
 // The nanoseconds that a word names.
-fn time_named(word: &[u8]) -> Option<u64> {
+fn time_named(word: &[u8]) -> Option<u64>
+    ensures { result ≡ in_range (time_of word.now) }
+{
     let mut reading = Reading {
         before: 0,
         number: 0,
-        digits: 0,
+        has_digit: false,
         fields: 0,
-        worth: SECOND,
+        worth: 0,
         nanoseconds: 0,
         is_after_point: false,
     };
-    for byte in word {
-        reading = match *byte {
-            b':' => reading.colon()?,
-            b'.' => reading.point()?,
-            other => reading.digit(digit_of(other)?)?,
-        };
+    let mut rest = word;
+    while let Some((byte, after)) = rest.split_first() {
+        reading = reading.with(*byte)?;
+        rest = after;
     }
     reading.end()
 }
 
 impl Reading {
     // Whether this field has digits, and is below 60 where another came before it.
-    fn is_field(self) -> bool {
-        self.digits > 0 && (self.fields == 0 || self.number < 60)
+    fn is_field(self) -> bool
+        ensures { result ≡ is_field self.fields self.has_digit self.number }
+    {
+        self.has_digit && (self.fields == 0 || self.number < 60)
     }
 
-    fn digit(self, value: u64) -> Option<Reading> {
+    // What is read with one byte more.
+    fn with(self, byte: u8) -> Option<Reading>
+        ensures { StepsBy self byte result }
+    {
+        match byte {
+            b':' => self.colon(),
+            b'.' => self.point(),
+            other => self.digit(other),
+        }
+    }
+
+    fn digit(self, byte: u8) -> Option<Reading>
+        ensures { byte ≢ 58 → byte ≢ 46 → StepsBy self byte result }
+    {
+        let value = digit_of(byte)?;
         let mut next = self;
-        next.digits = self.digits.checked_add(1)?;
+        next.has_digit = true;
         if self.is_after_point {
             next.worth = self.worth / 10;
             if next.worth == 0 {
@@ -122,29 +139,36 @@ impl Reading {
         Some(next)
     }
 
-    fn colon(self) -> Option<Reading> {
-        if self.is_after_point || self.fields == 2 || !self.is_field() {
+    fn colon(self) -> Option<Reading>
+        ensures { StepsBy self 58 result }
+    {
+        if self.is_after_point || self.fields >= 2 || !self.is_field() {
             return None;
         }
         let mut next = self;
         next.before = self.before.checked_add(self.number)?.checked_mul(60)?;
         next.number = 0;
-        next.digits = 0;
-        next.fields = self.fields.checked_add(1)?;
+        next.has_digit = false;
+        next.fields = self.fields + 1;
         Some(next)
     }
 
-    fn point(self) -> Option<Reading> {
+    fn point(self) -> Option<Reading>
+        ensures { StepsBy self 46 result }
+    {
         if self.is_after_point || !self.is_field() {
             return None;
         }
         let mut next = self;
         next.is_after_point = true;
-        next.digits = 0;
+        next.has_digit = false;
+        next.worth = SECOND;
         Some(next)
     }
 
-    fn end(self) -> Option<u64> {
+    fn end(self) -> Option<u64>
+        ensures { result ≡ in_range (rest_time self []) }
+    {
         if !self.is_field() {
             return None;
         }

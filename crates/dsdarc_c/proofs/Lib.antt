@@ -5,3 +5,4 @@ pub mod WholeLaws
 pub mod HeaderLaws
 pub mod TakingLaws
 pub mod EndingLaws
+pub mod NumberLaws

@@ -1,4 +1,6 @@
 pub mod Ending
+pub mod Making
+pub mod Numbers
 pub mod Playing
 pub mod Pushing
 pub mod Seeking

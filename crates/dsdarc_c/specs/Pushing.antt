@@ -10,7 +10,7 @@ use Rattle.player_core.specs.declared.pausing.PausedPart.{PausedPart}
 use Rattle.sound_core.specs.Files.{IsBeforeSound, IsHeaderOf, IsRefused, LeadsToSound}
 use Rattle.dsdarc_c.specs.Playing.{HasPlayed}
 use Rattle.dsdarc_c.specs.declared.pushing.Pushing.{Pushing}
-use Rattle.dsdarc_c.specs.declared.pushing.Rest.{Rest}
+use Rattle.dsdarc_c.specs.declared.within_sound.Rest.{Rest}
 use Rattle.dsdarc_c.specs.declared.pushing.Stage.{Stage}
 use Rattle.dsdarc_c.specs.declared.pushing.Stage.TheVariants as stages
 
@@ -22,7 +22,8 @@ pub record IsPushedHeader (header : List ℕ) (s : Sound) : Type 0 where
   pub start_low : s.start ≤ 2 ^ 61
   pub size_low : s.size ≤ 2 ^ 61
 
--- these bytes state no sound yet, and are no recording; the sound of each recording that begins with them comes after them
+-- these bytes state no sound yet, and are no recording; the sound of each recording that begins with them comes after
+-- them
 pub record IsUnstated (header : List ℕ) : Type 0 where
   pub none : (s : Sound) → LeadsToSound header s → ⊥
   pub refused : IsRefused header

@@ -16,7 +16,8 @@ pub record GoesTo (p : Pushing) (frame place : ℕ) : Type 0 where
   pub from : sound.start ≤ place
   pub to : place ≤ sound.start + sound.size
 
--- a seek is refused: before the sound is known, after another refusal, because the sound has no such frame, or for memory
+-- a seek is refused: before the sound is known, after another refusal, because the sound has no such frame, or for
+-- memory
 abbrev pub RefusesSeek : Pushing → ℕ → PlayFault → Type 0
 RefusesSeek p frame faults.NotYet = p.stage ≡ stages.Header
 RefusesSeek p frame faults.AfterFault = p.stage ≡ stages.Failed

@@ -28,21 +28,33 @@ BeginsWith file header = header ≡ take (length header) file
 abbrev pub frames_from : Decimator → Sound → List ℕ → ℕ → List ℕ
 frames_from d s file start = part_bytes d s (sound_bytes file s) start (total_frames d s)
 
+-- these bytes are a prefix of those
+abbrev pub IsPrefixOf : List ℕ → List ℕ → Type 0
+IsPrefixOf out whole = (more : List ℕ) × (whole ≡ out ++ more)
+
 -- if the file has all bytes of the sound, its frames from this one on begin with these bytes
 abbrev pub ComeFirst : Decimator → Sound → List ℕ → ℕ → List ℕ → Type 0
-ComeFirst d s file start out = s.start + s.size ≤ length file → (more : List ℕ) × (frames_from d s file start ≡ out ++ more)
+ComeFirst d s file start out = s.start + s.size ≤ length file → IsPrefixOf out (frames_from d s file start)
+
+-- these bytes come first among the frames of the sound that the file's header states
+abbrev pub ComeFirstInFile : Decimator → List ℕ → ℕ → List ℕ → Type 0
+ComeFirstInFile d file start out = (s : Sound) × IsPushedHeader (take s.start file) s × ComeFirst d s file start out
 
 -- there are no bytes, or they come first among the frames of the sound that the file's header states
 abbrev pub IsPrefixOfFrames : Decimator → List ℕ → ℕ → List ℕ → Type 0
-IsPrefixOfFrames d file start out = (out ≡ []) ⊎ ((s : Sound) × IsPushedHeader (take s.start file) s × ComeFirst d s file start out)
+IsPrefixOfFrames d file start out = (out ≡ []) ⊎ ComeFirstInFile d file start out
 
 -- if the file has all bytes of the sound, these are the bytes of its frames from this one on
 abbrev pub AreAllFrames : Decimator → Sound → List ℕ → ℕ → List ℕ → Type 0
 AreAllFrames d s file start out = s.start + s.size ≤ length file → out ≡ frames_from d s file start
 
+-- the bytes of a file from the end of its sound up to this place, as far as they are in the DSDIFF form
+abbrev pub form_bytes : List ℕ → List ℕ → Sound → ℕ → List ℕ
+form_bytes file header s place = take (left_after header s.size) (slice_range file (s.start + s.size) place)
+
 -- these bytes of a DSDIFF file are kept after its sound: those up to this place, as far as they are in the form
 abbrev pub KeepsForm : List ℕ → List ℕ → Sound → ℕ → List ℕ → Type 0
-KeepsForm file header s place back = s.interleaving ≡ Bytes → back ≡ take (left_after header s.size) (slice_range file (s.start + s.size) place)
+KeepsForm file header s place back = s.interleaving ≡ Bytes → back ≡ form_bytes file header s place
 
 -- the file has come to the end of its sound
 abbrev pub IsBehind : Stage → Type 0
@@ -58,9 +70,14 @@ pub record PlaysSoundOf (d : Decimator) (file : List ℕ) (start : ℕ) (out hea
   pub long : length (slice_range file (s.start + part_start player) place) + left ≡ (part_rest player).size
   pub after : (s.start + part_start player ≤ place) ⊎ (left ≡ 0)
 
+-- the whole sound was pushed: all frames were given, and these bytes of the form after it are kept
+abbrev pub PlaysAllOf : Decimator → List ℕ → ℕ → List ℕ → List ℕ → ℕ → Sound → List ℕ → Type 0
+PlaysAllOf d file start out header place s back =
+    BeginsWith file header × AreAllFrames d s file start out × KeepsForm file header s place back
+
 -- the same of a player that pauses; without one, all frames were given, and nothing after the sound was pushed
 abbrev pub PlaysRestOf : Decimator → List ℕ → ℕ → List ℕ → List ℕ → ℕ → Sound → Option PausedPart → ℕ → Type 0
-PlaysRestOf d file start out header place s None left = BeginsWith file header × AreAllFrames d s file start out × KeepsForm file header s place []
+PlaysRestOf d file start out header place s None left = PlaysAllOf d file start out header place s []
 PlaysRestOf d file start out header place s (Some q) left = PlaysSoundOf d file start out header place s q left
 
 -- what each stage says of the file's bytes before this place, and of the bytes of frames that were given since the
@@ -68,7 +85,7 @@ PlaysRestOf d file start out header place s (Some q) left = PlaysSoundOf d file 
 abbrev pub PlaysStageOf : Decimator → List ℕ → ℕ → List ℕ → List ℕ → ℕ → Stage → Type 0
 PlaysStageOf d file start out header place stages.Header = BeginsWith file header × (start ≡ 0) × (out ≡ [])
 PlaysStageOf d file start out header place (stages.Sound s q left) = PlaysSoundOf d file start out header place s q left
-PlaysStageOf d file start out header place (stages.After s back) = BeginsWith file header × AreAllFrames d s file start out × KeepsForm file header s place back.items
+PlaysStageOf d file start out header place (stages.After s back) = PlaysAllOf d file start out header place s back.items
 PlaysStageOf d file start out header place stages.Failed = IsPrefixOfFrames d file start out
 
 -- the bytes of frames that can be pulled

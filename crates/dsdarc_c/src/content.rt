@@ -21,11 +21,13 @@ impl Model for PushPlayer {
 }
 
 impl PushPlayer {
+    ghost use Rattle.std.specs.Prelude.{◌≡◌};
     ghost use Rattle.dsdarc_c.specs.Pushing.{IsPushing};
 
     /// What a player keeps to, it keeps to here.
     pub(crate) fn of(pushing: Pushing) -> PushPlayer
         requires { IsPushing pushing }
+        ensures { result ≡ pushing }
     {
         PushPlayer { pushing }
     }

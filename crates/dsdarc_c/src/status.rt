@@ -1,6 +1,7 @@
 //! The statuses of the calls, as C knows them.
 
 ghost use Rattle.std.specs.Prelude.{◌≡◌};
+ghost use Rattle.dsdarc_c.specs.Making.{status_of_project};
 ghost use Rattle.dsdarc_c.specs.Statuses.{status_of};
 
 use crate::fault::PlayFault;
@@ -42,7 +43,9 @@ const SHORT_CUE: u32 = 17;
 const LAST_BRIDGE: u32 = 18;
 
 /// The status of a call that is out of memory.
-pub(crate) fn memory() -> u32 {
+pub(crate) fn memory() -> u32
+    ensures { result ≡ 3 }
+{
     MEMORY
 }
 
@@ -69,7 +72,9 @@ pub(crate) fn status_of(fault: PlayFault) -> u32
 }
 
 /// The status of a fault of a project text.
-pub(crate) fn status_of_project(fault: ProjectFault) -> u32 {
+pub(crate) fn status_of_project(fault: ProjectFault) -> u32
+    ensures { result ≡ status_of_project fault }
+{
     match fault {
         ProjectFault::NotToml => NOT_TOML,
         ProjectFault::UnknownKey => UNKNOWN_KEY,

@@ -4,8 +4,5 @@ use Rattle.dsdarc_c.proofs.dsdarc_c_end.Goals as goal
 
 pub returns-in-Err : goal.returns-in-Err
 returns-in-Err c =
-    let view = c.behind-player.view_is in
-    let value = c.deref_mut.ensures.value in
-    let held = c.into_box-player.ensures in
-    let same : c.behind-player.inside.pushing ≡ c.args.handle.value = cc in
+    let same : c.behind-player.inside.pushing ≡ c.args.handle.value = cc (c.behind-player.view_is, c.deref_mut.ensures.value, c.into_box-player.ensures) in
     inr (c.in-Err.fault, c.status_of.ensures, subst (λ p. RefusesEnd p c.in-Err.fault) same c.in-Err.ensures.refused)

@@ -1,0 +1,28 @@
+use Rattle.std.proofs.Common.{◌≡◌, ◌++◌, ◌+◌, ◌-◌, ◌∙◌, ap₂, arith, length, subst, sym}
+use Rattle.dsd_bits.specs.declared.interleaving.Interleaving.TheVariants.{Bytes}
+use Rattle.dsdiff_core.specs.Headers.{left_after}
+use Rattle.dsdarc_c.specs.Whole.{KeepsForm, PlaysStageOf, waiting}
+use Rattle.dsdarc_c.specs.declared.pushing.Stage.TheVariants as stages
+use Rattle.dsdarc_c.proofs.EndingLaws.{cut_form, keeps_more}
+use Rattle.dsdarc_c.proofs.WholeLaws.{prefix_of}
+use Rattle.dsdarc_c.proofs.taking.push_after.Goals as goal
+
+pub returns-in_err-extend_from_slice-clause-plays : goal.returns-in_err-extend_from_slice-clause-plays
+returns-in_err-extend_from_slice-clause-plays c file start pulled begins all keeps at =
+    let p = c.args.p.now in
+    let stage = stages.After c.args.sound c.args.back in
+    let is = subst (λ s. PlaysStageOf p.taps file start (pulled ++ waiting p) p.header.items p.place s) (sym c.requires.failed) (prefix_of p.taps file start (pulled ++ waiting p) p.header.items p.place stage c.requires.after (begins, all, keeps)) in
+    record { stage = is }
+
+pub returns-clause-plays : goal.returns-clause-plays
+returns-clause-plays c file start pulled begins all keeps at =
+    let p = c.args.p.now in
+    let s = c.args.sound in
+    let old = c.args.back.items in
+    let piece = c.args.piece.now in
+    let kept = c.split_at.result.0.now in
+    let long : c.len.result ≡ length old = omega (arith, c.len.ensures, c.args.back.ok.0) in
+    let cut = λ (order : s.interleaving ≡ Bytes). cut_form piece kept c.min.result c.form_bytes_wanted-wanted.result (left_after p.header.items s.size - length old) c.split_at.ensures.front (omega (arith, c.min.ensures))
+    (c.form_bytes_wanted-wanted.ensures order ∙ ap₂ (λ xs n. left_after xs s.size - n) c.as_slice.ensures.value long) in
+    let form = keeps_more file p.header.items s p.place old piece kept c.requires.after.after at cut keeps in
+    record { stage = (begins, all, subst (λ xs. KeepsForm file p.header.items s (p.place + length piece) xs) (sym c.in_ok-extend_from_slice.ensures.items) form) }

@@ -1,0 +1,45 @@
+-- Whether a player is made by a project text, and what it is then.
+use Rattle.std.specs.Prelude.{◌≡◌, ◌⊎◌, ℕ, List, [], Option, None, Some, Result, Ok, Err}
+use Rattle.fir_core.specs.Decimator.{Decimator}
+use Rattle.project_core.specs.Projects.{ProjectContent}
+use Rattle.project_core.specs.ReadingProject.{project_at}
+use Rattle.project_core.specs.declared.fault.ProjectFault.{ProjectFault}
+use Rattle.project_core.specs.declared.fault.ProjectFault.TheVariants as faults
+use Rattle.dsdarc_c.specs.Whole.{waiting}
+use Rattle.dsdarc_c.specs.declared.pushing.Pushing.{Pushing}
+use Rattle.dsdarc_c.specs.declared.pushing.Stage.TheVariants as stages
+
+-- the status of a fault of a project text
+abbrev pub status_of_project : ProjectFault → ℕ
+status_of_project faults.Memory = 3
+status_of_project faults.NotToml = 11
+status_of_project faults.UnknownKey = 12
+status_of_project (faults.MissingKey key) = 13
+status_of_project (faults.WrongKind key) = 14
+status_of_project (faults.OutOfLimit key) = 15
+status_of_project (faults.NoTake cue) = 16
+status_of_project (faults.ShortCue cue) = 17
+status_of_project faults.LastBridge = 18
+
+-- the status of a project, by its filter: 0 if it has one, and otherwise 10
+abbrev pub status_of_filter : Option Decimator → ℕ
+status_of_filter None = 10
+status_of_filter (Some d) = 0
+
+-- the status of what a text is read as: that of the project that it states, or of the first fault
+abbrev pub status_of_text : Result ProjectContent ProjectFault → ℕ
+status_of_text (Ok p) = status_of_filter p.decimate
+status_of_text (Err fault) = status_of_project fault
+
+-- this is the status of this project text, or 3, out of memory
+abbrev pub SaysMade : List ℕ → ℕ → Type 0
+SaysMade text status = (status ≡ 3) ⊎ (status ≡ status_of_text (project_at text))
+
+-- the player has this filter, and was pushed nothing of any file
+pub record IsNew (d : Decimator) (p : Pushing) : Type 0 where
+  pub taps : p.taps ≡ d
+  pub place : p.place ≡ 0
+  pub header : p.header.items ≡ []
+  pub stage : p.stage ≡ stages.Header
+  pub stated : p.stated ≡ None
+  pub waits : waiting p ≡ []

@@ -27,6 +27,16 @@ NO_LINES = (
     f"{ONE}  a\\",
     f"{ONE.upper()}  in",
     "  in",
+    # Lines of other programs, and sums of no channel, of seven, and of a channel cut short.
+    f"{hashlib.sha256(FILE).hexdigest()}  in",
+    f"{hashlib.md5(FILE).hexdigest()}  in",
+    "5  in",
+    f"{RATE} 8  in",
+    f"{RATE} {ONE.split()[2]}  in",
+    f"{ONE}{f' {ONE.split()[2]}' * 6}  in",
+    f"{ONE[:-1]}  in",
+    f"{ONE}0  in",
+    f"{ONE} 0  in",
 )
 
 

@@ -33,6 +33,10 @@ pub record Cut : Type 0 where
   pub master_name : List ℕ
   pub cert_name : List ℕ
 
+-- the files of a master of this form: the names of its project, the master and its certificate
+abbrev pub cut_into : Form → List ℕ → List ℕ → List ℕ → Cut
+cut_into form project master cert = record { form = form; project_name = project; master_name = master; cert_name = cert }
+
 -- the master's file holds now the master of a project and takes that were read, at this cost, unless its name is that
 -- of the certificate too; no file of another name changed
 pub record CutsFile (cut : Cut) (old new : View) (project : List ℕ) (takes : List (List ℕ)) (master : List ℕ) (total : ℕ) : Type 0 where
@@ -159,7 +163,7 @@ abbrev pub TaskComesTo : Task → View → View → Outcome → Type 0
 TaskComesTo (tasks.Play project input output) old new = Says Played (PlayComesTo project.now input.now output.now old new)
 TaskComesTo (tasks.PlayPart project input output from to) old new = SaysPart (PlayPartComesTo project.now input.now output.now (span_of from to) old new)
 TaskComesTo (tasks.Convert form input output) old new = Says Converted (ConvertComesTo form input.now output.now old new)
-TaskComesTo (tasks.Edit form project master cert) old new = Says Edited (EditComesTo (record { form = form; project_name = project.now; master_name = master.now; cert_name = cert.now }) old new)
+TaskComesTo (tasks.Edit form project master cert) old new = Says Edited (EditComesTo (cut_into form project.now master.now cert.now) old new)
 TaskComesTo (tasks.Check project master cert) old new = Says verdict_of (CheckComesTo project.now master.now cert.now old new)
 TaskComesTo (tasks.Info file) old new = Says Info (ReportComesTo file.now old new)
 

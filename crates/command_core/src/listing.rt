@@ -2,8 +2,15 @@
 
 use std::alloc::{AllocError, Global};
 
+// The rate and the number of samples, before the digests of a line.
+const NUMBERS: usize = 2;
+
+const MOST_CHANNELS: usize = 6;
+
+const DIGEST_DIGITS: usize = 64;
+
 /// The name that a line of a list has behind its sums, as it was before it was put on one line. None for a line that
-/// has none, or whose sums aren't decimal and hexadecimal digits.
+/// has none, or whose sums aren't two numbers and a SHA-256 for each of 1 to 6 channels.
 pub(crate) fn listed_name(alloc: Global, line: &str) -> Result<Option<String>, AllocError> {
     match line.split_once("  ") {
         Some((prefix, shown)) if are_sums(prefix) => name_of(alloc, shown),
@@ -11,14 +18,41 @@ pub(crate) fn listed_name(alloc: Global, line: &str) -> Result<Option<String>, A
     }
 }
 
-// Whether the part of a line before its name has digits and blanks alone.
+// Whether the part of a line before its name has two numbers and the digests of 1 to 6 channels, with one blank between.
 fn are_sums(prefix: &str) -> bool {
-    for byte in prefix.as_bytes() {
-        if !matches!(*byte, b' ' | b'0'..=b'9' | b'a'..=b'f') {
+    let mut count = 0usize;
+    for word in prefix.split(' ') {
+        let is_right = if count < NUMBERS {
+            is_number(word)
+        } else {
+            is_digest(word)
+        };
+        if !is_right {
+            return false;
+        }
+        count = count.saturating_add(1);
+    }
+    count > NUMBERS && count <= NUMBERS + MOST_CHANNELS
+}
+
+// Whether a word has decimal digits alone.
+fn is_number(word: &str) -> bool {
+    for byte in word.as_bytes() {
+        if !byte.is_ascii_digit() {
             return false;
         }
     }
-    !prefix.is_empty()
+    !word.is_empty()
+}
+
+// Whether a word has as many hexadecimal digits as a SHA-256.
+fn is_digest(word: &str) -> bool {
+    for byte in word.as_bytes() {
+        if !matches!(*byte, b'0'..=b'9' | b'a'..=b'f') {
+            return false;
+        }
+    }
+    word.len() == DIGEST_DIGITS
 }
 
 // The name that was put on one line. None where a backslash stands before any other byte than those that it may.

@@ -1,7 +1,7 @@
 //! Commands over the files of a folder.
 
 ghost use Rattle.std.specs.Prelude.{◌≡◌};
-ghost use Rattle.command_core.specs.Commands.{CheckComesTo, EditComesTo, TaskComesTo};
+ghost use Rattle.command_core.specs.Commands.{CheckComesTo, EditComesTo, TaskComesTo, cut_into};
 ghost use Rattle.command_core.specs.Outcomes.{outcome_of, verdict_of};
 ghost use Rattle.command_core.specs.declared.outcome.Outcome.TheVariants as outcomes;
 
@@ -91,7 +91,8 @@ fn edit_files<F: Folder>(
     master: &str,
     cert: &str,
 ) -> Result<u128, CommandFault>
-    ensures { EditComesTo (record { form = form; project_name = project.now; master_name = master.now; cert_name = cert.now }) (F.view folder.old) (F.view folder.new) result }
+    ensures { EditComesTo (cut_into form project.now master.now cert.now) (F.view folder.old) (F.view folder.new)
+        result }
 {
     let sources = source_excerpts(alloc, folder, project)?;
     let mut planned = cut_sources(alloc, folder, sources, form)?;

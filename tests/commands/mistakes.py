@@ -134,6 +134,27 @@ FILTERS = (
         'the table "decimate" in line 1 has no "width": 16 or 24',
     ),
     (FILE, "NotToml", "it is a recording; PROJECT comes before the recordings"),
+    # Tables without a line of their own.
+    (
+        b"decimate = {taps = [1], factor = 8, delay = 0, shift = 0, width = 16}\nfactor = 1\n",
+        "UnknownKey",
+        '"factor" in line 2 is no key of the document; it belongs to the table "decimate"',
+    ),
+    (
+        b"decimate = {taps = [1], factor = 12, delay = 0, shift = 0, width = 16}\n",
+        "OutOfLimit factor",
+        '"factor" in line 1 is 12, and has to be a multiple of 8, from 8 to 1024',
+    ),
+    (
+        b"decimate.taps = [1]\ndecimate.delay = 0\ndecimate.factor = 12\ndecimate.shift = 0\ndecimate.width = 16\n",
+        "OutOfLimit factor",
+        '"factor" in line 3 is 12, and has to be a multiple of 8, from 8 to 1024',
+    ),
+    (
+        b"shift = 1\n\n" + DECIMATE,
+        "UnknownKey",
+        '"shift" in line 1 is no key of the document; it belongs to the table "decimate"',
+    ),
 )
 
 # A splice, line by line.

@@ -27,6 +27,15 @@ impl Table {
         }
     }
 
+    /// The key of the document in which it is.
+    pub(crate) fn root(self) -> &'static str {
+        match self {
+            Table::Document => "",
+            Table::Decimate => "decimate",
+            Table::Splice | Table::Cue => "splice",
+        }
+    }
+
     /// Its name for messages.
     pub(crate) fn name(self) -> &'static str {
         match self {

@@ -16,18 +16,22 @@ pub(crate) fn line_of(text: &str, table: Table, number: usize) -> Option<usize> 
     None
 }
 
-/// The line of a key in a table. If the table begins by no line of its own, it is the first line that has the key, and
-/// none for a cue.
+/// The line of a key in a table. If the table begins by no line of its own, its keys are in lines that begin with its
+/// name, or, for the document, with the key. None for a cue without a line of its own.
 pub(crate) fn key_line(text: &str, table: Table, number: usize, key: &str) -> Option<usize> {
     let first = line_of(text, table, number).unwrap_or(0);
     if first == 0 && table == Table::Cue {
         return None;
     }
     for (place, line) in text.lines().enumerate().skip(first) {
-        if first > 0 && is_any_header(line) {
+        if is_any_header(line) {
             return None;
         }
-        if has_key(line, key) {
+        let is_there = match table {
+            Table::Document => begins_with(line, key),
+            _ => (first > 0 || begins_with(line, table.root())) && has_key(line, key),
+        };
+        if is_there {
             return Some(place.saturating_add(1));
         }
     }
@@ -79,6 +83,18 @@ fn is_header(line: &str, header: &str) -> bool {
         }
     }
     is_any_header(line) && rest.is_empty()
+}
+
+// Whether the key that a line gives a value to is this one, or begins with it.
+fn begins_with(line: &str, key: &str) -> bool {
+    let Some((name, _)) = code_of(line).split_once('=') else {
+        return false;
+    };
+    let first = match name.split_once('.') {
+        Some((first, _)) => first,
+        None => name,
+    };
+    first.trim().trim_matches('"') == key
 }
 
 // Whether a line gives a value to a key, alone or beside others.

@@ -75,9 +75,15 @@ free_number() {
 
 run_child() {
     child_status=0
-    # A command writes the files that its last two words name, or one of them.
-    child_first='' child_second=''
-    for child_name; do child_first="$child_second" child_second="$child_name"; done
+    # A command writes the files that its last two names name, or one of them; the places of a part may follow them.
+    child_first='' child_second='' child_before=''
+    for child_name; do
+        case "$child_before:$child_name" in
+            --from:* | --to:* | *:--from | *:--to | *:--from=* | *:--to=*) ;;
+            *) child_first="$child_second" child_second="$child_name" ;;
+        esac
+        child_before="$child_name"
+    done
     for child_name in HUP INT QUIT TERM; do
         # shellcheck disable=SC2064
         trap "end_by $child_name" "$child_name"

@@ -48,6 +48,43 @@ COMMENTED = sized(188, mono(b"\xf0", mark(b"") + chunk(b"COMT", bytes(2))))
 TAGGED = sized(4191, dsf(1, 8, b"\x0f", tag=b"ID3"))
 TAGGED_MOST = dsf(8, 8, b"\xf0", tag=b"ID3")
 
+# One byte of sound with a mark in which each number is another, and a kept chunk at each place: in the property, in the
+# edited master and in the form.
+WITH_PARTS = sized(
+    228,
+    chunk(
+        b"FRM8",
+        b"DSD "
+        + chunk(*VERSION)
+        + chunk(b"PROP", b"SND " + b"".join(chunk(*it) for it in property_chunks(RATE, 1)) + chunk(b"LSCO", b"\0\x03"))
+        + chunk(b"DSD ", b"\xf0")
+        + chunk(
+            b"DIIN",
+            chunk(
+                b"MARK",
+                b"\0\x01\x02\x03\0\0\0\x04\xff\xff\xff\xfb\0\x06\0\x07\0\x08\0\0\0\x01x",
+            )
+            + chunk(b"EMID", b"m"),
+        )
+        + chunk(b"COMT", b"made by hand"),
+    ),
+)
+
+
+def with_others(kind, *behind):
+    """One byte of sound with this compression and two kept chunks in its property, and these chunks of the form behind the
+    sound."""
+    parts = [*property_chunks(RATE, 1)[:2], (b"CMPR", kind), (b"LSCO", bytes(2)), (b"ABSS", b"\x01")]
+    form = [VERSION, (b"PROP", b"SND " + b"".join(chunk(*it) for it in parts)), (b"DSD ", b"\xf0"), *behind]
+    return chunk(b"FRM8", b"DSD " + b"".join(chunk(*it) for it in form))
+
+
+# Chunks that are kept at each place in two edited masters, and the same as it is written: in one.
+EDITED = chunk(b"EMID", b"\x02"), chunk(b"MARK", bytes(22)), chunk(b"DIAR", b"\x03")
+COMMENT, MANUFACTURER = (b"COMT", b"\x04"), (b"MANF", b"\x05\x06")
+SCATTERED = with_others(b"DSD \0", (b"DIIN", EDITED[0]), COMMENT, (b"DIIN", EDITED[1] + EDITED[2]), MANUFACTURER)
+GATHERED = with_others(b"DSD \x0enot compressed", (b"DIIN", EDITED[1] + EDITED[0] + EDITED[2]), COMMENT, MANUFACTURER)
+
 # Two channels of 32,769 bits, one more than a block holds, of which the eighth of the first is 1, and of 9 bits.
 LONG = sized(16476, dsf(1, 32769, b"\x80", 2, 16384))
 LONG_MOST = dsf(8, 32769, b"\x01", 2, 16384)

@@ -3,7 +3,11 @@
    and one for the writes to a file, however many come in a row: the call, the file's mode behind it, and its paths.
    ORDER_FAILS names the call that fails, as it stands in its line, and ORDER_WHICH counts it from 1: it is noted, and
    not made; but one that would make a file isn't noted. Calls that open a folder or read from a file aren't noted
-   either, but can be failed (folder, read). */
+   either, but can be failed (folder, read).
+
+   With ORDER_OPENS each opening of a file by a name in the current folder is noted too, and can be failed (open). From
+   opening number ORDER_OTHER on it opens the file `changed` in its place. With ORDER_MOST each read of a file gives at
+   most so many bytes, and is noted. With ORDER_ROOM no more than so many bytes are written to files in all. */
 #define _GNU_SOURCE
 #include <dlfcn.h>
 #include <errno.h>
@@ -16,7 +20,8 @@
 #include <unistd.h>
 
 static char last_line[9000];
-static int met = 0;
+static int met = 0, opened = 0;
+static size_t written = 0;
 
 static long number(const char *name)
 {
@@ -68,6 +73,12 @@ static int is_folder(int file)
     return fstat(file, &found) == 0 && S_ISDIR(found.st_mode);
 }
 
+static int is_regular(int file)
+{
+    struct stat found;
+    return fstat(file, &found) == 0 && S_ISREG(found.st_mode);
+}
+
 static int sync_as(const char *name, int file)
 {
     const char *call = is_folder(file) ? "sync folder" : "sync";
@@ -87,16 +98,28 @@ int fsync(int file)
 
 ssize_t write(int file, const void *bytes, size_t size)
 {
-    struct stat found;
-    if (file > 2 && fstat(file, &found) == 0 && S_ISREG(found.st_mode))
+    if (file > 2 && is_regular(file)) {
+        size_t room = getenv("ORDER_ROOM") ? (size_t)number("ORDER_ROOM") - written : size;
         note_open("write", file);
+        if (size > 0 && room == 0) {
+            errno = ENOSPC;
+            return -1;
+        }
+        size = size < room ? size : room;
+        written += size;
+    }
     return write_on(file, bytes, size);
 }
 
 ssize_t read(int file, void *bytes, size_t size)
 {
+    size_t most = (size_t)number("ORDER_MOST");
     if (is_failed("read"))
         return -1;
+    if (most && is_regular(file)) {
+        note_open("read", file);
+        size = size < most ? size : most;
+    }
     return ((ssize_t (*)(int, void *, size_t))dlsym(RTLD_NEXT, "read"))(file, bytes, size);
 }
 
@@ -107,10 +130,26 @@ int rename(const char *from, const char *to)
     return is_failed("rename") ? -1 : ((int (*)(const char *, const char *))dlsym(RTLD_NEXT, "rename"))(from, to);
 }
 
+/* Whether a file in the current folder is opened by its name to be read. */
+static int is_read(const char *path, int how)
+{
+    struct stat found;
+    return getenv("ORDER_OPENS") && !(how & O_CREAT) && !strchr(path, '/') && stat(path, &found) == 0
+        && S_ISREG(found.st_mode);
+}
+
 /* Opens a file, and notes it where it was made. */
 static int open_as(int folder, const char *path, int how, mode_t mode)
 {
     struct stat found;
+    if (is_read(path, how)) {
+        opened += 1;
+        note("open", 0, path, "");
+        if (is_failed("open"))
+            return -1;
+        if (getenv("ORDER_OTHER") && opened >= number("ORDER_OTHER"))
+            path = "changed";
+    }
     if (how & O_CREAT && is_failed("create"))
         return -1;
     if (!(how & O_CREAT) && fstatat(folder, path, &found, 0) == 0 && S_ISDIR(found.st_mode) && is_failed("folder"))

@@ -1,79 +1,140 @@
-//! The outcome of a command in a folder, and what it asks the folder for.
+//! A folder in memory: a master that is cut and checked there, and files that are read whole by their names.
 
 use crate::outcomes::prints;
-use crate::watched_folder::{Asked, WatchedFolder};
-use command_core::{MemoryFolder, Outcome, Task, perform};
+use archive_core::{Form, take_names};
+use command_core::{MemoryFolder, Task, perform, read_files, read_whole};
+use folder_core::FileFault;
+use part_examples::fixtures::compared::equal;
+use part_examples::fixtures::files::{FILE, file_of};
 use std::alloc::{AllocError, Global};
+use std::test::Fail;
 
-/// A folder with these files.
-pub(crate) fn folder_of(
-    alloc: Global,
-    files: &[(&str, &[u8])],
-) -> Result<MemoryFolder, AllocError> {
+// Two takes, and the cues that are cut from them.
+const SPLICE: &[u8] = b"[splice]
+weights = [1, 1]
+takes = [\"a.dff\", \"b.dff\"]
+[[splice.cue]]
+take = 0
+start = 0
+stop = 8
+bridge = 1
+[[splice.cue]]
+take = 1
+start = 2
+stop = 9
+title = \"one\"
+";
+
+// A folder of two files.
+fn folder(alloc: Global) -> Result<MemoryFolder, AllocError> {
     let mut folder = MemoryFolder::new(alloc);
-    for (name, bytes) in files {
-        folder.put(name, bytes)?;
-    }
+    folder.put("b.dff", b"")?;
+    folder.put("a.dff", &FILE)?;
     Ok(folder)
 }
 
-/// The outcome of a task in the folder.
-pub(crate) fn outcome_of(alloc: Global, folder: &mut MemoryFolder, task: Task) -> Outcome {
-    perform(alloc, task, folder)
+// Whether files are `FILE` and an empty one.
+fn are_both(files: &[Vec<u8>]) -> bool {
+    match files {
+        [first, second] => equal(first, &FILE) && second.is_empty(),
+        _ => false,
+    }
 }
 
-/// Whether a task ends with this status and this line in the folder.
-pub(crate) fn comes_to(
-    alloc: Global,
-    folder: &mut MemoryFolder,
-    task: Task,
-    number: u8,
-    line: &str,
-) -> Result<bool, AllocError> {
-    prints(alloc, outcome_of(alloc, folder, task), number, line)
+// Whether the files of the takes are read of the folder. It has them, so reading fails only if memory runs out.
+fn reads_takes(alloc: Global) -> Result<bool, Fail> {
+    let names = take_names(alloc, SPLICE)?;
+    let mut folder = folder(alloc)?;
+    let files = read_files(alloc, &mut folder, &names).map_err(|_| AllocError)?;
+    Ok(are_both(&files) && folder.count() == 2)
 }
 
-/// The same in a folder that is watched.
-pub(crate) fn comes_to_watched(
-    alloc: Global,
-    folder: &mut WatchedFolder,
-    task: Task,
-    number: u8,
-    line: &str,
-) -> Result<bool, AllocError> {
-    prints(alloc, perform(alloc, task, folder), number, line)
+#[test]
+fn reads_the_takes_of_a_project(rt: HostRuntime) -> Result<(), Fail> {
+    assert!(rt; reads_takes(rt.alloc())?);
+    Ok(())
 }
 
-/// Whether the folder has a file with this name and these bytes.
-pub(crate) fn holds(folder: &MemoryFolder, name: &str, bytes: &[u8]) -> bool {
+// Three bytes are one read, and their end is another.
+#[test]
+fn reads_a_whole_file(rt: HostRuntime) -> Result<(), Fail> {
+    assert!(rt; equal(&read_whole(rt.alloc(), b"abc".as_slice(), 2)?, b"abc"));
+    Ok(())
+}
+
+#[test]
+fn gives_up_after_so_many_reads(rt: HostRuntime) {
+    let read = read_whole(rt.alloc(), b"abc".as_slice(), 1);
+    assert!(rt; matches!(&read, Err(FileFault::ReadFailed)));
+}
+
+// A project by the weights 1 and 0: both bits of its bridge cost 4.
+const CUT: &[u8] = b"[splice]
+weights = [1, 0]
+takes = [\"a.dff\", \"b.dff\"]
+[[splice.cue]]
+take = 0
+start = 0
+stop = 8
+bridge = 1
+[[splice.cue]]
+take = 1
+start = 2
+stop = 9
+";
+
+// Its certificate: two weights, one entry; cue 0, channel 0, one bit; level 0, with the least value 0, one byte per
+// excess, 4 and 0; level 1, with the least value 4 and no byte per excess; the cost.
+const CERT: &[u8] = b"DSPC\0\x02\0\x02\0\0\0\x01\0\0\0\0\0\x01\
+    \0\0\0\0\0\0\0\0\x01\x04\0\
+    \0\0\0\0\0\0\0\x04\0\
+    \0\0\0\0\0\0\0\x04";
+
+const EDIT: Task = Task::Edit {
+    form: Form::Dsdiff,
+    project: "e.toml",
+    master: "m.dff",
+    cert: "c.cert",
+};
+
+const CHECK: Task = Task::Check {
+    project: "e.toml",
+    master: "m.dff",
+    cert: "c.cert",
+};
+
+// A folder with the project, a take of 16 ones and one of 16 zeros.
+fn takes(alloc: Global) -> Result<MemoryFolder, AllocError> {
+    let mut folder = MemoryFolder::new(alloc);
+    folder.put("e.toml", CUT)?;
+    folder.put("a.dff", &file_of(alloc, 1, &[0xff; 2])?)?;
+    folder.put("b.dff", &file_of(alloc, 1, &[0; 2])?)?;
+    Ok(folder)
+}
+
+// Whether a folder has a file of these bytes.
+fn holds(folder: &MemoryFolder, name: &str, bytes: &[u8]) -> bool {
     match folder.get(name) {
-        Some(found) => found == bytes,
+        Some(found) => equal(found, bytes),
         None => false,
     }
 }
 
-/// Whether a task ends with the status 2 and this line in the folder, and creates nothing.
-pub(crate) fn is_refused(
-    alloc: Global,
-    folder: Result<MemoryFolder, AllocError>,
-    task: Task,
-    line: &str,
-) -> Result<bool, AllocError> {
-    let mut folder = folder?;
-    let count = folder.count();
-    let refused = comes_to(alloc, &mut folder, task, 2, line)?;
-    Ok(refused && folder.count() == count)
+// Whether the master is cut and accepted at the cost 4 in a folder, and makes two files there.
+fn cuts(alloc: Global, folder: &mut MemoryFolder) -> Result<bool, AllocError> {
+    let edited = prints(alloc, perform(alloc, EDIT, folder), 0, "edited total 4")?;
+    let accepted = prints(alloc, perform(alloc, CHECK, folder), 0, "accepted total 4")?;
+    let master = file_of(alloc, 1, &[0xff, 0])?;
+    let are_made = holds(folder, "m.dff", &master) && holds(folder, "c.cert", CERT);
+    Ok(edited && accepted && are_made && folder.count() == 5)
 }
 
-/// Whether a task in the folder ends with the line of a case, and makes exactly its calls.
-pub(crate) fn asks(
-    alloc: Global,
-    folder: Result<MemoryFolder, AllocError>,
-    task: Task,
-    (_, failure, line, calls): &Asked,
-) -> Result<bool, AllocError> {
-    let mut watched = WatchedFolder::over(alloc, folder?, *failure);
-    let number = if line.starts_with("fault: ") { 2 } else { 0 };
-    let said = comes_to_watched(alloc, &mut watched, task, number, line)?;
-    Ok(said && watched.calls.as_str() == *calls)
+// The same in a new folder.
+fn cuts_anew(alloc: Global) -> Result<bool, AllocError> {
+    cuts(alloc, &mut takes(alloc)?)
+}
+
+#[test]
+fn cuts_and_checks_in_a_folder(rt: HostRuntime) {
+    assert!(rt; cuts_anew(rt.alloc()).unwrap_or(false));
 }

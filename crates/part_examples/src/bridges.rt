@@ -1,125 +1,232 @@
-//! The bits that are chosen: worked bridges, and small ones compared with all lists of their length.
+//! The bits that are chosen, and the rows that a search passes to a sink.
 
-ghost use Rattle.std.specs.Prelude.{◌≡◌, ◌+◌, ◌<◌, ◌≤◌};
+ghost use Rattle.std.specs.Prelude.{◌≡◌, ◌+◌, Some, false, IfOk};
+ghost use Rattle.cost_core.specs.Trellis.{states};
+ghost use Rattle.cost_core.specs.StateCosts.{trellis_of};
 ghost use Rattle.splice_core.specs.Cues.{AreWeights};
 
-use crate::fixtures::windows::{Part, bits_of, by_equal, by_newest, by_older, ones, window, zeros};
-use cost_core::{Window, WindowFault};
-use std::alloc::Global;
-use std::process::Abort;
+use crate::fixtures::windows::{by_newest, by_older, ones, window, zeros};
+use cost_core::{LevelSink, SinkFault, Window, WindowFault};
+use std::alloc::{AllocError, Global};
 use std::test::Fail;
-use trellis_core::{BridgeFault, bridge};
+use trellis_core::{BridgeFault, Chosen, bridge, bridge_capped_into, bridge_into};
 
-// The byte that holds the chosen bits, and their cost.
-fn chosen(alloc: Global, window: &Window) -> Result<Option<(u8, u64)>, BridgeFault> {
-    let chosen = bridge(alloc, window)?;
-    match chosen.bits.as_bytes() {
-        [byte] => Ok(Some((*byte, chosen.cost))),
-        _ => Ok(None),
+// A sink with the numbers of the rows before one that is refused.
+#[derive(Drop)]
+struct Numbers {
+    numbers: Vec<u64>,
+    left: usize,
+    width: usize,
+    // How many rows are still to come when one is refused.
+    refused_left: usize,
+    is_refused: bool,
+}
+
+impl LevelSink for Numbers {
+    ghost rows_left = { λ sink. sink.left };
+
+    ghost row_length = { λ sink. sink.width };
+
+    ghost kind = { λ _. 0 };
+
+    ghost text = { λ sink. Some sink.numbers.items };
+
+    ghost spelling = { λ _ row. row };
+
+    ghost has_refused = { λ sink. sink.is_refused };
+
+    ghost kept = { λ _. tt };
+
+    fn level(&mut self, row: &[u64]) -> Result<(), SinkFault> {
+        if self.left == self.refused_left || self.numbers.extend_from_slice(row).is_err() {
+            self.is_refused = true;
+            return Err(SinkFault);
+        }
+        self.left -= 1;
+        Ok(())
+    }
+
+    fn refused(&self) -> bool {
+        self.is_refused
     }
 }
 
-// The same for a window that may be refused.
-fn chosen_in(
+// A sink for the rows of a window. It refuses the row at which `refused_left` rows are still to come. It has room for
+// `room` numbers.
+fn sink_for(
     alloc: Global,
-    window: Result<Window, WindowFault>,
-) -> Result<Option<(u8, u64)>, Fail> {
-    Ok(chosen(alloc, &window?)?)
+    window: &Window,
+    refused_left: usize,
+    room: usize,
+) -> Result<Numbers, AllocError>
+    ensures left { IfOk result (λ sink. sink.left ≡ window.now.levels + 1) }
+    ensures width { IfOk result (λ sink. sink.width ≡ states (trellis_of window.now)) }
+    ensures ready { IfOk result (λ sink. sink.is_refused ≡ false) }
+{
+    Ok(Numbers {
+        numbers: Vec::with_capacity(alloc, room)?,
+        left: window.length() + 1,
+        width: window.states(),
+        refused_left,
+        is_refused: false,
+    })
 }
 
+// The bits of a bridge and its cost, or why there is none.
+type Reported = Result<(u8, u64), BridgeFault>;
+
+// The first byte of chosen bits, and their cost.
+fn reported(chosen: Result<Chosen, BridgeFault>) -> Reported {
+    match chosen {
+        Ok(chosen) => match chosen.bits.as_bytes() {
+            [byte] => Ok((*byte, chosen.cost)),
+            _ => Err(BridgeFault::Memory),
+        },
+        Err(fault) => Err(fault),
+    }
+}
+
+// What a search returns that passes on its rows, capped at the cost or not.
+fn searched(alloc: Global, window: &Window, sink: &mut Numbers, is_cut: bool) -> Reported
+    requires left { sink.old.left ≡ window.now.levels + 1 }
+    requires width { sink.old.width ≡ states (trellis_of window.now) }
+    requires ready { sink.old.is_refused ≡ false }
+{
+    if is_cut {
+        reported(bridge_capped_into(alloc, window, sink))
+    } else {
+        reported(bridge_into(alloc, window, sink))
+    }
+}
+
+// A search for two bits: whether rows are cut, how many rows are still to come when one is refused, the numbers of the
+// rows before that, and what the search returns.
+type Search = (bool, usize, &'static [u64], Reported);
+
+// Whether a search returns this, and a row is refused exactly if that is returned. Err is out of memory.
+fn is_so(alloc: Global, window: &Window, search: &Search) -> Result<bool, AllocError> {
+    let (is_cut, refused_left, numbers, expected) = *search;
+    let mut sink = sink_for(alloc, window, refused_left, 6)?;
+    let found = searched(alloc, window, &mut sink, is_cut);
+    if found == Err(BridgeFault::Memory) {
+        return Err(AllocError);
+    }
+    Ok(
+        found == expected
+            && sink.refused() == expected.is_err()
+            && sink.numbers.as_slice() == numbers,
+    )
+}
+
+// The same for the bridge of two bits by the weights 1, 0 from ones to zeros.
+fn hands_over(alloc: Global, search: &Search) -> Result<bool, Fail> {
+    let window = by_newest(alloc, ones(0, 8), 2, zeros(3, 9))?;
+    Ok(is_so(alloc, &window, search)?)
+}
+
+// The rows as they are, and with the first, the second and the last row refused. Then the same rows capped at the cost,
+// which is 8: each number above it is 8.
+const SEARCHES: &[Search] = &[
+    (false, 0, &[1 << 63, 0, 16, 4, 8, 20], Ok((0x80, 8))),
+    (false, 3, &[], Err(BridgeFault::Sink)),
+    (false, 2, &[1 << 63, 0], Err(BridgeFault::Sink)),
+    (false, 1, &[1 << 63, 0, 16, 4], Err(BridgeFault::Sink)),
+    (true, 0, &[8, 0, 8, 4, 8, 8], Ok((0x80, 8))),
+    (true, 3, &[], Err(BridgeFault::Sink)),
+    (true, 2, &[8, 0], Err(BridgeFault::Sink)),
+    (true, 1, &[8, 0, 8, 4], Err(BridgeFault::Sink)),
+];
+
 #[test]
-fn chooses_one_bit(rt: HostRuntime) -> Result<(), Fail> {
-    let alloc = rt.alloc();
-    let equal = by_equal(alloc, ones(0, 8), 1, zeros(2, 9));
-    assert!(rt; chosen_in(alloc, equal)? == Some((0x00, 0)));
-    // Both bits cost 4.
-    let newest = by_newest(alloc, ones(0, 8), 1, zeros(2, 9));
-    assert!(rt; chosen_in(alloc, newest)? == Some((0x00, 4)));
-    // At its own place either bit costs 4. At the place after it, 0 costs 16 and 1 nothing.
-    let older = by_older(alloc, zeros(0, 8), 1, ones(2, 9));
-    assert!(rt; chosen_in(alloc, older)? == Some((0x80, 4)));
+fn hands_over_a_row_for_each_level(rt: HostRuntime) -> Result<(), Fail> {
+    for search in SEARCHES {
+        let is_so = hands_over(rt.alloc(), search)?;
+        assert!(rt; is_so, "{} left, cut: {}", search.1, search.0);
+    }
     Ok(())
 }
 
+// What `bridge` returns for the bridge of one bit from zeros to ones by the weights 0, 1.
+fn chosen(alloc: Global) -> Result<Reported, WindowFault> {
+    let window = by_older(alloc, zeros(0, 8), 1, ones(2, 9))?;
+    Ok(reported(bridged(alloc, &window)))
+}
+
+// What `bridge` returns, with its fault as the other searches have it.
+fn bridged(alloc: Global, window: &Window) -> Result<Chosen, BridgeFault> {
+    match bridge(alloc, window) {
+        Ok(chosen) => Ok(chosen),
+        Err(AllocError) => Err(BridgeFault::Memory),
+    }
+}
+
+// At its own place either bit costs 4. At the place after it, 0 costs 16 and 1 nothing.
 #[test]
-fn chooses_the_bits_of_small_bridges(rt: HostRuntime) -> Result<(), Fail> {
-    let alloc = rt.alloc();
-    let two_bits = by_newest(alloc, ones(0, 8), 2, zeros(3, 9));
-    assert!(rt; chosen_in(alloc, two_bits)? == Some((0x80, 8)));
-    let to_one_bit = by_equal(alloc, ones(0, 8), 1, zeros(2, 3));
-    assert!(rt; chosen_in(alloc, to_one_bit)? == Some((0x00, 0)));
-    let from_three = by_equal(alloc, zeros(0, 3), 1, ones(2, 7));
-    assert!(rt; chosen_in(alloc, from_three)? == Some((0x80, 0)));
+fn chooses_a_bit_for_the_place_after_it(rt: HostRuntime) -> Result<(), Fail> {
+    assert!(rt; chosen(rt.alloc())?? == (0x80, 4));
     Ok(())
 }
 
-// What the first bits of a byte cost as a bridge.
-fn cost_of(alloc: Global, window: &Window, byte: u8) -> Option<u64> {
-    let bits = bits_of(alloc, window, byte).ok()?;
-    Some(window.cost_of(&bits))
-}
-
-// The first list of at most 8 bits that costs least, read from the last bit to the first, and its cost. All lists are
-// tried in this order.
-fn first_of_all(alloc: Global, window: &Window) -> Option<(u8, u64)> {
-    let mut least = (0, u64::MAX);
-    for number in 0..1_u16 << window.length().min(8) {
-        let byte = (number as u8).reverse_bits();
-        let cost = cost_of(alloc, window, byte)?;
-        if cost < least.1 {
-            least = (byte, cost);
+// What a search with a sink for all rows returns, how many numbers were passed on, and the sum of the numbers up to 4.
+fn summed(
+    alloc: Global,
+    window: &Window,
+    is_cut: bool,
+) -> Result<(Reported, usize, u64), AllocError> {
+    let room = window.states().saturating_mul(2);
+    let mut sink = sink_for(alloc, window, usize::MAX, room)?;
+    let found = searched(alloc, window, &mut sink, is_cut);
+    let mut sum: u64 = 0;
+    for number in &sink.numbers {
+        if *number <= 4 {
+            sum = sum.saturating_add(*number);
         }
     }
-    Some(least)
+    Ok((found, sink.numbers.len(), sum))
 }
 
-// Whether the first of the least lists is chosen.
-fn chooses_first_of_all(alloc: Global, window: &Window) -> bool {
-    let first = first_of_all(alloc, window);
-    first.is_some() && chosen(alloc, window) == Ok(first)
+// Whether all three searches of a window choose the bit 0 at the cost 4, and pass on two rows each. In the rows as they
+// are the start and the two states that it leads to have at most 4: 0, 4 and 4. If they are capped all have: 4, but 0
+// for the start.
+fn are_chosen(alloc: Global, window: &Window) -> Result<bool, AllocError> {
+    let states = window.states();
+    let all = (states as u64).saturating_mul(8).saturating_sub(4);
+    let whole = summed(alloc, window, false)?;
+    let capped = summed(alloc, window, true)?;
+    Ok(
+        reported(bridged(alloc, window)) == Ok((0x00, 4))
+            && whole == (Ok((0x00, 4)), 2 * states, 8)
+            && capped == (Ok((0x00, 4)), 2 * states, all),
+    )
 }
 
-// Whether a bridge of `length` bits between takes of mixed bits is the first of the least lists.
-fn chooses_the_first(alloc: Global, weights: &[i32], length: usize) -> bool
+// The same for the bridge of one bit from ones to zeros by these weights, of which only the newest is not 0.
+fn are_so(alloc: Global, weights: &[i32]) -> bool
     requires weights { AreWeights weights.now }
-    requires length { (1 ≤ length) × (length ≤ 8) }
 {
-    let before = Part {
-        bytes: [0xa5, 0x3c, 0x96, 0xf0],
-        start: 0,
-        stop: 16,
-    };
-    let after = Part {
-        bytes: [0x0f, 0x5a, 0xc3, 0x69],
-        start: 20,
-        stop: 32,
-    };
-    match window(alloc, weights, before, length, after) {
-        Ok(window) => chooses_first_of_all(alloc, &window),
+    match window(alloc, weights, ones(0, 16), 1, zeros(16, 32)) {
+        Ok(window) => are_chosen(alloc, &window).unwrap_or(false),
         Err(_) => false,
     }
 }
 
-// Bridges of 1 to 8 bits.
-fn compare(rt: &impl Abort, alloc: Global, weights: &[i32])
-    requires weights { AreWeights weights.now }
-{
-    for length in 1..9 {
-        let is_first = chooses_the_first(alloc, weights, length);
-        assert!(rt; is_first, "{length} bits by {weights:?}");
-    }
+#[test]
+fn chooses_by_two_to_seven_weights(rt: HostRuntime) {
+    let alloc = rt.alloc();
+    assert!(rt; are_so(alloc, &[1, 0]));
+    assert!(rt; are_so(alloc, &[1, 0, 0]));
+    assert!(rt; are_so(alloc, &[1, 0, 0, 0]));
+    assert!(rt; are_so(alloc, &[1, 0, 0, 0, 0]));
+    assert!(rt; are_so(alloc, &[1, 0, 0, 0, 0, 0]));
+    assert!(rt; are_so(alloc, &[1, 0, 0, 0, 0, 0, 0]));
 }
 
 #[test]
-fn chooses_the_first_of_the_least(rt: HostRuntime) {
+fn chooses_by_eight_to_twelve_weights(rt: HostRuntime) {
     let alloc = rt.alloc();
-    compare(&rt, alloc, &[1, 0]);
-    compare(&rt, alloc, &[2, -1]);
-    compare(&rt, alloc, &[1, 1, 0]);
-    compare(&rt, alloc, &[1, 0, 0, 0]);
-    // Sixteen states and more.
-    compare(&rt, alloc, &[1, 0, 0, 0, 0]);
-    compare(&rt, alloc, &[3, -1, 2, 1, -2]);
-    compare(&rt, alloc, &[1, 1, 0, 0, 0, 0]);
-    compare(&rt, alloc, &[2, 3, -1, 1, 0, 2]);
+    assert!(rt; are_so(alloc, &[1, 0, 0, 0, 0, 0, 0, 0]));
+    assert!(rt; are_so(alloc, &[1, 0, 0, 0, 0, 0, 0, 0, 0]));
+    assert!(rt; are_so(alloc, &[1, 0, 0, 0, 0, 0, 0, 0, 0, 0]));
+    assert!(rt; are_so(alloc, &[1, 0, 0, 0, 0, 0, 0, 0, 0, 0, 0]));
+    assert!(rt; are_so(alloc, &[1, 0, 0, 0, 0, 0, 0, 0, 0, 0, 0, 0]));
 }

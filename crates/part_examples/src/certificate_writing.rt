@@ -1,6 +1,6 @@
 //! The certificate of a bridge of one bit as it is written, and writers that fail.
 
-ghost use Rattle.std.specs.Prelude.{◌≡◌, ◌+◌, ◌<◌, ◌≤◌, ◌^◌, ◌-◌, length, false};
+ghost use Rattle.std.specs.Prelude.{◌≡◌, ◌<◌, ◌≤◌, ◌^◌, ◌-◌, length, false};
 ghost use Rattle.chunk_core.specs.Outlets.{outlet_failures};
 ghost use Rattle.cert_core.specs.Writers.{has_head, is_open, row_length};
 
@@ -174,4 +174,25 @@ fn a_failed_write_leaves_a_prefix(rt: HostRuntime) {
             assert!(rt; is_left.unwrap_or(false), "write {write}");
         }
     }
+}
+
+// Whether the header of a certificate for bridges by so many weights is written.
+fn begins(alloc: Global, weights: usize) -> Result<bool, AllocError>
+    requires { (2 ≤ weights) × (weights ≤ 12) }
+{
+    let room = Vec::with_capacity(alloc, 12)?;
+    let Ok(mut writer) = CertWriter::new(alloc, Outlet::new(room), weights, Version::Two) else {
+        return Err(AllocError);
+    };
+    let begun = writer.begin(1).is_ok();
+    let bytes = writer.finish().into_inner();
+    Ok(begun && bytes.len() == 12 && bytes.get(7).copied() == Some(weights as u8))
+}
+
+#[test]
+fn begins_by_each_number_of_weights(rt: HostRuntime) -> Result<(), Fail> {
+    for weights in 2..13 {
+        assert!(rt; begins(rt.alloc(), weights)?, "{weights} weights");
+    }
+    Ok(())
 }

@@ -1,9 +1,7 @@
-//! Samples worked out by hand.
+//! Samples worked out by hand, by each kernel, and the limits of a decimator's numbers.
 
 use dsd_bits::Bits;
-use fir_core::{
-    Kernel, Tables, Taps, TapsFault, decimate, decimate_with, push_part, sample, sum_at,
-};
+use fir_core::{Kernel, Tables, Taps, TapsFault, decimate, decimate_with, push_part};
 use std::alloc::{AllocError, Global};
 use std::test::Fail;
 
@@ -124,42 +122,29 @@ fn appends_a_part(rt: HostRuntime) -> Result<(), Fail> {
     Ok(())
 }
 
-// The sums at the places 3 and 4, and sample 0, if there is one.
-fn single_samples(taps: &Taps, bits: &Bits) -> (i32, i32, Option<i32>) {
-    let first = if bits.len() > 0 {
-        Some(sample(taps, bits, 0))
-    } else {
-        None
-    };
-    (sum_at(taps, bits, 3), sum_at(taps, bits, 4), first)
-}
+const LARGE: &[i32] = &[1 << 30, 1 << 30];
 
-// A decimator by a factor of 16, to samples of 24 bits.
-fn by_sixteen(alloc: Global) -> Result<Taps, TapsFault> {
-    Taps::new(alloc, &[1, 2, 3, 4], 16, 3, 0, 24)
-}
+// Taps; the factor, the delay, the shift and the width; and the limit that is broken.
+type Broken = (&'static [i32], [u32; 4], TapsFault);
 
-// The factor and the width of this decimator, and which of two rates it divides.
-fn reported(alloc: Global) -> Result<(u32, u32, [bool; 2]), TapsFault> {
-    let taps = by_sixteen(alloc)?;
-    let rates = [taps.rate_fits(2_822_400), taps.rate_fits(2_822_408)];
-    Ok((taps.factor(), taps.width(), rates))
-}
+const BROKEN: [Broken; 6] = [
+    (RAMP, [12, 3, 0, 16], TapsFault::Factor),
+    (RAMP, [8, 4, 0, 16], TapsFault::Delay),
+    (RAMP, [8, 3, 31, 16], TapsFault::Shift),
+    (RAMP, [8, 3, 0, 20], TapsFault::Width),
+    (&[], [8, 3, 0, 16], TapsFault::TapNumber),
+    (LARGE, [8, 0, 0, 16], TapsFault::TapSum),
+];
 
-#[test]
-fn reports_a_decimator(rt: HostRuntime) {
-    assert!(rt; reported(rt.alloc()) == Ok((16, 24, [true, false])));
-}
-
-// The sums and the sample that this decimator gives for one byte of bits.
-fn samples_of(alloc: Global, byte: u8) -> Result<(i32, i32, Option<i32>), Fail> {
-    let taps = by_sixteen(alloc)?;
-    let bits = Bits::from_packed(alloc, &[byte], 8)?;
-    Ok(single_samples(&taps, &bits))
+// Whether exactly that limit is reported.
+fn is_reported(alloc: Global, broken: &Broken) -> bool {
+    let (taps, [factor, delay, shift, width], fault) = *broken;
+    Taps::new(alloc, taps, factor, delay, shift, width).err() == Some(fault)
 }
 
 #[test]
-fn answers_single_samples(rt: HostRuntime) -> Result<(), Fail> {
-    assert!(rt; samples_of(rt.alloc(), 0xf0)? == (10, 8, Some(10)));
-    Ok(())
+fn names_the_broken_limit(rt: HostRuntime) {
+    for (case, broken) in BROKEN.iter().enumerate() {
+        assert!(rt; is_reported(rt.alloc(), broken), "case {case}");
+    }
 }

@@ -1,12 +1,12 @@
-//! What inlets and outlets, plain and fused, do with readers and writers that do little at a time and fail.
+//! What inlets and outlets do with readers and writers that do little at a time and fail: a failure is counted only if
+//! a read or a write failed.
 
 ghost use Rattle.std.specs.Prelude.{◌<◌, ◌≤◌, ◌+◌, ◌-◌, ◌^◌};
 ghost use Rattle.chunk_core.specs.Inlets.{inlet_failures};
 
-use crate::compared::check_printed;
 use crate::fixtures::compared::equal;
 use crate::fixtures::devices::{Dripping, drip, sip};
-use chunk_core::{Device, FusedFault, FusedInlet, FusedOutlet, Inlet, Outlet};
+use chunk_core::{Device, FusedInlet, Inlet, Outlet};
 use std::alloc::Global;
 use std::io::Read;
 
@@ -94,42 +94,24 @@ fn a_writer_is_given_all_bytes_up_to_a_failure(rt: HostRuntime) {
     }
 }
 
-// What three reads give. The reader gives one byte at a time, fails at one read, and is read at most `most` times.
-fn three_reads(fails_at: u64, most: u64) -> [Option<usize>; 3] {
+// Whether each of three reads gives something. The reader gives one byte at a time, fails at one read, and is read at
+// most `most` times.
+fn three_reads(fails_at: u64, most: u64) -> [bool; 3] {
     let mut reader = FusedInlet::new(drip(b"abcd", 1, fails_at), most);
     let mut buffer = [0; 8];
-    let first = reader.read(&mut buffer).ok();
-    let second = reader.read(&mut buffer).ok();
-    [first, second, reader.read(&mut buffer).ok()]
+    let first = reader.read(&mut buffer).is_ok();
+    let second = reader.read(&mut buffer).is_ok();
+    [first, second, reader.read(&mut buffer).is_ok()]
 }
 
 #[test]
 fn a_fused_inlet_is_read_no_more(rt: HostRuntime) {
-    assert!(rt; three_reads(NEVER, 3) == [Some(1), Some(1), Some(1)]);
-    assert!(rt; three_reads(NEVER, 2) == [Some(1), Some(1), None]);
-    assert!(rt; three_reads(2, 3) == [Some(1), None, None]);
-}
-
-// What three writes of two bytes return if the third byte fails, whether the outlet reports the failure, and whether
-// the writer took two bytes in three writes.
-fn three_writes(alloc: Global) -> ([Option<FusedFault>; 3], bool, bool) {
-    let mut outlet = FusedOutlet::new(Outlet::new(sip(alloc, 3, NEVER)));
-    let first = outlet.put_all(b"ab").err();
-    let second = outlet.put_all(b"cd").err();
-    let third = outlet.put_all(b"ef").err();
-    let has_failed = outlet.has_failed();
-    let writer = outlet.into_inner().into_inner();
-    let took_two = writer.writes == 3 && equal(&writer.bytes, b"ab");
-    ([first, second, third], has_failed, took_two)
-}
-
-#[test]
-fn a_fused_outlet_writes_no_more(rt: HostRuntime) {
-    let faults = [None, Some(FusedFault::Device), Some(FusedFault::Failed)];
-    assert!(rt; three_writes(rt.alloc()) == (faults, true, true));
-}
-
-#[test]
-fn the_fault_has_its_name(rt: HostRuntime) {
-    check_printed(&rt, rt.alloc(), &[(Device, "Device")]);
+    assert!(rt;
+        three_reads(NEVER, 2) == [true, true, false],
+        "after its limit"
+    );
+    assert!(rt;
+        three_reads(2, 3) == [true, false, false],
+        "after a failure"
+    );
 }

@@ -1,6 +1,5 @@
-//! What the bits of a bridge cost, worked out by hand, and where there is no room for a fade.
+//! What the bits of a bridge cost, worked out by hand.
 
-ghost use Rattle.std.specs.Prelude.{◌≡◌, ◌+◌, ◌<◌, ◌≤◌};
 ghost use Rattle.splice_core.specs.Cues.{IsLine};
 
 use crate::fixtures::windows::{bits_of, by_equal, by_line, by_newest, by_older, ones, zeros};
@@ -80,14 +79,6 @@ fn cost_in(alloc: Global, window: &Window, byte: u8) -> Option<u64> {
     Some(window.cost_of(&bits))
 }
 
-// The same for a window that may be refused.
-fn cost(alloc: Global, window: Result<Window, WindowFault>, byte: u8) -> Option<u64> {
-    match window {
-        Ok(window) => cost_in(alloc, &window, byte),
-        Err(_) => None,
-    }
-}
-
 // What the bits 0 and 1 cost as a bridge of a window.
 fn both_costs(alloc: Global, window: Result<Window, WindowFault>) -> [Option<u64>; 2] {
     match window {
@@ -103,8 +94,6 @@ fn costs_of_whole_bridges(rt: HostRuntime) {
     assert!(rt; both_costs(alloc, equal) == [Some(0), Some(32)]);
     let newest = by_newest(alloc, ones(0, 8), 1, zeros(2, 9));
     assert!(rt; both_costs(alloc, newest) == [Some(4), Some(4)]);
-    let longer = by_newest(alloc, ones(0, 8), 2, zeros(3, 9));
-    assert!(rt; cost(alloc, longer, 0x80) == Some(8), "two bits");
 }
 
 // What the bits 0 and 1 cost as a bridge of a line with these ends, from ones to the start of a take of zeros.
@@ -132,39 +121,4 @@ fn costs_of_lines(rt: HostRuntime) {
 fn a_bit_costs_at_the_place_after_it(rt: HostRuntime) {
     let older = by_older(rt.alloc(), zeros(0, 8), 1, ones(2, 9));
     assert!(rt; both_costs(rt.alloc(), older) == [Some(20), Some(4)]);
-}
-
-#[test]
-fn bridges_to_a_cue_of_one_bit_and_back(rt: HostRuntime) {
-    let alloc = rt.alloc();
-    let there = by_equal(alloc, ones(0, 8), 1, zeros(2, 3));
-    assert!(rt; cost(alloc, there, 0x00) == Some(0), "there");
-    let back = by_equal(alloc, zeros(0, 3), 1, ones(2, 7));
-    assert!(rt; cost(alloc, back, 0x80) == Some(0), "back");
-}
-
-// Why there is no window of a bridge of one bit, from ones up to `stop` to zeros from `start` on.
-fn refusal(alloc: Global, stop: usize, start: usize, last: usize) -> Option<WindowFault>
-    requires stop { (1 ≤ stop) × (stop ≤ 32) }
-    requires last { (start + 1 ≤ last) × (last ≤ 32) }
-{
-    by_equal(alloc, ones(0, stop), 1, zeros(start, last)).err()
-}
-
-#[test]
-fn no_room_for_a_fade(rt: HostRuntime) {
-    let alloc = rt.alloc();
-    assert!(rt;
-        refusal(alloc, 8, 1, 8) == Some(WindowFault::NoRoomBefore),
-        "early"
-    );
-    // A cue that ends with its take of 32 bits.
-    assert!(rt;
-        refusal(alloc, 32, 2, 9) == Some(WindowFault::NoRoomAfter),
-        "late"
-    );
-    assert!(rt;
-        refusal(alloc, 32, 1, 8) == Some(WindowFault::NoRoomBefore),
-        "both"
-    );
 }

@@ -1,26 +1,11 @@
-//! What the header of a DSDIFF 1.5 file states about its sound, and which ends close such a file.
+//! Beginnings and ends of DSDIFF 1.5 files, one for each fault that such files can have: none is reported as out of
+//! memory. Which fault it is `tests/try_refusals` asks the built program.
 
-use crate::dsdiff_writing::WITH_PARTS;
-use crate::fixtures::files::{FILE, changed};
-use dsd_bits::{Interleaving, Sound, SoundAt};
-use dsdiff_core::{closes, sound_at};
+use crate::fixtures::files::FILE;
+use crate::formats::closes_after;
+use dsd_bits::SoundAt;
+use dsdiff_core::sound_at;
 use std::alloc::{AllocError, Global};
-use std::test::Fail;
-
-#[test]
-fn finds_the_sound(rt: HostRuntime) -> Result<(), Fail> {
-    let sound = Sound {
-        rate: 2_822_400,
-        channels: 1,
-        count: 8,
-        start: 126,
-        size: 1,
-        interleaving: Interleaving::Bytes,
-    };
-    assert!(rt; sound_at(rt.alloc(), &FILE[..125])? == SoundAt::More);
-    assert!(rt; sound_at(rt.alloc(), &FILE[..126])? == SoundAt::Found(sound));
-    Ok(())
-}
 
 // A place in the header of `FILE`, other bytes there, and the fault of each file that begins like this.
 const CHANGES: [(usize, &[u8], &str); 25] = [
@@ -52,9 +37,10 @@ const CHANGES: [(usize, &[u8], &str); 25] = [
 ];
 
 // What the header of `FILE` states with other bytes from a place on.
-fn told_with(alloc: Global, at: usize, bytes: &[u8]) -> Result<SoundAt, AllocError> {
-    let prefix = changed(alloc, &FILE[..126], at, bytes)?;
-    sound_at(alloc, &prefix)
+fn stated_with(alloc: Global, at: usize, bytes: &[u8]) -> Result<SoundAt, AllocError> {
+    let (prefix, rest) = FILE[..126].split_at(at.min(126));
+    let left = rest.get(bytes.len()..).unwrap_or(&[]);
+    sound_at(alloc, &[prefix, bytes, left].concat(alloc)?)
 }
 
 // Whether a header is refused, and not because memory ran out.
@@ -65,18 +51,18 @@ fn is_refused(reported: Result<SoundAt, AllocError>) -> bool {
 #[test]
 fn refuses_changed_headers(rt: HostRuntime) {
     for (at, bytes, fault) in &CHANGES {
-        let reported = told_with(rt.alloc(), *at, bytes);
+        let reported = stated_with(rt.alloc(), *at, bytes);
         assert!(rt; is_refused(reported), "{fault}");
     }
 }
 
-/// A version chunk. The one below it has 3 bytes.
-pub(crate) const VERSION: &[u8] = b"FVER\0\0\0\0\0\0\0\x04\x01\x05\0\0";
+// A version chunk. The one below it has 3 bytes.
+const VERSION: &[u8] = b"FVER\0\0\0\0\0\0\0\x04\x01\x05\0\0";
 
 const SHORT_VERSION: &[u8] = b"FVER\0\0\0\0\0\0\0\x03\x01\x05\0\0";
 
-/// A property of one channel, `C000`, at 2,822,400 hertz.
-pub(crate) const MONO: &[u8] = b"PROP\0\0\0\0\0\0\0\x46SND \
+// A property of one channel, `C000`, at 2,822,400 hertz.
+const MONO: &[u8] = b"PROP\0\0\0\0\0\0\0\x46SND \
     FS  \0\0\0\0\0\0\0\x04\0\x2b\x11\0\
     CHNL\0\0\0\0\0\0\0\x06\0\x01C000\
     CMPR\0\0\0\0\0\0\0\x13DSD \x0enot compressed\0";
@@ -108,8 +94,8 @@ const SHORT_KIND: &[u8] = b"PROP\0\0\0\0\0\0\0\x36SND \
     CHNL\0\0\0\0\0\0\0\x06\0\x01C000\
     CMPR\0\0\0\0\0\0\0\x03DSD\0";
 
-/// The header of a file with these chunks before a sound of this size, after which the form has `left` bytes.
-pub(crate) fn prefix_of(
+// The header of a file with these chunks before a sound of this size, after which the form has `left` bytes.
+fn prefix_of(
     alloc: Global,
     chunks: &[&[u8]],
     size: u64,
@@ -161,34 +147,9 @@ fn finds_the_longest_sound(rt: HostRuntime) {
     assert!(rt; matches!(longest, Ok(SoundAt::Found(sound)) if sound.count == 1 << 36));
 }
 
-// Whether these bytes close the file with this header. None if the header doesn't lead up to a sound.
-fn closes_after(alloc: Global, prefix: &[u8], back: &[u8]) -> Result<Option<bool>, AllocError> {
-    match sound_at(alloc, prefix)? {
-        SoundAt::Found(sound) if sound.start == prefix.len() => {
-            Ok(Some(closes(alloc, prefix, back)?))
-        }
-        _ => Ok(None),
-    }
-}
-
 // Whether a file is closed, or isn't, as it should be. Out of memory never counts as a file that isn't closed.
-fn is_reported(closed: Result<Option<bool>, AllocError>, expected: bool) -> bool {
-    closed == Ok(Some(expected))
-}
-
-// What may follow the sound of `FILE`: nothing, its pad, and bytes after the form.
-const ENDS: [&[u8]; 3] = [&[], &[0], &[0, 1, 2, 3, 4, 5]];
-
-// In `WITH_PARTS` a mark and kept chunks follow the one byte of sound.
-#[test]
-fn closes_after_the_sound(rt: HostRuntime) -> Result<(), Fail> {
-    for back in &ENDS {
-        let closed = closes_after(rt.alloc(), &FILE[..126], back)?;
-        assert!(rt; closed == Some(true), "{} bytes", back.len());
-    }
-    let (prefix, rest) = WITH_PARTS.split_at(140);
-    assert!(rt; closes_after(rt.alloc(), prefix, &rest[1..])? == Some(true));
-    Ok(())
+fn is_reported(closed: Result<Option<(usize, bool)>, AllocError>, expected: bool) -> bool {
+    closed == Ok(Some((1, expected)))
 }
 
 // Edited masters. The first has a whole mark of 22 bytes. In the others a chunk's header is cut, its data is cut, a
@@ -232,7 +193,7 @@ fn closes_between(
     before: &[u8],
     after: &[u8],
     missing: u64,
-) -> Result<Option<bool>, AllocError> {
+) -> Result<Option<(usize, bool)>, AllocError> {
     let back = [b"\0".as_slice(), after].concat(alloc)?;
     let left = (back.len() as u64).saturating_add(missing);
     let prefix = prefix_of(alloc, &[VERSION, MONO, before], 1, left)?;

@@ -369,6 +369,8 @@ class Sound:
     def _blocks(self, frames, dtype, always_2d):
         while self._at < self.info.frames:
             yield self.read(frames, dtype, always_2d)
+        if not self._ended:
+            self.read(0)  # there were no frames from here on, so nothing has looked at the end yet
 
     def __iter__(self):
         return self.blocks()

@@ -1,6 +1,16 @@
 # What the scripts of this folder measure with; they `source` it.
 # shellcheck shell=bash
 
+# Ends the script with one line where a value is no whole number above 0.
+whole() {
+    case "$2" in
+        '' | 0* | *[!0-9]*)
+            echo "$(basename "$0"): $1 has to be a whole number above 0, not \"$2\"" >&2
+            exit 1
+            ;;
+    esac
+}
+
 # The time of a command, in milliseconds.
 once() {
     local begin

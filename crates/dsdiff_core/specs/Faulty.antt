@@ -74,7 +74,8 @@ pub record AreJudged (file : List ℕ) (lead : List Span) (s : FaultyStart) : Ty
   pub property : s.property ≡ is_some (find (holds_property file) lead)
   pub sound : s.sound ≡ is_some (find (span_has DSD) lead)
 
--- where `s` is told of the first chunks, `next` is told of them and one more with this ID, which may be a sound property
+-- if `s` is what the first chunks show, `next` is what they show with one more chunk of this ID. `is_property` says
+-- whether that one is a sound property
 abbrev pub JudgesNext : FaultyStart → List ℕ → Bool → FaultyStart → Type 0
 JudgesNext s id is_property next = (file : List ℕ) (lead : List Span) (span : Span) → AreJudged file lead s → span.id ≡ id → holds_property file span ≡ is_property → AreJudged file (lead ++ span ∷ []) next
 

@@ -1,6 +1,6 @@
 -- What holds of each fault of a kind; faults of a stage are faults of the whole.
 use Rattle.std.proofs.Common.{◌≡◌, ◌≢◌, ◌<◌, ℕ, inl, List, Option, None, Some, Result, Ok, Err, IfErr, IsErrAnd, IsErrOf, refl, subst}
-use Rattle.sound_core.specs.Faults.{IsReadingFault, IsSinkFault, IsWritingFault, failed_reads}
+use Rattle.sound_core.specs.Faults.{IsReadingFault, IsWritingFault, failed_reads}
 use Rattle.sound_core.specs.Files.{IsHeaderFault}
 use Rattle.sound_core.specs.Outlines.{IsOutlineFault, IsTagFault}
 use Rattle.sound_core.specs.Readers.{IsPassFault}
@@ -63,19 +63,6 @@ prefix_in_outline left ReadFailed h = tt
 prefix_in_outline left WriteFailed h = absurd h
 prefix_in_outline left TurnLimit h = tt
 prefix_in_outline left Memory h = tt
-
--- ---- a fault of a sink is no fault of reading
-pub own_unread : (X : Type 0) (f : StreamFault) → IsSinkFault f → failed_reads {X = X} (Err f) ≡ 0
-own_unread X FileRefused h = refl
-own_unread X RateNotDivided h = refl
-own_unread X TooLarge h = refl
-own_unread X ReadFailed h = absurd h
-own_unread X WriteFailed h = refl
-own_unread X TurnLimit h = absurd h
-own_unread X Memory h = refl
-
-pub own_no_turn : {X : Type 0} (f : StreamFault) → IsSinkFault f → IsErrOf {T = X} (Err f) TurnLimit → ⊥
-own_no_turn f h turn = subst IsSinkFault (let is : f ≡ TurnLimit = cc in is) h
 
 -- both hold of an answer
 pub both : {X : Type 0} (r : Result X StreamFault) (P Q F : StreamFault → Type 0) → ((f : StreamFault) → P f → Q f → F f) → IfErr r P → IfErr r Q → IfErr r F

@@ -1,8 +1,8 @@
 -- A reader that goes on: it stays the same, and what was counted adds up.
-use Rattle.std.proofs.Common.{◌≡◌, ◌+◌, ◌≤◌, Result, Ok, Err, IfErr, IsErrOf, arith, refl, ap, subst, ◌∙◌}
+use Rattle.std.proofs.Common.{◌≡◌, ◌+◌, ◌≤◌, Result, Ok, Err, IsErrOf, arith, refl, ap, subst, ◌∙◌}
 use Rattle.chunk_core.specs.Inlets.{inlet_failures, inlet_reads}
-use Rattle.sound_core.specs.Faults.{IsSinkFault, failed_reads}
-use Rattle.sound_core.proofs.FaultLaws.{memory_no_turn, own_no_turn, own_unread}
+use Rattle.sound_core.specs.Faults.{failed_reads}
+use Rattle.sound_core.proofs.FaultLaws.{memory_no_turn}
 use Rattle.sound_core.specs.Readers.{Counts, IsReading, IsSame}
 use Rattle.sound_core.specs.declared.fault.StreamFault.{StreamFault}
 use Rattle.sound_core.specs.declared.fault.StreamFault.TheVariants.{FileRefused, RateNotDivided, TooLarge, ReadFailed, WriteFailed, TurnLimit, Memory}
@@ -59,9 +59,6 @@ counts_want a m b x limit same p = counts_before a m b x (Err Memory) refl (λ t
 pub counts_kept : {R X Y : Type 0} (a b c : SoundReader R) (x : X) (y : Y) → c.inlet.now ≡ b.inlet.now → Counts a b (Ok x) → Counts a c (Ok y)
 counts_kept a b c x y same p = counts_still a b c x (Ok y) refl (λ turn. cc) same p
 
-pub counts_kept_refused : {R X Y : Type 0} (a b c : SoundReader R) (x : X) → c.inlet.now ≡ b.inlet.now → Counts a b (Ok x) → Counts {X = Y} a c (Err FileRefused)
-counts_kept_refused a b c x same p = counts_still a b c x (Err FileRefused) refl (λ turn. cc) same p
-
 -- no read failed so far
 pub counts_so_far : {R X : Type 0} (a b : SoundReader R) (x : X) → IsReading b → IsSame a b → inlet_failures b.inlet.now ≡ inlet_failures a.inlet.now → Counts a b (Ok x)
 counts_so_far a b x reading same none = record { failures = omega (arith, none); turns = λ turn. absurd cc; most = omega (arith, reading.budget.reads, same.limit) }
@@ -69,8 +66,3 @@ counts_so_far a b x reading same none = record { failures = omega (arith, none);
 -- no read was asked for
 pub counts_none_refused : {R X : Type 0} (a b : SoundReader R) → inlet_failures b.inlet.now ≡ inlet_failures a.inlet.now → inlet_reads b.inlet.now ≤ a.limit → Counts {X = X} a b (Err FileRefused)
 counts_none_refused a b none most = record { failures = omega (arith, none); turns = λ turn. absurd cc; most = most }
-
--- a sink refused, or did not
-pub counts_own : {R X Y : Type 0} (a m b : SoundReader R) (x : X) (r : Result Y StreamFault) → m.limit ≡ a.limit → inlet_failures m.inlet.now ≡ inlet_failures a.inlet.now → IfErr r IsSinkFault → Counts m b (Ok x) → Counts a b r
-counts_own a m b x (Ok y) limit same own p = counts_ok a m b x y limit same p
-counts_own {Y = Y} a m b x (Err f) limit same own p = counts_before a m b x (Err f) (own_unread Y f own) (λ turn. own_no_turn f own turn) limit same p

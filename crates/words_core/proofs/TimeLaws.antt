@@ -55,7 +55,3 @@ number_too_great reading byte rest before no_colon no_point great =
     let read = reading.number * 10 + digit_value byte in
     let least = later _ reading.nanoseconds _ (either _ (nat_lt (digit_value byte) 10) _ None (least_time reading.fields reading.before read true rest) tt) in
     rw (before, ne_eqb byte 58 no_colon, ne_eqb byte 46 no_point) (too_great _ _ (omega (arith, great)) least)
-
-pub nothing_added : (time : Option ℕ) → in_range (option_map (λ n. n + 0) time) ≡ in_range time
-nothing_added None = refl
-nothing_added (Some n) = let same : n + 0 ≡ n = omega arith in rw same refl

@@ -71,6 +71,14 @@ end_by() {
     kill -s "$1" $$
 }
 
+# Signals that end this shell end the program first.
+trap_signals() {
+    for child_name in HUP INT QUIT TERM; do
+        # shellcheck disable=SC2064
+        trap "end_by $child_name" "$child_name"
+    done
+}
+
 # A number below ten that no open file has. Standard input gets it too, for a shell gives a child in the background none.
 free_number() {
     child_input=9
@@ -218,10 +226,7 @@ run_child() {
         esac
         child_before="$child_name"
     done
-    for child_name in HUP INT QUIT TERM; do
-        # shellcheck disable=SC2064
-        trap "end_by $child_name" "$child_name"
-    done
+    trap_signals
     if [ -e /dev/fd/0 ]; then
         free_number
         eval "exec $child_input<&0"

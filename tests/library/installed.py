@@ -130,7 +130,9 @@ def files_of_packages(folder, users, made):
         status, said = users.run("dpkg-deb", "-R", name, f"{folder}/{number}")
         demand(status == 0, f"{name}: {said}")
         shutil.copytree(f"{folder}/{number}/usr", f"{folder}/usr", symlinks=True, dirs_exist_ok=True)
-        there.append({it for it in files_below(f"{folder}/{number}/usr") if not it.startswith("share/doc/")})
+        there.append(
+            {it for it in files_below(f"{folder}/{number}/usr") if not re.match("share/(doc/|man/man1/dsdarc-)", it)}
+        )
     place = os.path.dirname(next(it for it in sorted(there[1]) if it.endswith("/libdsdarc.so.0")))
     installed = files_below(users.prefix) - {"share/dsdarc/installed.txt"}
     wanted = {it.replace("zsh/site-functions", "zsh/vendor-completions") for it in installed}

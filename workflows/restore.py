@@ -144,6 +144,7 @@ def restore(out, name, found, part, folder):
     if os.path.isabs(name) or ".." in name.split("/"):
         raise channels.Unread("its name leads out of the folder")
     path = os.path.join(folder, name)
+    demand_apart(out, os.path.dirname(path))
     if is_made(path, found["sha256"]):
         return
     write(part, data_of(out, found))
@@ -194,10 +195,8 @@ def not_kept(out):
 
 def demand_apart(out, folder):
     """Refuses a folder in which files would be written over those that are read."""
-    out, folder = os.path.realpath(out), os.path.realpath(folder)
-    inner = os.path.relpath(folder, out).split("/")[0]
-    if inner in (".", "archive", "work", "renamed", besides.FOLDER, *names.KINDS):
-        raise outputs.Refused("FOLDER is OUT, or a folder of the run: name another one")
+    if names.inner_of(folder, out) in (".", "archive", *names.WRITTEN):
+        raise outputs.Refused(f"{outputs.shown_name(folder)} is OUT, or a folder of the run, too: name another one")
 
 
 def restore_all(out, folder):

@@ -89,6 +89,14 @@ def identity(name):
         return found.st_dev, found.st_ino, last
 
 
+def demand_unread(read, written):
+    """Refuses where a file that would be written is there, and is one that is read, by whatever name."""
+    known = {identity(name): name for name in read}
+    for name in written if known else ():
+        if os.path.exists(name) and identity(name) in known:
+            raise Refused(f"{shown_name(name)} would be written, and is {shown_name(known[identity(name)])} too")
+
+
 def disk_of(name):
     """Where the disk of a file is mounted."""
     place = os.path.realpath(name)

@@ -16,6 +16,7 @@ ROOT = Path(__file__).resolve().parent.parent
 RATE, BITS = 2_822_400, 32_000
 FADE = ("cuts/fade", "p.toml", "-o", "new.toml", "--time", "0.5ms")
 REPORT = ("workflows/report", "run", "-o", "READ")
+PLAY_ALL = ("workflows/play_all", "filter.toml", "archive", "played")
 READ = (
     (("cuts/place", "p.toml", "-o", "READ"), "p.toml"),
     (("cuts/place", "p.toml", "-o", "READ"), "a.dff"),
@@ -55,6 +56,13 @@ MADE = (
         "filters/dsd64-to-352800-24.toml",
     ),
     (("workflows/report", "run"), "run/report.html", "run/a.dff.wav"),
+    ((*PLAY_ALL, "2"), "played/SHA256SUMS", "filter.toml"),
+    ((*PLAY_ALL, "2"), "played/refused.txt", "filter.toml"),
+    ((*PLAY_ALL, "2"), "played/.played", "filter.toml"),
+    ((*PLAY_ALL, "2"), "played/a.dff.wav", "filter.toml"),
+    (("workflows/play_all", "played/refused.txt", "archive", "played"), "played/refused.txt", "filter.toml"),
+    ((*PLAY_ALL, "jobs"), "played/earlier.txt", "jobs"),
+    ((*PLAY_ALL, "jobs"), "played/refused.txt", "jobs"),
 )
 TWICE = (
     (("cuts/fade", "p.toml", "-o", "x", "--time", "0.5ms", "--take", "folder/../x"), ()),
@@ -111,6 +119,9 @@ def furnish(words):
     for folder in ("workflows", "scripts/common", "cuts") if words[0].startswith("clone/") else ():
         shutil.copytree(ROOT / folder, Path("clone", folder), ignore=shutil.ignore_patterns("pictures", "__pycache__"))
     put("filters/dsd64-to-352800-24.toml", (ROOT / "filters/dsd64-to-352800-24.toml").read_bytes())
+    put("filter.toml", (ROOT / "filters/dsd64-to-352800-24.toml").read_bytes())
+    put("jobs", "2")
+    put("played/.played", "")
     put("old", "what stood here")
     os.mkdir("folder")
     os.symlink("folder/x", "lost")

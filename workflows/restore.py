@@ -186,13 +186,18 @@ def kept_of(out):
     """What can be made again, by the old names: what was converted, and the copies of other files."""
     found = listed(out, "results.json", is_entry)
     converted = {name: it for name, it in found.items() if it["converted"] is not None}
-    return converted | listed(out, besides.LIST, is_copy)
+    # A run by an earlier version kept no copies.
+    has_copies = os.path.lexists(os.path.join(out, besides.LIST))
+    return converted | (listed(out, besides.LIST, is_copy) if has_copies else {})
 
 
 def not_kept(out):
-    """How many files of the archive aren't kept."""
-    with open(os.path.join(out, besides.LEFT), encoding="utf-8", errors="surrogateescape") as file:
-        return file.read().count("\n")
+    """How many files of the archive are listed as not kept."""
+    try:
+        with open(os.path.join(out, besides.LEFT), encoding="utf-8", errors="surrogateescape") as file:
+            return file.read().count("\n")
+    except FileNotFoundError:
+        return 0
 
 
 def demand_apart(out, folder):

@@ -6,6 +6,7 @@ import numpy as np
 import bridges
 import joins
 import links
+import titles
 import transitions
 from hearing import hearing_of
 from outputs import Refused
@@ -108,7 +109,7 @@ def place_together(project: Project, cut: int, asked: Asked) -> None:
         places = [(stop + early, start - length + early), *near]
         best = joins.quietest(found.bridged(places, project.weights, length))
     else:
-        is_linking = asked.linking and len(project.cues) < MOST_CUES
+        is_linking = asked.linking and len(project.rows) < MOST_CUES
         best = found.best_linked(project.shortest) if is_linking else found.best()
     project.move(cut, best.stop, best.start)
     if best.link:
@@ -135,7 +136,7 @@ def place_apart(project: Project, cut: int, asked: Asked) -> bool:
         return False
     stop, start, offset = project.cues[cut]["stop"], project.cues[cut + 1]["start"], found.offset
     first, last = found.ends(margin)
-    low, high = min(first, stop), max(last, start - offset)  # the wished place lies inside
+    low, high = with_title(project, cut, (min(first, stop), max(last, start - offset)), offset)
     seams = project.seams_as(asked.take)
     places = [it.stop + it.link.ahead - low for it in found.places]
     middles = [place + it.moved for place, it in zip(places, found.places)]
@@ -149,6 +150,13 @@ def place_apart(project: Project, cut: int, asked: Asked) -> bool:
         project.shift(cut + 1, found.early, asked.shifted_name, reach)
     project.insert_seam(cut, seam, signs)
     return True
+
+
+def with_title(project: Project, cut: int, ends: tuple[int, int], offset: int) -> tuple[int, int]:
+    """The ends of a transition in the first take, with room for a title of what follows at the wished place."""
+    cue, following = project.cues[cut], project.cues[cut + 1]
+    room = cue["start"] + project.least(cut), following["stop"] - project.least(cut + 1) - offset
+    return titles.widened(ends, cue["stop"], room, project.shortest) if "title" in following else ends
 
 
 def link_row(place: joins.Place, middle: int, early: int) -> list[int]:

@@ -11,6 +11,7 @@ from hearing import Hearing, decibels, hearing_of
 from owing import known
 from projects import Project, Spot
 from takes import Signals
+from times import clock, lasting
 
 
 class Planned(Signals):
@@ -36,12 +37,13 @@ class Planned(Signals):
         return found
 
     def bridge(self, spot: Spot) -> np.ndarray:
-        """The signs of a bridge that fades."""
+        """The signs of a bridge."""
         project, more = self.project, self.project.shortest
         stop, start = project.cues[spot.before]["stop"], project.cues[spot.after]["start"]
         before = project.take(spot.before).signs(stop - more, stop + spot.length)
         after = project.take(spot.after).signs(start - spot.length - more, start + more)
-        return bridges.least(project.weights, before, after, spot.length)
+        line = project.cues[spot.before]["line"] if spot.role == "line" else None
+        return bridges.least(project.weights, before, after, spot.length, line)
 
 
 def errors(hearing: Hearing, project: Project, spot: Spot) -> np.ndarray:
@@ -103,7 +105,7 @@ def named(seen: Seen) -> str:
         ramp = f" over {seen.seam.ramp / seen.rate * 1e6:.3g} us" if seen.seam.kind == "butt" else ""
         if seen.seam.slow:
             ramp += f" (above {SPLIT[0] // 1000} kHz over {seen.seam.slow / seen.rate * 1e6:.3g} us)"
-        return f"{seen.seam.kind} of {seen.length} bits{ramp}"
+        return f"{seen.seam.kind} of {seen.length} bits ({lasting(seen.length, seen.rate)}){ramp}"
     return {"plain": "cut plain", "link": f"link of {seen.length} bits"}.get(seen.spot.role, f"bridge of {seen.length}")
 
 
@@ -111,7 +113,7 @@ def told(number: int, old: Seen, new: Seen, more: list[str] | None = None) -> st
     """The line of a cut that was changed; `more` is what else there is to say of each channel."""
     late = ((new.stop + new.length - old.stop - old.length) - (new.start - old.start)) / new.rate * 1e6
     places = f"stop {old.stop} to {new.stop}, start {old.start} to {new.start}, {late + 0.0:+.1f} us"
-    parts = [f"cut {number}: {named(new)}, {places}"]
+    parts = [f"cut {number}: {named(new)} at {clock(new.spot.place, new.rate)}, {places}"]
     for channel, (before, after) in enumerate(zip(old.clicks, new.clicks)):
         step = f"{old.steps[channel]:.1f} dB" + (" faded" if new.is_faded else f" to {new.steps[channel]:.1f}")
         peak = f"peak {before[0]:.1f} to {after[0]:.1f} dB, A {before[1]:.1f} to {after[1]:.1f}"

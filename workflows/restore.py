@@ -144,6 +144,7 @@ def restore(out, name, found, part, folder):
     if os.path.isabs(name) or ".." in name.split("/"):
         raise channels.Unread("its name leads out of the folder")
     path = os.path.join(folder, name)
+    demand_apart(out, os.path.dirname(path))
     if is_made(path, found["sha256"]):
         return
     if os.path.lexists(path):
@@ -185,21 +186,24 @@ def kept_of(out):
     """What can be made again, by the old names: what was converted, and the copies of other files."""
     found = listed(out, "results.json", is_entry)
     converted = {name: it for name, it in found.items() if it["converted"] is not None}
-    return converted | listed(out, besides.LIST, is_copy)
+    # A run by an earlier version kept no copies.
+    has_copies = os.path.lexists(os.path.join(out, besides.LIST))
+    return converted | (listed(out, besides.LIST, is_copy) if has_copies else {})
 
 
 def not_kept(out):
-    """How many files of the archive aren't kept."""
-    with open(os.path.join(out, besides.LEFT), encoding="utf-8", errors="surrogateescape") as file:
-        return file.read().count("\n")
+    """How many files of the archive are listed as not kept."""
+    try:
+        with open(os.path.join(out, besides.LEFT), encoding="utf-8", errors="surrogateescape") as file:
+            return file.read().count("\n")
+    except FileNotFoundError:
+        return 0
 
 
 def demand_apart(out, folder):
     """Refuses a folder in which files would be written over those that are read."""
-    out, folder = os.path.realpath(out), os.path.realpath(folder)
-    inner = os.path.relpath(folder, out).split("/")[0]
-    if inner in (".", "archive", "work", "renamed", besides.FOLDER, *names.KINDS):
-        raise outputs.Refused("FOLDER is OUT, or a folder of the run: name another one")
+    if names.inner_of(folder, out) in (".", "archive", *names.WRITTEN):
+        raise outputs.Refused(f"{outputs.shown_name(folder)} is OUT, or a folder of the run, too: name another one")
 
 
 def restore_all(out, folder):

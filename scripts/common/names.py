@@ -17,6 +17,8 @@ import walks
 KEY_DIGITS = 32
 # What the results of one file end with, by the folder that they are in.
 KINDS = {"converted": (".dff", ".dsf"), "pcm": (".wav",), "kept": (".head", ".fill", ".id3", ".tail")}
+# The folders in OUT in which the workflow writes.
+WRITTEN = ("work", "renamed", "beside", *KINDS)
 ADDED = max(len(ending) for endings in KINDS.values() for ending in endings)
 # The path of a result from OUT, and that of OUT; the system takes 4095 bytes.
 LONGEST_RESULT = 3000
@@ -52,7 +54,9 @@ def keep(name, data):
     """Writes a text or an object as JSON, whole or not at all."""
     part = name + ".part"
     try:
-        with open(part, "w", encoding="utf-8", errors="surrogateescape") as file:
+        # It may be a link to another file.
+        remove(part)
+        with open(part, "x", encoding="utf-8", errors="surrogateescape") as file:
             if isinstance(data, str):
                 file.write(data)
             else:
@@ -266,11 +270,18 @@ def forget_lost(kind, files, settings):
                 remove(path, *(note["results"] if note["renamed"] != entry["renamed"] else ()))
 
 
+def inner_of(folder, out):
+    """The folder in OUT that a folder is, or is in; `.` of OUT itself, and `..` of what is elsewhere."""
+    return os.path.relpath(os.path.realpath(folder), os.path.realpath(out)).split("/")[0]
+
+
 def settle(archive, settings):
     """What the first process of a workflow does in OUT, its folder: the table of names, the links, the settings."""
     out = os.getcwd()
     if len(os.fsencode(out)) > LONGEST_OUT:
         sys.exit(f"the path of OUT has more than {LONGEST_OUT} bytes: take another")
+    if inner_of(archive or "archive", ".") in (".", *WRITTEN):
+        sys.exit("the archive is OUT, or a folder in which the run writes: take another OUT")
     link_archive(archive)
     for folder in ("looks", "converted", "played", "parts"):
         os.makedirs(f"work/{folder}", exist_ok=True)

@@ -1,7 +1,8 @@
 """What is in an archive: the DSD files below a folder, those that can't be looked at and why, and all other files.
 
 Links to files are taken as files. A link to a folder is followed, once all folders were entered by their own names: what
-it leads to is taken once, so there are no loops. A folder that holds the archive is not entered again.
+it leads to is taken once, so there are no loops. A folder that holds the archive is not entered again. Links into OUT are
+refused: what is made there would be a source.
 """
 import errno
 import os
@@ -82,12 +83,19 @@ def mark_of(path: str) -> tuple[int, int]:
     return it.st_dev, it.st_ino
 
 
+def is_inside(path: str, folder: str) -> bool:
+    """Whether a path leads into a folder."""
+    real = os.path.realpath(folder)
+    return os.path.commonpath([os.path.realpath(path), real]) == real
+
+
 class Walk:
     """A walk through an archive, in which OUT is left out: the names of the DSD files that can be looked at, fault, name
     and reason of what can't, and the names of all other files."""
 
     def __init__(self, archive: str, out: str) -> None:
         self.archive, self.out = archive, mark_of(out)
+        self.closed = None if is_inside(archive, out) else out
         self.good: list[str] = []
         self.refused: list[list[str]] = []
         self.others: list[str] = []
@@ -117,6 +125,8 @@ class Walk:
             return
         if mark in held_by:
             self.refuse(name, "FolderUnread", "it is a link to a folder that the archive is in")
+        elif mark != self.out and self.closed and is_inside(self.at(name), self.closed):
+            self.refuse(name, "FolderUnread", "it is a link into OUT")
         elif mark not in self.entered and mark != self.out:
             self.enter(name, is_linked=True)
 
@@ -155,6 +165,8 @@ class Walk:
             self.links.append(name)
         elif entry.name.lower().endswith(ENDINGS):
             refusal = refusal_of(self.archive, name)
+            if entry.is_symlink() and self.closed and is_inside(entry.path, self.closed):
+                refusal = "NotAFile", "it is a link into OUT"
             if refusal is None:
                 self.good.append(name)
             else:

@@ -22,8 +22,8 @@
  * Ownership. A player is made by dsdarc_player_new and freed by dsdarc_player_drop. All other memory is the caller's,
  * and is read or written during the call alone. Buffers of one call must not overlap each other.
  * Threads. Each player belongs to one call at a time; different players are independent of each other.
- * Statuses. Each call that can fail returns one. DSDARC_NULL and DSDARC_SIZE say that the call itself is wrong, and
- * change nothing. After a fault (from DSDARC_FILE_REFUSED to DSDARC_TOO_LONG, or DSDARC_MEMORY) of a push, an end or a
+ * Statuses. Each call that can fail returns one. DSDARC_NULL and DSDARC_SIZE say that the call itself is wrong;
+ * the player stays as it was. After a fault (from DSDARC_FILE_REFUSED to DSDARC_TOO_LONG, or DSDARC_MEMORY) of a push, an end or a
  * seek, the frames that wait can be pulled, and dsdarc_player_info returns what it returned before. A push takes nothing
  * while frames wait. All other calls return DSDARC_AFTER_FAULT, also a push of no bytes.
  */
@@ -144,10 +144,10 @@ DSDARC_API dsdarc_status dsdarc_filter_find(const void *index, size_t size, cons
 DSDARC_API dsdarc_status dsdarc_filter_rates(const void *index, size_t size, const char *name, uint32_t *rates,
                                              size_t room, size_t *count);
 
-/* Reports the loudspeakers that the channels of a file belong to, by the bits of a WAVE file's channel mask, from the
- * `size` bytes before its sound, or more of them. *mask is 0 if the file doesn't name them, or has them in another order
- * than that of the bits. Channels that are only numbered get the usual mask for how many there are. DSDARC_NOT_YET is
- * returned if the bytes don't have the channels. */
+/* Reports the loudspeakers that the channels of a file belong to, by the bits of a WAVE file's channel mask. `header` has
+ * the first `size` bytes of the file, up to where its sound starts, or more. *mask is 0 if the file doesn't name the
+ * loudspeakers, or has them in another order than that of the bits. Channels that are only numbered (C000, C001) get the
+ * usual mask for how many there are. DSDARC_NOT_YET is returned if the bytes don't have the channels. */
 DSDARC_API dsdarc_status dsdarc_channel_mask(const void *header, size_t size, uint32_t *mask);
 
 /* The name of a status, as "FileRefused"; "Unknown" for any other number. It is never freed. */

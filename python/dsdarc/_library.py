@@ -9,7 +9,7 @@ from typing import NamedTuple, NoReturn, SupportsIndex
 
 HERE = os.path.dirname(os.path.realpath(__file__))
 S32 = 1
-OK, SIZE, NOT_YET, NO_FILTER = 0, 2, 5, 21
+OK, PROCESSOR = 0, 19
 
 
 class Info(NamedTuple):
@@ -111,6 +111,8 @@ def version() -> str:
 
 
 def _check(status: int, what: str) -> None:
+    if status == PROCESSOR:
+        what = "the library was built for processors that can do more than this one"
     if status != OK:
         raise Fault(_library.dsdarc_status_text(status).decode(), what)
 

@@ -11,7 +11,7 @@ import tempfile
 import threading
 import time
 
-from playing import ROOT, demand, get, run
+from playing import ROOT, demand, get, played, run
 
 MOST_SECONDS = 60  # what doesn't come to its end is stopped then
 
@@ -65,6 +65,7 @@ def numbers_of(frames, align, width):
 def is_next(sound, whole, count=50):
     """Whether the next frames are those that belong to `tell()`; or a fault says that there are none."""
     import dsdarc
+    import numpy
 
     try:
         at = sound.tell()
@@ -73,7 +74,7 @@ def is_next(sound, whole, count=50):
         return True
     except OSError:
         return sound.tell() == at
-    return (read == whole[at : at + count]).all() and len(read) == len(whole[at : at + count])
+    return numpy.array_equal(read, whole[at : at + count])
 
 
 def steps(sound, count):
@@ -201,15 +202,14 @@ def shared(name, filter, whole):
                         if not is_next(sound, whole, 300):
                             wrong.append(at)
 
-                threads = [threading.Thread(target=reads, args=[it]) for it in (one, other, one)]
+                threads = [threading.Thread(target=reads, args=[it]) for it in (one, other)]
                 for each in threads:
                     each.start()
-                reads_alone = [it.join() for it in threads]
-                demand(
-                    len(reads_alone) == 3 and right, f"Python: sounds that share {type(file).__name__}: other frames"
-                )
-        if not right:
-            demand(False, f"Python: {len(wrong)} wrong reads")
+                for each in threads:
+                    each.join()
+                kind = type(file).__name__
+                demand(right, f"Python: sounds that share a {kind}, in turn: other frames")
+                demand(not wrong, f"Python: sounds that share a {kind}, in threads: {len(wrong)} wrong reads")
 
 
 def forked(name, filter, whole):
@@ -278,9 +278,7 @@ def grows(name, filter, whole):
     signal.alarm(MOST_SECONDS)
     try:
         with dsdarc.open(Growing(get(name)), filter) as sound:
-            demand(
-                (sound.read(-1, "native", always_2d=True) == whole).all(), "Python: other frames of a file that grows"
-            )
+            demand(is_next(sound, whole, len(whole)), "Python: other frames of a file that grows")
             demand(len(sound.read()) == 0, "Python: frames behind the last")
     except Stop:
         demand(False, "Python: a file that grows doesn't end")
@@ -346,8 +344,9 @@ def filters(folder, name):
         try:
             dsdarc.open(name, filter)
             demand(False, f"Python: {filter} is a filter")
-        except TypeError as why:
-            demand("a filter is a path" in str(why), f"Python: the filter {filter}: {why}")
+        except Exception as why:
+            is_right = type(why) is TypeError and "a filter is a path" in str(why)
+            demand(is_right, f"Python: the filter {filter}: {why!r}")
     ready = os.path.join(ROOT, "filters")
     for filter, rates in (
         ("dsd128-to-88200-24", "5644800"),
@@ -380,20 +379,19 @@ def filters(folder, name):
     demand(plus.endswith("/dsd64-to-88200-24-plus6.toml"), f"Python: the louder filter is {plus}")
 
 
-def try_interrupted(folder, cut, interrupts, dff, dsf, filter, frames, align):
-    """All of these; the files have the frames of a WAVE file."""
-    import dsdarc
-
-    with dsdarc.open(dff, filter) as sound:
-        whole = numbers_of(frames, align, sound.info.width // 8)
+def try_interrupted(folder, cut, interrupts):
+    """All of these, over files with the frames of WAVE files."""
     with tempfile.TemporaryDirectory(dir=folder) as room:
+        dff, dsf, filter, frames, align = played(room, "long", 300_001)
+        whole = numbers_of(frames, align, 3)
         for name in (dff, dsf):
             each_call_fails(name, filter, whole)
             grows(name, filter, whole)
             comes_first(room, cut, name, filter, whole)
-        each_place_raises(dff, filter, whole, max(1, 5000 // interrupts))
         at_any_time(dsf, filter, whole, interrupts)
         shared(dsf, filter, whole)
         forked(dff, filter, whole)
         copies(dff, filter)
         filters(room, dff)
+        short, _, filter, frames, align = played(room, "few", 12_000)
+        each_place_raises(short, filter, numbers_of(frames, align, 3), max(1, 4000 // interrupts))

@@ -4,7 +4,7 @@ import os
 import shutil
 
 from dsdiffs import dsdiff
-from playing import BUILT, PROGRAM, ROOT, compiled, demand, run
+from playing import BUILT, PROGRAM, ROOT, compiled, demand, get, run
 
 SOURCES = [os.path.join(ROOT, "library", f"{it}.c") for it in ("dsdarc", "filters", "channels")]
 ARCHIVE = os.path.join(BUILT, "libdsdarc.a")
@@ -42,8 +42,8 @@ def try_processor(folder, filter, name):
         compiled("tests/library/cut.c", *lacks, SOURCES[0], ARCHIVE, "-o", made)
         status, said = run(made, filter, name, out, "0")
         demand((status, said) == (1, "new Processor\n"), f"a processor that lacks level {level}: {status}, {said}")
-    with open(os.path.join(BUILT, "libdsdarc_c.cpu"), encoding="utf-8") as file:
-        built_for = file.read().strip()
+    marks = [os.path.join(BUILT, it) for it in ("libdsdarc_c.cpu", "dsdarc.cpu")]
+    built_for = get(next(it for it in marks if os.path.exists(it))).decode().strip()
     compiled("tests/library/cut.c", ARCHIVE, "-o", made)
     if not shutil.which("qemu-x86_64"):
         print("left out: other processors, as qemu-user isn't installed")

@@ -41,6 +41,7 @@ typedef struct {
     gboolean expects_end;    /* the end of a segment was reported: what ends then isn't the stream */
     GstSegment segment;
     guint32 seek_number; /* of the events and messages that belong to the last seek */
+    gboolean keeps;      /* this seek flushes what comes before the element, and nothing behind it */
     guint64 frame, last; /* the next one, and the one at which the segment stops */
 } DsdarcDec;
 typedef struct {
@@ -290,7 +291,6 @@ static gboolean sink_event(GstPad *pad, GstObject *parent, GstEvent *event) {
     GstEvent *own;
     switch (GST_EVENT_TYPE(event)) {
     case GST_EVENT_SEGMENT:
-        if (number == dec->seek_number) dec->dropping = FALSE;
         if (dec->told && !dec->dropping) {
             own = gst_event_new_segment(&dec->segment);
             gst_event_set_seqnum(own, number);
@@ -306,6 +306,10 @@ static gboolean sink_event(GstPad *pad, GstObject *parent, GstEvent *event) {
     case GST_EVENT_FLUSH_STOP:
         dec->dropping = FALSE;
         /* fall through */
+    case GST_EVENT_FLUSH_START:
+        if (!dec->keeps || number != dec->seek_number) return gst_pad_event_default(pad, parent, event);
+        gst_event_unref(event);
+        return TRUE;
     default:
         return gst_pad_event_default(pad, parent, event);
     }
@@ -350,6 +354,7 @@ static dsdarc_status go_to(DsdarcDec *dec, GstEvent *event, guint64 *offset) {
     dec->last = segment.stop == GST_CLOCK_TIME_NONE ? dec->info.frames : frame_at(dec, segment.stop);
     dec->last = CLAMP(dec->last, frame, dec->info.frames);
     dec->place = *offset;
+    dec->keeps = !(segment.flags & GST_SEGMENT_FLAG_RESET);
     dec->dropping = TRUE;
     dec->stopped = dec->expects_end = FALSE;
     return DSDARC_OK;
@@ -381,7 +386,8 @@ static gboolean seek(DsdarcDec *dec, GstEvent *event) {
         gst_message_set_seqnum(start, number);
         gst_element_post_message(GST_ELEMENT(dec), start);
     }
-    before = gst_event_new_seek(1.0, GST_FORMAT_BYTES, flags & GST_SEEK_FLAG_FLUSH, GST_SEEK_TYPE_SET, (gint64)offset,
+    /* The element before may have come to its end, from which only a flush brings it back. */
+    before = gst_event_new_seek(1.0, GST_FORMAT_BYTES, GST_SEEK_FLAG_FLUSH, GST_SEEK_TYPE_SET, (gint64)offset,
                                 GST_SEEK_TYPE_NONE, -1);
     gst_event_set_seqnum(before, number);
     if (gst_pad_push_event(dec->sink, before)) return TRUE;
@@ -428,7 +434,7 @@ static void reset(DsdarcDec *dec) {
     dsdarc_player_drop(dec->scout), dec->scout = NULL;
     g_byte_array_set_size(dec->front, 0);
     gst_segment_init(&dec->segment, GST_FORMAT_TIME);
-    dec->told = dec->dropping = dec->stopped = dec->expects_end = FALSE;
+    dec->told = dec->dropping = dec->stopped = dec->expects_end = dec->keeps = FALSE;
     dec->frame = dec->last = dec->place = 0;
     dec->mask = 0;
     dec->seek_number = GST_SEQNUM_INVALID;

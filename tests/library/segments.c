@@ -28,7 +28,7 @@ static gint rate_of(GstElement *dec) {
 static int goes(GstElement *pipeline, GstBus *bus, GstSeekFlags flags, gint64 start, gint64 stop) {
     GstMessageType wanted = flags & GST_SEEK_FLAG_SEGMENT ? GST_MESSAGE_SEGMENT_DONE : GST_MESSAGE_EOS;
     GstEvent *event = gst_event_new_seek(1.0, GST_FORMAT_TIME, flags | GST_SEEK_FLAG_ACCURATE, GST_SEEK_TYPE_SET, start,
-                                         stop < 0 ? GST_SEEK_TYPE_NONE : GST_SEEK_TYPE_SET, stop);
+                                         GST_SEEK_TYPE_SET, stop);
     GstMessage *message;
     GstFormat format;
     gint64 place;

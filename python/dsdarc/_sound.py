@@ -170,33 +170,42 @@ class Sound(NotCopied):
     def _read(self, out: Numbers, dtype: object) -> int:
         """Fills an array from the current position on, as far as there are frames: how many."""
         player, turn = self._begun()
+        try:
+            return self._read_on(player, turn, out, dtype)
+        except BaseException:
+            self._stale = True  # also if a handler of a signal called the same sound amid this call
+            raise
+
+    def _read_on(self, player: Player, turn: object, out: Numbers, dtype: object) -> int:
         at, done = self._at, 0
         while done < len(out):
             piece = out[done : done + PIECE]
-            count = self._convert(player, turn, piece, dtype)
+            count = self._convert(player, piece, dtype)
             done += count
             if count < len(piece):
                 break
         owed = self._owed
-        if owed is None and (done < len(out) or at + done == self.frames):
+        if owed is None and not self._ended and (done < len(out) or at + done == self.frames):
+            self._demand(turn)
             owed = self._ends(player)
         # Frames come before the fault; and all that were asked for, before what keeps the end from being read.
-        if owed is not None and (done == 0 or (done < len(out) and not isinstance(owed, Fault))):
+        if owed is not None:
             self._owed = None
-            raise owed
-        self._owed = None if owed is None else owed.with_traceback(None)
+            if done == 0 or (done < len(out) and not isinstance(owed, Fault)):
+                raise owed
+            self._owed = owed.with_traceback(None)
         self._done(turn, at + done)
         return done
 
-    def _convert(self, player: Player, turn: object, out: Numbers, dtype: object) -> int:
+    def _convert(self, player: Player, out: Numbers, dtype: object) -> int:
         """Fills a piece of an array with frames as its numbers: how many."""
         if out.dtype == numpy.int32:
-            count = self._fill(player, turn, out)
+            count = self._fill(player, out)
             if not (isinstance(dtype, str) and dtype == "native"):
                 numpy.left_shift(out[:count], 32 - self.info.width, out=out[:count])
             return count
         numbers = numpy.empty(out.shape, numpy.int32)
-        count = self._fill(player, turn, numbers)
+        count = self._fill(player, numbers)
         if out.dtype == numpy.int16:
             out[:count] = numbers[:count]
         else:
@@ -204,12 +213,11 @@ class Sound(NotCopied):
             numpy.multiply(numbers[:count], out.dtype.type(2.0 ** (1 - self.info.width)), out=out[:count])
         return count
 
-    def _fill(self, player: Player, turn: object, out: Numbers) -> int:
+    def _fill(self, player: Player, out: Numbers) -> int:
         """Fills an array with the player's numbers, as far as it gives some: how many. A fault is owed then."""
         done, place, step = 0, out.ctypes.data, out.strides[0]
         while done < len(out):
             count = player.pull(place + done * step, len(out) - done, self.name)
-            self._demand(turn)
             done += count
             try:
                 if count == 0 and not self._push(player):
@@ -217,13 +225,10 @@ class Sound(NotCopied):
             except Fault as fault:
                 self._owed = fault
                 break
-        self._demand(turn)
         return done
 
     def _ends(self, player: Player) -> Exception | None:
         """Reads the file to where it ends now, and asks whether it holds a recording: what says that it doesn't."""
-        if self._ended:
-            return None
         try:
             stop = self._opened().size()
             while self._push(player, stop):
@@ -282,8 +287,12 @@ class Sound(NotCopied):
             if not 0 <= number <= self.frames:
                 raise ValueError(f"there is no frame {number}: there are {self.frames}")
             player, turn = self._begun()
-            self._place(player, number)
-            self._done(turn, number)
+            try:
+                self._place(player, number)
+                self._done(turn, number)
+            except BaseException:
+                self._stale = True
+                raise
         return number
 
     def tell(self) -> int:

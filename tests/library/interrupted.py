@@ -184,6 +184,43 @@ def at_any_time(name, filter, whole, count):
     demand(wrong == 0, f"Python: {wrong} of {tried} interrupted reads were followed by other frames")
 
 
+def within(name, filter, whole, count):
+    """Handlers of signals that read the same sound amid a read, which is refused then, or goes on; and those that raise
+    after that."""
+    import dsdarc
+
+    chance, wrong, refused = random.Random(6), [], 0
+
+    def reads(*_):
+        sound.seek(chance.randrange(len(whole)))
+        wrong.extend([] if is_next(sound, whole) else ["in a handler"])
+        if chance.random() < 0.3:
+            raise Stop
+
+    before = signal.signal(signal.SIGALRM, reads)
+    sound = dsdarc.open(name, filter)
+    try:
+        for _ in range(count):
+            sound.seek(chance.randrange(len(whole)))
+            signal.setitimer(signal.ITIMER_REAL, chance.uniform(1e-5, 2e-3))
+            at = sound.tell()
+            try:
+                read = sound.read(2000, "native")
+                signal.setitimer(signal.ITIMER_REAL, 0)
+                starts = [it for it in (at, sound.tell() - len(read)) if (read == whole[it : it + len(read)]).all()]
+                wrong.extend([] if starts else ["amid a handler"])
+            except (RuntimeError, Stop):
+                signal.setitimer(signal.ITIMER_REAL, 0)
+                refused += 1
+            wrong.extend([] if is_next(sound, whole) else ["after a handler"])
+    finally:
+        signal.setitimer(signal.ITIMER_REAL, 0)
+        signal.signal(signal.SIGALRM, before)
+    sound.close()
+    demand(refused > 0, "Python: no handler came amid a read")
+    demand(not wrong, f"Python: a sound that a handler of a signal reads: other frames {wrong[:3]}")
+
+
 def shared(name, filter, whole):
     """Sounds that share a file object, one after the other and side by side, and who else moves it."""
     import dsdarc
@@ -390,6 +427,7 @@ def try_interrupted(folder, cut, interrupts):
             grows(name, filter, whole)
             comes_first(room, cut, name, filter, whole)
         at_any_time(dsf, filter, whole, interrupts)
+        within(dff, filter, whole, interrupts // 4)
         shared(dsf, filter, whole)
         forked(dff, filter, whole)
         copies(dff, filter)

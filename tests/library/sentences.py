@@ -14,7 +14,7 @@ def three_channels(folder):
     """Files with a channel of ones, one of zeros and one of both in turn."""
     dff, dsf = (os.path.join(folder, f"three.{it}") for it in ("dff", "dsf"))
     with open(dff, "wb") as file:
-        file.write(dsdiff(2822400, 3, bytes([0xFF, 0x00, 0x55]) * 120_001, more=b"MORE" + bytes(11) + b"\4" + bytes(4)))
+        file.write(dsdiff(2822400, 3, bytes([0xFF, 0x00, 0x55]) * 120_001, more=b"MORE" + bytes(7) + b"\4" + bytes(4)))
     demand(run(PROGRAM, "convert", "dsf", dff, dsf)[0] == 0, "no DSF file")
     return dff, dsf
 

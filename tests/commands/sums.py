@@ -2,6 +2,7 @@
 It is taken here by Python of the bytes of which the files are made."""
 import hashlib
 import itertools
+import os
 
 from asking import Case, Step
 from shapes import CHANNELS, FORMS, SIZES, file_of, sounds
@@ -17,6 +18,16 @@ CHECK = ["sum", "--check", "list"]
 # Names that are printed otherwise than they are, as on one line.
 NAMES = {"a b": "a b", " two  blanks ": " two  blanks ", "\\": "\\\\", "a\nb": "a\\nb", "a\r": "a\\r", "ä~é": "ä~é"}
 
+# Names that aren't UTF-8, and how they are printed: a byte that isn't is `\x` and two digits.
+NO_TEXTS = {
+    b"caf\xe9": "caf\\xe9",
+    b"\xff\xfe": "\\xff\\xfe",
+    b"\\\xff\n\r ": "\\\\\\xff\\n\\r ",
+    "ä".encode() + b"\xc3": "ä\\xc3",
+    b"\xed\xa0\x80\xc0\xaf": "\\xed\\xa0\\x80\\xc0\\xaf",
+}
+NOT_UTF_8 = ": a name has to be UTF-8: give the file another name, or a link to it"
+
 # Lines that `sum` never prints.
 NO_LINES = (
     "",
@@ -25,6 +36,11 @@ NO_LINES = (
     f"{ONE}  ",
     f"{ONE}  a\\b",
     f"{ONE}  a\\",
+    f"{ONE}  a\\x",
+    f"{ONE}  a\\xf",
+    f"{ONE}  a\\xfg",
+    f"{ONE}  a\\xf\\\\",
+    f"{ONE}  a\\xFF",
     f"{ONE.upper()}  in",
     "  in",
     # Lines of other programs, and sums of no channel, of seven, and of a channel cut short.
@@ -122,8 +138,33 @@ def several():
     for line in NO_LINES:
         text = f"{ONE}  in\n{line}\n{ONE}  in\n"
         yield Case({"in": FILE, "list": text.encode()}, [faulty(CHECK, "ListRefused line 2  list", "in: OK\nin: OK\n")])
-    for text in (b"", b"\xff\n"):
+    for text in (b"", b"\0\xff\n", f"{ONE}  in\n\0\n".encode()):
         yield Case({"in": FILE, "list": text}, [faulty(CHECK, "ListRefused  list")])
+
+
+def untexted():
+    """A name that isn't UTF-8 is one fault, and all others are summed or judged; as a word, in a list, and of a list."""
+    for bytes_of, shown in NO_TEXTS.items():
+        name = os.fsdecode(bytes_of)
+        files = {"a": FILE, name: FILE, "b": LEAST}
+        before, fault = f"{ONE}  a\n{ONE}  b\n", f"ReadFailed  {shown}"
+        yield Case(
+            files,
+            [faulty(["sum", "a", name, "b"], fault, before), faulty(["sum", "--", name, "a", "b"], fault, before)],
+        )
+        for listed in (bytes_of.replace(b"\\", b"\\\\").replace(b"\n", b"\\n").replace(b"\r", b"\\r"), shown.encode()):
+            lines = [f"{ONE}  ".encode() + it for it in (b"a", listed, b"b")]
+            before = f"a: OK\n{shown}: FAILED\nb: OK\n"
+            yield Case(files | {"list": b"\n".join(lines)}, [faulty(CHECK, fault, before)])
+        files |= {"list": f"{ONE}  b\n{ONE}  a".encode()}
+        yield Case(files, [faulty(["sum", "--check", name, "list"], fault, "b: OK\na: OK\n")])
+    for line in (b"\xff", b"\xff  in", f"{ONE} \xff in".encode("latin-1"), f"{ONE}\xff  in".encode("latin-1")):
+        text = f"{ONE}  in\n".encode() + line + f"\r\n{ONE}  in".encode()
+        yield Case({"in": FILE, "list": text}, [faulty(CHECK, "ListRefused line 2  list", "in: OK\nin: OK\n")])
+    # Each is told of for itself.
+    names = [b"%d\xff" % number for number in range(3)]
+    faults = "".join(f"\nfault: ReadFailed  {number}\\xff" for number in range(3))
+    yield Case({"a": FILE}, [Step(["sum", *names, "a"], 2, faults[1:], before=f"{ONE}  a\n")])
 
 
 def sum_cases():
@@ -139,3 +180,4 @@ def sum_cases():
         files = {name: FILE, "list": line.encode()}
         yield Case(files, [said(["sum", name], line), said(CHECK, f"{shown}: OK")])
     yield from several()
+    yield from untexted()

@@ -3,8 +3,11 @@ It is taken here by Python of the bytes of which the files are made."""
 import hashlib
 import itertools
 import os
+import shlex
+import subprocess
+import tempfile
 
-from asking import Case, Step
+from asking import PROGRAM, ROOT, Case, Step
 from shapes import CHANNELS, FORMS, SIZES, file_of, sounds
 from small_files import CUT_OFF, FILE, LEAST, LONG, LONG_MOST, MOST, NINE, NINE_MOST, RATE, TAGGED, dsf, mono, stereo
 
@@ -181,3 +184,50 @@ def sum_cases():
         yield Case(files, [said(["sum", name], line), said(CHECK, f"{shown}: OK")])
     yield from several()
     yield from untexted()
+
+
+# An archive, of which two names aren't UTF-8, and how these are printed.
+BELOW = {"./a.dff": FILE, "./by/a\nb.dsf": LEAST, "./by/z.DSF": MOST}
+BELOW_NOT = {"./by/caf\udce9.dff": "./by/caf\\xe9.dff", "./\udcff.dsf": "./\\xff.dsf"}
+# What the recipes of docs/ARCHIVES.md come to there: the status of xargs, or that of the program.
+FAULTS = "".join(f"fault: ReadFailed  {it}\n" for it in BELOW_NOT.values())
+JUDGED = "".join(f"{it}: OK\n".replace("a\nb", "a\\nb") for it in BELOW)
+RECIPES = {"xargs -0 dsdarc sum --": (123, "", FAULTS), "dsdarc sum --check": (0, JUDGED, "")}
+# The program as `dsdarc`, by itself and by the launcher.
+LAUNCHERS = ('exec {program} "$@"', '. {root}/bin/launch.sh\nrun_child {program} "$@"')
+
+
+def cooked(folder, launcher):
+    """Runs the recipes in an archive below a folder, and answers those that come to something else."""
+    os.makedirs(f"{folder}/archive/by")
+    for name, data in (BELOW | dict.fromkeys(BELOW_NOT, FILE)).items():
+        with open(os.path.join(folder, "archive", name), "wb") as file:
+            file.write(data)
+    with open(f"{folder}/dsdarc", "w", encoding="utf-8") as file:
+        file.write("#!/bin/sh\n" + launcher.format(program=shlex.quote(PROGRAM), root=shlex.quote(ROOT)))
+    os.chmod(f"{folder}/dsdarc", 0o755)
+    with open(os.path.join(ROOT, "docs", "ARCHIVES.md"), encoding="utf-8") as file:
+        lines = [it.strip() for it in file if it.startswith("    ")]
+    env = os.environ | {"PATH": f"{folder}:{os.environ['PATH']}", "LC_ALL": "C"}
+    for part, must in RECIPES.items():
+        (line,) = (it for it in lines if part in it)
+        ran = subprocess.run(["sh", "-c", line], capture_output=True, cwd=f"{folder}/archive", env=env, check=False)
+        told = (ran.returncode, ran.stdout.decode(), ran.stderr.decode())
+        if told != must:
+            yield f"{line}: {told}, not {must}"
+
+
+def recipe():
+    """The recipe sums each file of an archive whose name is UTF-8, and judges these: 0, or 1 where something was found."""
+    found = []
+    for launcher in LAUNCHERS:
+        with tempfile.TemporaryDirectory() as folder:
+            found += cooked(folder, launcher)
+    for it in found:
+        print(f"  FOUND: {it}")
+    print(
+        f"the recipe for sums of an archive: {len(found)} found"
+        if found
+        else "the recipe for sums of an archive: tried"
+    )
+    return 1 if found else 0

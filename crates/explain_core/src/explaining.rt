@@ -3,18 +3,19 @@
 use crate::cuts::explain_cut;
 use crate::files::{explain_error, text_of};
 use crate::line::{Line, Part};
+use crate::played::explain_played;
 use crate::playing::{
     explain_large_part, explain_parts, explain_play, explain_span, explain_table,
 };
 use crate::projects::explain_project;
-use crate::seen::{explain_file, is_recording};
+use crate::seen::{explain_file, is_certificate, is_recording};
 use crate::splices::cutting_of;
 use crate::tasks::{input_of, output_of, project_of};
 use crate::unread::{explain_unread, explain_unwritten};
 use crate::verdicts::explain_verdict;
 use crate::words::{explain_form, explain_no_text, explain_words};
 use cut_core::CutFault;
-use folder_core::Failure;
+use folder_core::{FRONT, Failure};
 use form_core::ReadFault;
 use judge_core::Reason;
 use project_core::ProjectFault;
@@ -45,6 +46,8 @@ pub enum Ended {
     UnknownFormName,
     /// A master was rejected for this reason.
     Rejected(Reason),
+    /// A file was played: the first bytes of its WAVE file, and how many there are.
+    Played([u8; FRONT], u64),
     /// A line of a list of sums is none of sums, the first being 1, or for 0 the list has no line or is no text.
     ListRefused(usize),
 }
@@ -92,13 +95,21 @@ fn explain_task<R: Files + Env + AllocGlobal>(line: &mut Line, rt: &R, task: Tas
         Ended::ReadFailed => explain_unread(line, rt, task),
         Ended::WriteFailed(Some(failure)) => explain_output(line, rt, task, &failure),
         Ended::Rejected(reason) => explain_rejected(line, rt, task, reason),
+        Ended::Played(front, bytes) => explain_played(line, rt, task, &front, bytes),
         _ => {}
     }
 }
 
 fn explain_part<R: Files>(line: &mut Line, rt: &R, task: Task, fault: SpanFault) {
-    if let Task::PlayPart { project, input, .. } = task {
-        explain_span(line, rt, (project, input), fault);
+    if let Task::PlayPart {
+        project,
+        input,
+        from,
+        to,
+        ..
+    } = task
+    {
+        explain_span(line, rt, (project, input), (from, to), fault);
     }
 }
 
@@ -177,11 +188,13 @@ fn explain_in_project<R: Files>(line: &mut Line, rt: &R, project: &str, fault: F
     }
 }
 
-// Adds why a project text is refused. A recording in its place is named as such.
+// Adds why a project text is refused. A recording or a certificate in its place is named as such.
 fn explain_text<R: Files>(line: &mut Line, rt: &R, project: &str, fault: ProjectFault) {
     line.say_one("{0}: ", Part::Named(project, "PROJECT"));
     if is_recording(rt, project) {
         line.push(RECORDING);
+    } else if is_certificate(rt, project) {
+        line.push("it is a certificate; PROJECT comes first");
     } else if let Some(source) = text_of(rt, line.alloc(), project) {
         explain_project(line, &source, fault);
     }

@@ -20,6 +20,7 @@ mod keys;
 mod line;
 mod near;
 mod places;
+mod played;
 mod playing;
 mod projects;
 mod seen;

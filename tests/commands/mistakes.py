@@ -501,13 +501,13 @@ ODD_WORDS = (
         ["info", "-"],
         2,
         "FileUnread UnknownForm",
-        "the standard stream (FILE): a pipe cannot be looked at again: write it to a file first",
+        "the standard stream (FILE): it is empty",
     ),
     (
         ["convert", "dsf", "-", "out"],
         2,
         "FileUnread UnknownForm",
-        "the standard stream (IN): a pipe cannot be looked at again: write it to a file first",
+        "the standard stream (IN): it is empty",
     ),
 )
 
@@ -627,7 +627,12 @@ UNPLAYED = (
     (FOUR, "--to @5", "PartOutside", f"what --to names {LASTS}"),
     (FOUR, "--from 100", "PartOutside", f"what --from names {LASTS}"),
     (FOUR, "--from 0.000000001 --to 0.00002", "PartOutside", f"what --to names {LASTS}"),
-    (mono(bytes(4), chunk(b"DIIN", chunk(b"MARK", mark_data(b"", samples=64)))), "--to #0", "PartOutside", f"a mark of the part {LASTS}"),
+    (
+        mono(bytes(4), chunk(b"DIIN", chunk(b"MARK", mark_data(b"", samples=64)))),
+        "--to #0",
+        "PartOutside",
+        f"a mark of the part {LASTS}",
+    ),
     (FOUR, "--from @3 --to @2", "PartReversed", "what --to names is before what --from names"),
 )
 

@@ -14,11 +14,13 @@ const FLAG: &str = "--explain";
 // The room for it, and for one byte more.
 const ROOM: usize = 10;
 
-/// What the disk remembers of a command: why a file could not be made, and how the file begins that was kept last.
+/// What the disk remembers of a command: why a file could not be made, how the file begins that was kept last, and how
+/// many bytes the file gave that was opened last.
 #[derive(Clone, Copy)]
 pub(crate) struct Remembered {
     pub(crate) failure: Option<Failure>,
     pub(crate) front: Option<[u8; FRONT]>,
+    pub(crate) given: u64,
 }
 
 /// An outcome that was printed.
@@ -68,6 +70,7 @@ fn ended_of(shown: &Shown, remembered: Remembered, has_words: bool) -> Option<En
             Some(Ended::WriteFailed(remembered.failure))
         }
         (Outcome::Fault(Fault::Stream(StreamFault::ReadFailed)), _) => Some(Ended::ReadFailed),
+        (Outcome::Fault(fault), _) if remembered.given == 0 => Some(Ended::Nothing(*fault)),
         (Outcome::Fault(fault), _) => Some(Ended::Fault(*fault)),
         (Outcome::Played(count), _) => Some(Ended::Played(remembered.front?, *count)),
         (Outcome::NoPart(fault), _) => Some(Ended::NoPart(*fault)),

@@ -15,6 +15,7 @@ use crate::sums::{Watch, run_sums};
 use archive_core::Fault;
 use folder_core::{Disk, FRONT, Folder, WatchedFolder};
 use std::alloc::Global;
+use std::cell::Cell;
 use std::io;
 use std::io::Input;
 use std::os::fd::AsFd;
@@ -124,6 +125,7 @@ fn not_done(outcome: Outcome) -> Ran
         remembered: Remembered {
             failure: None,
             front: None,
+            given: 0,
         },
     }
 }
@@ -149,7 +151,8 @@ where
     R::File: AsFd,
     ensures { ComesToOnDisk result.outcome }
 {
-    let mut folder = WatchedFolder::new(rt, Disk::new(rt, process), is_watched);
+    let count = Cell::new(0);
+    let mut folder = WatchedFolder::new(rt, Disk::new(rt, process), is_watched, &count);
     let outcome = run(rt.alloc(), words, &mut folder);
     let disk = folder.into_inner();
     let answers = match (disk.has_used_output(), disk.is_error_output()) {
@@ -160,6 +163,7 @@ where
     let remembered = Remembered {
         failure: disk.failure(),
         front: front_of(&answers, disk.front()),
+        given: count.get(),
     };
     let outcome = memory_or(outcome, disk.has_wanted_memory());
     Ran {

@@ -30,6 +30,8 @@ use words_core::{Explanation, Task, task_of};
 pub enum Ended {
     /// The call was refused.
     Fault(Fault),
+    /// The call was refused, and the file gave no byte that was opened last.
+    Nothing(Fault),
     /// The part that is to be played isn't there.
     NoPart(SpanFault),
     /// A file could not be opened or read.
@@ -91,6 +93,7 @@ fn explain_ended<R: Files + Env + AllocGlobal>(
 fn explain_task<R: Files + Env + AllocGlobal>(line: &mut Line, rt: &R, task: Task, ended: Ended) {
     match ended {
         Ended::Fault(fault) => explain_fault(line, rt, task, fault),
+        Ended::Nothing(fault) => explain_nothing(line, rt, task, fault),
         Ended::NoPart(fault) => explain_part(line, rt, task, fault),
         Ended::ReadFailed => explain_unread(line, rt, task),
         Ended::WriteFailed(Some(failure)) => explain_output(line, rt, task, &failure),
@@ -127,6 +130,17 @@ fn explain_rejected<R: Files>(line: &mut Line, rt: &R, task: Task, reason: Reaso
     } = task
     {
         explain_verdict(line, rt, [project, master, cert], reason);
+    }
+}
+
+// Adds that the input is empty, which can't be looked at again where it is a pipe.
+fn explain_nothing<R: Files>(line: &mut Line, rt: &R, task: Task, fault: Fault) {
+    match (fault, input_of(task)) {
+        (
+            Fault::FileUnread(ReadFault::UnknownForm) | Fault::Stream(StreamFault::FileRefused),
+            Some((name, word)),
+        ) => line.say_one("{0}: it is empty", Part::Named(name, word)),
+        _ => explain_fault(line, rt, task, fault),
     }
 }
 

@@ -75,27 +75,31 @@ pub(crate) fn explain_played<R: Files>(
 fn explain_filter<R: Files>(line: &mut Line, rt: &R, project: &str, rate: u64) {
     let alloc = line.alloc();
     let (folder, name) = project.rsplit_once('/').unwrap_or((".", project));
-    let (Some(factor), Ok(path)) = (
-        factor_of(rt, alloc, project),
-        format!(in alloc; "{folder}/{INDEX}"),
-    ) else {
-        return;
-    };
-    let Some(index) = text_of(rt, alloc, path.as_str()) else {
-        return;
-    };
-    let (Ok(index), rate) = (std::str::from_utf8(&index), rate.saturating_mul(factor)) else {
-        return;
-    };
-    if let (Some(rates), Ok(had)) = (rates_in(index, name), format!(in alloc; "{rate}")) {
-        if !rates.split(',').any(|it| it == had.as_str()) {
-            line.say("; the filter {0} is for ", &[Part::Text(name)]);
-            for (number, rate) in rates.split(',').enumerate() {
-                line.say_one(if number > 0 { " or {0}" } else { "{0}" }, Part::Text(rate));
+    if let Ok(path) = format!(in alloc; "{folder}/{INDEX}") {
+        if let Some(index) = text_of(rt, alloc, path.as_str()) {
+            let index = std::str::from_utf8(&index).unwrap_or("");
+            if let Some(rates) = rates_in(index, name) {
+                if let Some(factor) = factor_of(rt, alloc, project) {
+                    explain_rates(line, name, rates, rate.saturating_mul(factor));
+                }
             }
-            line.say_one(OTHER, Part::Number(rate));
         }
     }
+}
+
+// Adds for which rates a filter is, unless this one is among them.
+fn explain_rates(line: &mut Line, name: &str, rates: &str, rate: u64) {
+    for each in rates.split(',') {
+        match each.parse::<u64>() {
+            Ok(known) if known == rate => return,
+            _ => {}
+        }
+    }
+    line.say_one("; the filter {0} is for ", Part::Text(name));
+    for (number, each) in rates.split(',').enumerate() {
+        line.say_one(if number > 0 { " or {0}" } else { "{0}" }, Part::Text(each));
+    }
+    line.say_one(OTHER, Part::Number(rate));
 }
 
 // The rates that the line of a name lists, with commas between them.

@@ -5,13 +5,14 @@ follows. What needs more than small files is in tests/try_explained."""
 import struct
 
 from asking import CHECK, EDIT, Case, Step
-from dsdiffs import chunk, dsdiff
+from dsdiffs import chunk, dsdiff, mark_data
 from small_files import (
     CERT,
     DECIMATE,
     FILE,
     FREE,
     LEAST,
+    MARKED,
     MASTER,
     NINE,
     RATE,
@@ -60,7 +61,13 @@ FILES = (
     (
         changed(FILE, 96, ord("T")),
         "Dsdiff Compressed",
-        'its sound is compressed ("DST "): unpack it with another tool first',
+        "its sound is compressed by DST, as on many SACDs: unpack it to DSDIFF or DSF with another tool first, as "
+        "sacd_extract -c does with a disc's image",
+    ),
+    (
+        changed(FILE, 96, ord("X")),
+        "Dsdiff Compressed",
+        'its sound is compressed ("DXD "): unpack it with another tool first',
     ),
     (TWICE, "Dsdiff Twice 46532020", 'it has the chunk "FS  " twice'),
     (
@@ -174,8 +181,16 @@ start = 2
 stop = 9
 """
 
+# What a text without its quotation marks is told beside the reader's message.
+QUOTES = '; a text is in quotation marks, as in takes = ["one.dff", "two.dff"]'
+
 # What stands in it in place of what, and why.
 SLIPS = (
+    (b'["a.dff", "b.dff"]', b"[a.dff, b.dff]", "NotToml", f"line 3: TOML{QUOTES}"),
+    (b'["a.dff", "b.dff"]', b'["a.dff, "b.dff"]', "NotToml", f"line 3: TOML{QUOTES}"),
+    (b'["a.dff", "b.dff"]', b'[\n  "a.dff",\n  b.dff,\n]', "NotToml", f"line 5: TOML{QUOTES}"),
+    (b"bridge = 1", b"bridge = 1\ntitle = one", "NotToml", f"line 10: TOML{QUOTES}"),
+    (b"bridge = 1", b'title = "one"\nbridge = one', "NotToml", "line 10: TOML"),
     (
         b"weights",
         b"weigths",
@@ -281,7 +296,23 @@ OTHERS = (
         "WriteFailed",
         "none/out (OUT): No such file or directory; there is no folder none",
     ),
-    (TO_PLAY, "convert dsf in.dff .", "WriteFailed", ". (OUT): Is a directory"),
+    (TO_PLAY, "convert dsf in.dff .", "WriteFailed", ". (OUT): Is a directory; name a file in it"),
+    (TO_PLAY, "play p.toml in.dff .", "WriteFailed", ". (OUT): Is a directory; name a file in it"),
+    (TO_PLAY, "play p.toml in.dff /dev/full", "WriteFailed", "/dev/full (OUT): No space left on device"),
+    (
+        TO_PLAY,
+        "play --from @0 p.toml in.dff /dev/full",
+        "WriteFailed",
+        "/dev/full (OUT): No space left on device",
+    ),
+    (
+        TO_PLAY,
+        "play --from #0 p.toml - out",
+        "ReadFailed",
+        "the standard stream (IN) is read once, and marks come after the sound: name times or frames, or write it to a "
+        "file first",
+    ),
+    (TO_PLAY, "play --to #0 nope.toml - out", "ReadFailed", "nope.toml (PROJECT): No such file or directory"),
     (TO_PLAY, "convert dsf in.dff /dev/full", "WriteFailed", "/dev/full (OUT): No space left on device"),
     (
         {"p.toml": DECIMATE, "in.dsf": NINE},
@@ -301,8 +332,21 @@ OTHERS = (
         EDIT,
         "TakeMismatch 1",
         "e.toml (PROJECT): a.dff (take 0) has 1 channel at 2,822,400 Hz, and b.dff (take 1) has 1 channel at "
-        "5,644,800 Hz: "
-        "all takes have to be alike",
+        "5,644,800 Hz: their rates differ, and all takes have to have the same",
+    ),
+    (
+        to_cut(TEXT, second=stereo(bytes(4))),
+        EDIT,
+        "TakeMismatch 1",
+        "e.toml (PROJECT): a.dff (take 0) has 1 channel at 2,822,400 Hz, and b.dff (take 1) has 2 channels at "
+        "2,822,400 Hz: their channels differ, and all takes have to have as many",
+    ),
+    (
+        to_cut(TEXT, second=dsdiff(2 * RATE, 2, bytes(4))),
+        EDIT,
+        "TakeMismatch 1",
+        "e.toml (PROJECT): a.dff (take 0) has 1 channel at 2,822,400 Hz, and b.dff (take 1) has 2 channels at "
+        "5,644,800 Hz: their rates and channels differ, and all takes have to have the same",
     ),
     (
         to_cut(TEXT, second=b"fLaC".ljust(16, b"\0")),
@@ -412,6 +456,7 @@ ALL_COMMANDS = "the commands are info, convert, play, edit, check, sum; dsdarc -
 
 PLAY_USAGE = "; usage: dsdarc play [--from T] [--to T] PROJECT IN OUT"
 SUM_USAGE = "; usage: dsdarc sum [--check] FILE.."
+FROM_0_TO_59 = "; after a colon come minutes or seconds from 0 to 59"
 A_PLACE = "takes a time (90, 1:30 or 1:02:03.5), a frame (@123456) or a mark of a DSDIFF file (#3)"
 
 # Words that are no command, and why.
@@ -443,7 +488,10 @@ WORDS = (
     ("play -from=1 p.toml in.dff out", "-from=1 is no option of play; did you mean --from?"),
     ("play --start 1 p.toml in.dff out", f"--start begins with -; as a name it is written ./--start{PLAY_USAGE}"),
     ("play --from 5x p.toml in.dff out", f'"5x" is no place: --from {A_PLACE}{PLAY_USAGE}'),
-    ("play p.toml in.dff out --to=1:60", f'"1:60" is no place: --to {A_PLACE}{PLAY_USAGE}'),
+    ("play p.toml in.dff out --to=1:60", f'"1:60" is no place: --to {A_PLACE}{FROM_0_TO_59}{PLAY_USAGE}'),
+    ("play --from 1:75 p.toml in.dff out", f'"1:75" is no place: --from {A_PLACE}{FROM_0_TO_59}{PLAY_USAGE}'),
+    ("play --to 3,5 p.toml in.dff out", f'"3,5" is no place: --to {A_PLACE}; did you mean 3.5?{PLAY_USAGE}'),
+    ("play --to 1:03,5 p.toml in.dff out", f'"1:03,5" is no place: --to {A_PLACE}; did you mean 1:03.5?{PLAY_USAGE}'),
     ("play --from -5 p.toml in.dff out", f'"-5" is no place: --from {A_PLACE}{PLAY_USAGE}'),
     ("play --from= p.toml in.dff out", f'"" is no place: --from {A_PLACE}{PLAY_USAGE}'),
     (["play", "--to", "", "p.toml", "in.dff", "out"], f'"" is no place: --to {A_PLACE}{PLAY_USAGE}'),
@@ -475,13 +523,13 @@ ODD_WORDS = (
         ["info", "-"],
         2,
         "FileUnread UnknownForm",
-        "the standard stream (FILE): a pipe cannot be looked at again: write it to a file first",
+        "the standard stream (FILE): it is empty",
     ),
     (
         ["convert", "dsf", "-", "out"],
         2,
         "FileUnread UnknownForm",
-        "the standard stream (IN): a pipe cannot be looked at again: write it to a file first",
+        "the standard stream (IN): it is empty",
     ),
 )
 
@@ -564,6 +612,78 @@ REJECTED = (
 )
 
 
+# Words of a command in the wrong places, what it comes to, and why.
+EXCHANGED = (
+    (
+        "check e.toml c.cert m.dff",
+        1,
+        "rejected MasterUnread",
+        "c.cert (MASTER): it is a certificate; MASTER comes before CERT",
+    ),
+    ("check e.toml m.dff m.dff", 1, "rejected CertHead Head", "m.dff (CERT): it is a recording; CERT comes last"),
+    (
+        "check c.cert e.toml m.dff",
+        2,
+        "fault: Project NotToml",
+        "c.cert (PROJECT): it is a certificate; PROJECT comes first",
+    ),
+    (
+        "check m.dff e.toml c.cert",
+        2,
+        "fault: Project NotToml",
+        "m.dff (PROJECT): it is a recording; PROJECT comes before the recordings",
+    ),
+)
+
+# What is played of a byte, and parts of four: the frames, and what is said where they are all, where there are none, and
+# where there are marks or not.
+ONE_FRAME = "352800 Hz, 16 bits, 1 channel, 0:00:00.000"
+FOUR = mono(bytes(4))
+TWO_MARKS = mono(bytes(4), chunk(b"DIIN", chunk(b"MARK", bytes(22)) + chunk(b"EMID", b"m") + chunk(b"MARK", bytes(22))))
+LASTS = "is after the end of in (IN), which lasts 0:00:00.000 (4 frames at 352,800 Hz)"
+UNPLAYED = (
+    (FOUR, "--from #0", "NoMark", "in (IN) has no marks: name a time or a frame"),
+    (LEAST, "--from #0", "NoMark", "in (IN) has no marks: name a time or a frame"),
+    (MARKED, "--to #1", "NoMark", "in (IN) has one mark, #0"),
+    (TWO_MARKS, "--from #1 --to #2", "NoMark", "in (IN) has 2 marks, #0 to #1, which dsdarc info prints"),
+    (FOUR, "--to @5", "PartOutside", f"what --to names {LASTS}"),
+    (FOUR, "--from 100", "PartOutside", f"what --from names {LASTS}"),
+    (FOUR, "--from 0.000000001 --to 0.00002", "PartOutside", f"what --to names {LASTS}"),
+    (
+        mono(bytes(4), chunk(b"DIIN", chunk(b"MARK", mark_data(b"", samples=64)))),
+        "--to #0",
+        "PartOutside",
+        f"a mark of the part {LASTS}",
+    ),
+    (FOUR, "--from @3 --to @2", "PartReversed", "what --to names is before what --from names"),
+)
+
+# Commands that play a byte, and what is said of what they wrote; among their files a list of filters.
+INDEX = b"# NAME RATES\n# p.toml 1\nother.toml 5644800 8 16 0\n"
+IS_FOR = "; the filter p.toml is for 5644800{0} Hz, and the file has 2822400 Hz: filters/pick finds the right one"
+IS_WAVE = (
+    " is a WAVE file, whatever its name: play writes no other, but a pipe from OUT - to another program makes them"
+)
+PLAYED = (
+    ({}, "play p.toml in.dff out", ONE_FRAME),
+    ({}, "play p.toml in.dff out.wav", ONE_FRAME),
+    ({}, "play p.toml in.dff out.flac", f"{ONE_FRAME}; out.flac (OUT){IS_WAVE}"),
+    ({}, "play p.toml in.dff out.DSF", f"{ONE_FRAME}; out.DSF (OUT){IS_WAVE}"),
+    ({"index.txt": INDEX}, "play p.toml in.dff out", ONE_FRAME),
+    ({"index.txt": INDEX + b"p.toml 2822400 8 16 0\n"}, "play p.toml in.dff out", ONE_FRAME),
+    ({"index.txt": INDEX + b"p.toml 5644800,2822400 8 16 0\n"}, "play p.toml in.dff out", ONE_FRAME),
+    ({"index.txt": INDEX + b"p.toml 5644800 8 16 0\n"}, "play p.toml in.dff out", ONE_FRAME + IS_FOR.format("")),
+    (
+        {"index.txt": INDEX + b"p.toml 5644800,11289600 8 16 0"},
+        "play --from @0 ./p.toml in.dff out.mp3",
+        f"{ONE_FRAME}{IS_FOR.format(' or 11289600')}; out.mp3 (OUT){IS_WAVE}",
+    ),
+    ({"index.txt": b"p.toml"}, "play p.toml in.dff out", ONE_FRAME),
+    ({"index.txt": b"\xff p.toml 5644800"}, "play p.toml in.dff out", ONE_FRAME),
+)
+EMPTY = "352800 Hz, 16 bits, 1 channel, 0:00:00.000; "
+
+
 def asked(files, words, status, line, why, made=None, before=""):
     """A command line with `--explain` and without."""
     words = words.split() if isinstance(words, str) else list(words)
@@ -593,13 +713,11 @@ def refusals():
     why = "in (IN) has 2,822,400 Hz, which the factor 1024 of p.toml does not divide: "
     why += "filters/pick prints the filter that fits a file"
     yield {"in": FILE, "p.toml": UNDIVIDED}, "play p.toml in out", 2, "RateNotDivided", why, {"out": b""}
-    files = {"in": mono(bytes(4)), "p.toml": DECIMATE}
-    why = "in (IN): dsdarc info prints the marks of a DSDIFF file, from mark 0 on; a DSF file has none"
-    yield files, "play --from #0 p.toml in out", 2, "NoMark", why, None
-    why = "in (IN) plays 4 frames of 352,800 Hz, and the part is not within them"
-    yield files, "play --to @5 p.toml in out", 2, "PartOutside", why, None
-    why = "what --to names is before what --from names"
-    yield files, "play --from @3 --to @2 p.toml in out", 2, "PartReversed", why, None
+    for data, words, line, why in UNPLAYED:
+        yield {"in": data, "p.toml": DECIMATE}, f"play {words} p.toml in out", 2, line, why, None
+    why = ". (IN): it is a folder; workflows/play_all plays the files of a folder"
+    yield TO_PLAY, "play p.toml . out", 2, "ReadFailed", why, {"out": b""}
+    yield TO_PLAY, "play --from #1 p.toml . out", 2, "ReadFailed", why, None
     why = "none/c (CERT): No such file or directory; there is no folder none"
     yield to_cut(TEXT), "edit dsdiff e.toml m.dff none/c", 2, "WriteFailed", why, {"m.dff": MASTER}
     for words, why in WORDS:
@@ -624,7 +742,17 @@ def explained_cases():
         yield from asked(to_check(master, cert, to_cut(project)), CHECK, 1, f"rejected {line}", why)
     for files, words, line, why, before in SUMS:
         yield from asked(files, words, 2, f"fault: {line}", why, None, before)
-    yield from asked(TO_PLAY, "play p.toml in.dff out", 0, "played 46 bytes", "", {"out": WAVE})
+    for words, status, line, why in EXCHANGED:
+        yield from asked(to_check(MASTER, CERT), words, status, line, why)
+    for more, words, why in PLAYED:
+        yield from asked(TO_PLAY | more, words, 0, "played 46 bytes", why, {words.split()[-1]: WAVE})
+    none = WAVE[:4] + b"\x24" + WAVE[5:40] + bytes(4)
+    for data, words, why in (
+        (FOUR, "--from @2 --to @2 ", "the part is empty: it begins where it ends"),
+        (mono(b""), "", "in (IN) has no sound"),
+    ):
+        files, words = {"in": data, "p.toml": DECIMATE}, f"play {words}p.toml in out"
+        yield from asked(files, words, 0, "played 44 bytes", EMPTY + why, {"out": none})
     # The word that asks to explain stands once, before the command.
     why = f'"--explain" is no command: {ALL_COMMANDS}'
     yield Case({"in.dff": FILE}, [Step(["--explain", "--explain", "info", "in.dff"], 3, "fault: WrongWords", {}, why)])

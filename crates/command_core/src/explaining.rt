@@ -1,8 +1,10 @@
 //! Explains an outcome in a line of its own, after it was printed.
 
 use crate::outcome::Outcome;
+use archive_core::Fault;
 use explain_core::{Ended, explain};
-use folder_core::Failure;
+use folder_core::{FRONT, Failure};
+use sound_core::StreamFault;
 use std::io;
 use std::rt::{Env, Files};
 
@@ -11,6 +13,15 @@ const FLAG: &str = "--explain";
 
 // The room for it, and for one byte more.
 const ROOM: usize = 10;
+
+/// What the disk remembers of a command: why a file could not be made, how the file begins that was kept last, and how
+/// many bytes the file gave that was opened last.
+#[derive(Clone, Copy)]
+pub(crate) struct Remembered {
+    pub(crate) failure: Option<Failure>,
+    pub(crate) front: Option<[u8; FRONT]>,
+    pub(crate) given: u64,
+}
 
 /// An outcome that was printed.
 #[derive(Drop)]
@@ -35,9 +46,9 @@ pub(crate) fn explain_outcome<R: Files + Env + Eprint + AllocGlobal>(
     rt: &R,
     words: Option<&Vec<String>>,
     shown: &Shown,
-    failure: Option<Failure>,
+    remembered: Remembered,
 ) {
-    let Some(ended) = ended_of(shown, failure, words.is_some()) else {
+    let Some(ended) = ended_of(shown, remembered, words.is_some()) else {
         return;
     };
     let words = match words {
@@ -50,12 +61,18 @@ pub(crate) fn explain_outcome<R: Files + Env + Eprint + AllocGlobal>(
 }
 
 // What there is to explain.
-fn ended_of(shown: &Shown, failure: Option<Failure>, has_words: bool) -> Option<Ended> {
+fn ended_of(shown: &Shown, remembered: Remembered, has_words: bool) -> Option<Ended> {
     match (&shown.outcome, shown.refusal) {
         (Outcome::WriteFailed, Some(error)) => Some(Ended::Untold(error)),
-        (Outcome::WriteFailed, None) => Some(Ended::WriteFailed(failure)),
+        (Outcome::WriteFailed, None) => Some(Ended::WriteFailed(remembered.failure)),
         (Outcome::ReadFailed, _) => Some(Ended::ReadFailed),
+        (Outcome::Fault(Fault::Stream(StreamFault::WriteFailed)), _) => {
+            Some(Ended::WriteFailed(remembered.failure))
+        }
+        (Outcome::Fault(Fault::Stream(StreamFault::ReadFailed)), _) => Some(Ended::ReadFailed),
+        (Outcome::Fault(fault), _) if remembered.given == 0 => Some(Ended::Nothing(*fault)),
         (Outcome::Fault(fault), _) => Some(Ended::Fault(*fault)),
+        (Outcome::Played(count), _) => Some(Ended::Played(remembered.front?, *count)),
         (Outcome::NoPart(fault), _) => Some(Ended::NoPart(*fault)),
         (Outcome::Rejected(reason), _) => Some(Ended::Rejected(*reason)),
         (Outcome::WrongWords, _) if has_words => Some(Ended::WrongWords),

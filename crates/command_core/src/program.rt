@@ -8,14 +8,15 @@ ghost use Rattle.command_core.specs.Outcomes.{status_of};
 ghost use Rattle.command_core.specs.declared.outcome.Outcome.TheVariants as outcomes;
 ghost use Rattle.transfer_core.specs.declared.fault.Fault.TheVariants.{Memory};
 
-use crate::explaining::{Shown, asks_to_explain, explain_outcome};
+use crate::explaining::{Remembered, Shown, asks_to_explain, explain_outcome};
 use crate::outcome::{Outcome, outcome_line, status};
 use crate::performing::perform;
 use crate::spelling::spelled_words;
 use crate::sums::{Watch, run_sums};
 use archive_core::Fault;
-use folder_core::{Disk, Failure, Folder, WatchedFolder};
+use folder_core::{Disk, FRONT, Folder, WatchedFolder};
 use std::alloc::Global;
+use std::cell::Cell;
 use std::io;
 use std::io::Input;
 use std::os::fd::AsFd;
@@ -29,7 +30,8 @@ use words_core::{sum_task_of, task_of};
 /// What was done or judged goes to standard output, a fault to standard error. If standard output is a file that was
 /// written, what was done goes to standard error; if that is the same file, it isn't printed. `process` is the number
 /// of the process. If `is_watched` is set, standard error shows how far a file is read that takes more than a second.
-/// If it is set, or the first word is `--explain`, a fault and a rejection are explained by one more line there.
+/// If it is set, or the first word is `--explain`, a fault and a rejection are explained by one more line there, and for
+/// a file that was played one more line says what was written.
 pub fn run_program<R: Env + Files + Clock + Input + Print + Eprint + AllocGlobal>(
     rt: &R,
     process: u32,
@@ -68,17 +70,17 @@ fn end<R: Files + Env + Print + Eprint + AllocGlobal>(
 {
     let shown = tell(rt, ran.outcome, ran.answers);
     if is_explained {
-        explain_outcome(rt, words, &shown, ran.failure);
+        explain_outcome(rt, words, &shown, ran.remembered);
     }
     ExitCode::from(status(&shown.outcome))
 }
 
-// What came of the words, where it is told, and why a file could not be made.
+// What came of the words, where it is told, and what the disk remembers.
 #[derive(Drop)]
 struct Ran {
     outcome: Outcome,
     answers: Answers,
-    failure: Option<Failure>,
+    remembered: Remembered,
 }
 
 // What came of the words: an outcome that is to be printed, or the status of `sum`, which prints its lines itself.
@@ -149,7 +151,11 @@ fn not_done(outcome: Outcome) -> Ran
     Ran {
         outcome,
         answers: Answers::ToOutput,
-        failure: None,
+        remembered: Remembered {
+            failure: None,
+            front: None,
+            given: 0,
+        },
     }
 }
 
@@ -174,7 +180,8 @@ where
     R::File: AsFd,
     ensures { ComesToOnDisk result.outcome }
 {
-    let mut folder = WatchedFolder::new(rt, Disk::new(rt, process), is_watched);
+    let count = Cell::new(0);
+    let mut folder = WatchedFolder::new(rt, Disk::new(rt, process), is_watched, &count);
     let outcome = run(rt.alloc(), words, &mut folder);
     let disk = folder.into_inner();
     let answers = match (disk.has_used_output(), disk.is_error_output()) {
@@ -182,12 +189,24 @@ where
         (true, true) if !is_watched => Answers::Nowhere,
         (true, _) => Answers::ToError,
     };
-    let failure = disk.failure();
+    let remembered = Remembered {
+        failure: disk.failure(),
+        front: front_of(&answers, disk.front()),
+        given: count.get(),
+    };
     let outcome = memory_or(outcome, disk.has_wanted_memory());
     Ran {
         outcome,
         answers,
-        failure,
+        remembered,
+    }
+}
+
+// How a file begins of which something may be said: nothing is where the line of what was done goes nowhere.
+fn front_of(answers: &Answers, front: Option<[u8; FRONT]>) -> Option<[u8; FRONT]> {
+    match answers {
+        Answers::Nowhere => None,
+        _ => front,
     }
 }
 

@@ -14,6 +14,7 @@ use archive_core::Fault;
 use explain_core::{Ended, Summed, explain, explain_sum};
 use folder_core::{Disk, WatchedFolder, read_file};
 use std::alloc::Global;
+use std::cell::Cell;
 use std::io::{Error, Input};
 use std::os::fd::AsFd;
 use std::rt::{Clock, Env, Files};
@@ -96,7 +97,8 @@ where
     R::File: AsFd,
     ensures { IfOk result (λ line. ShowsSums name.now unknown_view unknown_view line.items) }
 {
-    let mut folder = WatchedFolder::new(rt, Disk::new(rt, watch.process), watch.is_watched);
+    let count = Cell::new(0);
+    let mut folder = WatchedFolder::new(rt, Disk::new(rt, watch.process), watch.is_watched, &count);
     let came = sum_line(rt.alloc(), &mut folder, name);
     if folder.into_inner().has_wanted_memory() {
         return Err(Fault::Memory.into());
@@ -245,7 +247,8 @@ where
     R::File: AsFd,
     ensures { IfOk result (JudgesLine name.now line.now unknown_view unknown_view) }
 {
-    let mut folder = WatchedFolder::new(rt, Disk::new(rt, watch.process), watch.is_watched);
+    let count = Cell::new(0);
+    let mut folder = WatchedFolder::new(rt, Disk::new(rt, watch.process), watch.is_watched, &count);
     let came = is_as_listed(rt.alloc(), &mut folder, name, line.as_bytes());
     if folder.into_inner().has_wanted_memory() {
         return Err(Fault::Memory.into());

@@ -14,12 +14,7 @@ pub(crate) fn explain_cut<R: Files>(line: &mut Line, rt: &R, cutting: &Cutting, 
             line.push(": ");
             explain_file(line, rt, cutting.take(number), why);
         }
-        CutFault::TakeMismatch(number) => {
-            explain_take(line, rt, cutting, 0);
-            line.push(", and ");
-            explain_take(line, rt, cutting, number);
-            line.push(": all takes have to be alike");
-        }
+        CutFault::TakeMismatch(number) => explain_unlike(line, rt, cutting, number),
         CutFault::CueOutside(number) => explain_outside(line, rt, cutting, number),
         CutFault::MasterTooLong => line.say_one(LONG, Part::Count(cutting.bits())),
         CutFault::NotWholeBytes => explain_parts(line, cutting.bits()),
@@ -29,13 +24,29 @@ pub(crate) fn explain_cut<R: Files>(line: &mut Line, rt: &R, cutting: &Cutting, 
     }
 }
 
-// Adds a take and its sound.
-fn explain_take<R: Files>(line: &mut Line, rt: &R, cutting: &Cutting, number: usize) {
+// Adds in what a take and the first one differ.
+fn explain_unlike<R: Files>(line: &mut Line, rt: &R, cutting: &Cutting, number: usize) {
+    let shapes = (
+        shape_of(rt, cutting.take(0)),
+        shape_of(rt, cutting.take(number)),
+    );
+    let (Some(first), Some(other)) = shapes else {
+        return;
+    };
+    cutting.say_take(line, 0);
+    line.push(" has ");
+    say_shape(line, first);
+    line.push(", and ");
     cutting.say_take(line, number);
-    if let Some(shape) = shape_of(rt, cutting.take(number)) {
-        line.push(" has ");
-        say_shape(line, shape);
-    }
+    line.push(" has ");
+    say_shape(line, other);
+    line.push(
+        match (first.rate == other.rate, first.channels == other.channels) {
+            (true, _) => ": their channels differ, and all takes have to have as many",
+            (_, true) => ": their rates differ, and all takes have to have the same",
+            _ => ": their rates and channels differ, and all takes have to have the same",
+        },
+    );
 }
 
 fn explain_outside<R: Files>(line: &mut Line, rt: &R, cutting: &Cutting, number: usize) {

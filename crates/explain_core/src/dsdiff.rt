@@ -10,8 +10,8 @@ use std::io::{Read, Seek};
 // The most chunks that are looked at.
 const MOST_CHUNKS: usize = 10_000;
 
-/// What a DSDIFF file says of itself: its length, the size of its form, the ID of its first chunk, its version, and its
-/// chunks and fields, with the first chunk that is cut. None is what is missing.
+/// What a DSDIFF file says of itself: its length, the size of its form, the ID of its first chunk, its version, its
+/// chunks and fields, with the first chunk that is cut, and how many marks it has. None is what is missing.
 #[derive(Clone, Copy)]
 pub(crate) struct Dsdiff {
     length: u64,
@@ -25,6 +25,7 @@ pub(crate) struct Dsdiff {
     sound: Option<Chunk>,
     compressed: Option<Chunk>,
     cut: Option<Cut>,
+    pub(crate) marks: u64,
 }
 
 // A chunk that isn't whole: its head, if that is there, its place, and where what holds it ends.
@@ -49,6 +50,7 @@ pub(crate) fn look_at<F: Read + Seek + Drop>(look: &mut Look<F>) -> Dsdiff {
         sound: None,
         compressed: None,
         cut: None,
+        marks: 0,
     };
     seen.keep_chunks(look);
     seen
@@ -66,6 +68,21 @@ fn place_of(chunk: Option<Chunk>) -> u64 {
         Some(chunk) => chunk.place,
         None => 0,
     }
+}
+
+// How many marks a list of chunks has.
+fn marks_in<F: Read + Seek + Drop>(look: &mut Look<F>, list: Chunk) -> u64 {
+    let (mut place, mut marks) = (list.data(), 0u64);
+    for _ in 0..MOST_CHUNKS {
+        match look.chunk_at(place, Order::Big) {
+            Some(chunk) if place < list.end() => {
+                marks = marks.saturating_add(u64::from(chunk.id == *b"MARK"));
+                place = chunk.end().saturating_add(chunk.size % 2);
+            }
+            _ => break,
+        }
+    }
+    marks
 }
 
 // Whether the first bytes of a property are those of what the sound is.
@@ -121,6 +138,8 @@ impl Dsdiff {
                 let data = look.bytes_at(chunk.data());
                 if form.is_some() {
                     self.keep_field(chunk.id, data);
+                } else if chunk.id == *b"DIIN" {
+                    self.marks = self.marks.saturating_add(marks_in(look, chunk));
                 } else if self.keep(chunk, data) {
                     form = Some(list);
                     list = (chunk.data().saturating_add(4), chunk.end());
@@ -265,11 +284,12 @@ impl Dsdiff {
             | DsdiffFault::NoRate
             | DsdiffFault::NoChannels
             | DsdiffFault::NoCompression => MISSING,
+            DsdiffFault::Compressed if self.id(fault) == *b"DST " => DST,
             DsdiffFault::Compressed => COMPRESSED,
             DsdiffFault::BadRate => RATE,
             DsdiffFault::BadChannelNumber => CHANNELS,
             DsdiffFault::BadMark => MARK,
-            DsdiffFault::NoSound if self.compressed.is_some() => COMPRESSED,
+            DsdiffFault::NoSound if self.compressed.is_some() => DST,
             DsdiffFault::NoSound => "it has no chunk \"DSD \": fetch it again",
             DsdiffFault::SoundBeforeProperty => BEFORE,
             DsdiffFault::PartFrame => PART,
@@ -346,6 +366,10 @@ impl Dsdiff {
 }
 
 const COMPRESSED: &str = "its sound is compressed ({6}): unpack it with another tool first";
+
+const DST: &str =
+    "its sound is compressed by DST, as on many SACDs: unpack it to DSDIFF or DSF with another tool \
+                   first, as sacd_extract -c does with a disc's image";
 
 const MARK: &str = "a mark (MARK) is shorter than its fields or the text that it names";
 

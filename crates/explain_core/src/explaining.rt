@@ -3,11 +3,12 @@
 use crate::cuts::explain_cut;
 use crate::files::{explain_error, text_of};
 use crate::line::{Line, Part};
+use crate::played::explain_played;
 use crate::playing::{
     explain_large_part, explain_parts, explain_play, explain_span, explain_table,
 };
 use crate::projects::explain_project;
-use crate::seen::{explain_file, is_recording};
+use crate::seen::{explain_file, is_certificate, is_recording};
 use crate::splices::cutting_of;
 use crate::taken::explain_taken;
 use crate::tasks::{input_of, output_of, project_of};
@@ -15,7 +16,7 @@ use crate::unread::{explain_unread, explain_unwritten};
 use crate::verdicts::explain_verdict;
 use crate::words::{explain_form, explain_no_text, explain_words};
 use cut_core::CutFault;
-use folder_core::Failure;
+use folder_core::{FRONT, Failure};
 use form_core::ReadFault;
 use judge_core::Reason;
 use project_core::ProjectFault;
@@ -30,6 +31,8 @@ use words_core::{Explanation, Task, task_of};
 pub enum Ended {
     /// The call was refused.
     Fault(Fault),
+    /// The call was refused, and the file gave no byte that was opened last.
+    Nothing(Fault),
     /// The part that is to be played isn't there.
     NoPart(SpanFault),
     /// A file could not be opened or read.
@@ -46,6 +49,8 @@ pub enum Ended {
     UnknownFormName,
     /// A master was rejected for this reason.
     Rejected(Reason),
+    /// A file was played: the first bytes of its WAVE file, and how many there are.
+    Played([u8; FRONT], u64),
     /// A line of a list of sums is none of sums, the first being 1, or for 0 the list has no line or is no text.
     ListRefused(usize),
 }
@@ -89,17 +94,26 @@ fn explain_ended<R: Files + Env + AllocGlobal>(
 fn explain_task<R: Files + Env + AllocGlobal>(line: &mut Line, rt: &R, task: Task, ended: Ended) {
     match ended {
         Ended::Fault(fault) => explain_fault(line, rt, task, fault),
+        Ended::Nothing(fault) => explain_nothing(line, rt, task, fault),
         Ended::NoPart(fault) => explain_part(line, rt, task, fault),
         Ended::ReadFailed => explain_unread(line, rt, task),
         Ended::WriteFailed(Some(failure)) => explain_output(line, rt, task, &failure),
         Ended::Rejected(reason) => explain_rejected(line, rt, task, reason),
+        Ended::Played(front, bytes) => explain_played(line, rt, task, &front, bytes),
         _ => {}
     }
 }
 
 fn explain_part<R: Files>(line: &mut Line, rt: &R, task: Task, fault: SpanFault) {
-    if let Task::PlayPart { project, input, .. } = task {
-        explain_span(line, rt, (project, input), fault);
+    if let Task::PlayPart {
+        project,
+        input,
+        from,
+        to,
+        ..
+    } = task
+    {
+        explain_span(line, rt, (project, input), (from, to), fault);
     }
 }
 
@@ -119,6 +133,17 @@ fn explain_rejected<R: Files>(line: &mut Line, rt: &R, task: Task, reason: Reaso
     } = task
     {
         explain_verdict(line, rt, [project, master, cert], reason);
+    }
+}
+
+// Adds that the input is empty, which can't be looked at again where it is a pipe.
+fn explain_nothing<R: Files>(line: &mut Line, rt: &R, task: Task, fault: Fault) {
+    match (fault, input_of(task)) {
+        (
+            Fault::FileUnread(ReadFault::UnknownForm) | Fault::Stream(StreamFault::FileRefused),
+            Some((name, word)),
+        ) => line.say_one("{0}: it is empty", Part::Named(name, word)),
+        _ => explain_fault(line, rt, task, fault),
     }
 }
 
@@ -180,11 +205,13 @@ fn explain_in_project<R: Files>(line: &mut Line, rt: &R, project: &str, fault: F
     }
 }
 
-// Adds why a project text is refused. A recording in its place is named as such.
+// Adds why a project text is refused. A recording or a certificate in its place is named as such.
 fn explain_text<R: Files>(line: &mut Line, rt: &R, project: &str, fault: ProjectFault) {
     line.say_one("{0}: ", Part::Named(project, "PROJECT"));
     if is_recording(rt, project) {
         line.push(RECORDING);
+    } else if is_certificate(rt, project) {
+        line.push("it is a certificate; PROJECT comes first");
     } else if let Some(source) = text_of(rt, line.alloc(), project) {
         explain_project(line, &source, fault);
     }

@@ -30,6 +30,8 @@ pub(crate) enum Part<'a> {
     Several(u64, &'static str),
     /// A number of bytes, in the unit in which it has two digits or more.
     Bytes(u64),
+    /// How long so many frames last, of which the second number make a second, as `h:mm:ss.mmm`.
+    Time(u64, u64),
     /// The ID of a chunk, or what should be one: in quotation marks, or in hexadecimal digits if a byte is no letter.
     Id([u8; 4]),
 }
@@ -103,6 +105,7 @@ impl Line {
             Some(Part::Count(number)) => self.count(number),
             Some(Part::Several(number, name)) => self.several(number, name),
             Some(Part::Bytes(number)) => self.bytes(number),
+            Some(Part::Time(frames, rate)) => self.time(frames, rate),
             Some(Part::Id(id)) => self.id(id),
             None => {}
         }
@@ -205,6 +208,18 @@ impl Line {
             self.count(number / 1_000_000);
             self.push(" MB");
         }
+    }
+
+    // Whole milliseconds, so that there is sound at the time that is named.
+    fn time(&mut self, frames: u64, rate: u64) {
+        let rate = rate.max(1);
+        let (seconds, milliseconds) = (frames / rate, (frames % rate).saturating_mul(1000) / rate);
+        let (hours, minutes, seconds) = (seconds / 3600, seconds / 60 % 60, seconds % 60);
+        let done = write!(
+            self.text,
+            "{hours}:{minutes:02}:{seconds:02}.{milliseconds:03}"
+        );
+        self.keep(done);
     }
 
     fn id(&mut self, id: [u8; 4]) {

@@ -2,13 +2,17 @@
 
 use crate::files::text_of;
 use crate::line::{Line, Part};
-use crate::seen::{Shape, explain_seen, shape_of};
+use crate::seen::{Shape, explain_seen, marks_of, shape_of};
 use project_core::{Project, read};
 use sound_core::StreamFault;
 use std::alloc::Global;
 use std::fs;
 use std::rt::Files;
 use transfer_core::SpanFault;
+use words_core::Place;
+
+// The nanoseconds of a second.
+const SECOND: u128 = 1_000_000_000;
 
 // What the names of ready filters say before `-to-`, for each rate that they are made for.
 const HEADERS: [(u64, &str); 6] = [
@@ -19,6 +23,9 @@ const HEADERS: [(u64, &str); 6] = [
     (3_072_000, "dsd3072"),
     (6_144_000, "dsd6144"),
 ];
+
+/// The places at which a part begins and ends, as far as they are named.
+pub(crate) type Ends = (Option<Place>, Option<Place>);
 
 /// The project and the input of a command that plays.
 pub(crate) type Played<'a> = (&'a str, &'a str);
@@ -56,6 +63,14 @@ fn filter_in(project: &Project) -> (u64, u64) {
     match &project.decimate {
         Some(taps) => (u64::from(taps.factor()), u64::from(taps.width())),
         None => (0, 0),
+    }
+}
+
+/// The factor of the filter of a name.
+pub(crate) fn factor_of<R: Files>(rt: &R, alloc: Global, name: &str) -> Option<u64> {
+    match tables_of(rt, alloc, name) {
+        Some(tables) if tables.factor > 0 => Some(tables.factor),
+        _ => None,
     }
 }
 
@@ -140,20 +155,56 @@ pub(crate) fn explain_large_part(line: &mut Line, input: &str) {
     line.say_one(LARGE_PART, Part::Named(input, "IN"));
 }
 
-/// Adds how many frames a recording has of which a part isn't there, or where its marks are counted.
-pub(crate) fn explain_span<R: Files>(line: &mut Line, rt: &R, played: Played, fault: SpanFault) {
+/// Adds how long a recording is of which a part isn't there and which end of the part it is, or how many marks it has.
+pub(crate) fn explain_span<R: Files>(
+    line: &mut Line,
+    rt: &R,
+    played: Played,
+    ends: Ends,
+    fault: SpanFault,
+) {
     match fault {
-        SpanFault::NoMark => line.say_one(NO_MARK, Part::Named(played.1, "IN")),
+        SpanFault::NoMark => explain_marks(line, rt, played.1),
         SpanFault::PartReversed => line.push("what --to names is before what --from names"),
-        SpanFault::PartOutside => explain_frames(line, rt, played),
+        SpanFault::PartOutside => explain_end(line, rt, played, ends),
     }
 }
 
-fn explain_frames<R: Files>(line: &mut Line, rt: &R, played: Played) {
-    if let Some((shape, tables)) = both(rt, line.alloc(), played) {
-        let frames = Part::Count(shape.bits.div_ceil(tables.factor.max(1)));
-        let rate = Part::Count(shape.rate.checked_div(tables.factor).unwrap_or(0));
-        line.say(OUTSIDE, &[Part::Named(played.1, "IN"), frames, rate]);
+fn explain_marks<R: Files>(line: &mut Line, rt: &R, input: &str) {
+    let marks = marks_of(rt, input);
+    let template = match marks {
+        0 => "{0} has no marks: name a time or a frame",
+        1 => "{0} has one mark, #0",
+        _ => "{0} has {1} marks, #0 to #{2}, which dsdarc info prints",
+    };
+    let (marks, last) = (Part::Count(marks), Part::Number(marks.saturating_sub(1)));
+    line.say(template, &[Part::Named(input, "IN"), marks, last]);
+}
+
+fn explain_end<R: Files>(line: &mut Line, rt: &R, played: Played, ends: Ends) {
+    let Some((shape, tables)) = both(rt, line.alloc(), played) else {
+        return;
+    };
+    let frames = shape.bits.div_ceil(tables.factor.max(1));
+    let rate = shape.rate.checked_div(tables.factor).unwrap_or(0);
+    let end = match ends {
+        (Some(place), _) if is_after(place, frames, rate) => "what --from names",
+        (_, Some(place)) if is_after(place, frames, rate) => "what --to names",
+        _ => "a mark of the part",
+    };
+    let (time, count) = (Part::Time(frames, rate), Part::Several(frames, "frame"));
+    let (end, input) = (Part::Text(end), Part::Named(played.1, "IN"));
+    line.say(OUTSIDE, &[end, input, time, count, Part::Count(rate)]);
+}
+
+// Whether a place is after the end of so many frames. Of a mark this isn't known.
+fn is_after(place: Place, frames: u64, rate: u64) -> bool {
+    match place {
+        Place::Time(nanoseconds) => {
+            u128::from(nanoseconds).saturating_mul(u128::from(rate)) / SECOND > u128::from(frames)
+        }
+        Place::Frame(number) => number > frames,
+        Place::Mark(_) => false,
     }
 }
 
@@ -196,9 +247,6 @@ const LARGE: &str =
 const LARGE_PART: &str =
     "the part of {0} would make a WAVE file of more than 4,294 MB: name shorter parts";
 
-const NO_MARK: &str =
-    "{0}: dsdarc info prints the marks of a DSDIFF file, from mark 0 on; a DSF file has none";
-
-const OUTSIDE: &str = "{0} plays {1} frames of {2} Hz, and the part is not within them";
+const OUTSIDE: &str = "{0} is after the end of {1}, which lasts {2} ({3} at {4} Hz)";
 
 const WHOLE: &str = "{0} has {1} bits per channel, {2} more than whole bytes: ";

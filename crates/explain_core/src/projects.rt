@@ -38,7 +38,20 @@ fn explain_error(line: &mut Line, source: &[u8], error: &toml::de::Error) {
             "line {0}: {1}",
             &[Part::Number(number), Part::Text(error.message())],
         );
+        if is_in_texts(source, span.start) {
+            line.push("; a text is in quotation marks, as in takes = [\"one.dff\", \"two.dff\"]");
+        }
     }
+}
+
+// Whether the value in which a byte stands is one of texts, by the last key before it.
+fn is_in_texts(source: &[u8], place: usize) -> bool {
+    let before = source.get(..place).unwrap_or(&[]);
+    let text = std::str::from_utf8(before).unwrap_or("");
+    let (front, value) = text.rsplit_once('=').unwrap_or(("", ""));
+    let key = front.trim_end();
+    let is_line = key.ends_with("title") || key.ends_with("target");
+    (key.ends_with("takes") && !value.contains(']')) || (is_line && !value.contains('\n'))
 }
 
 /// Adds in which line something stands, if that is known.

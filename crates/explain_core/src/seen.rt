@@ -19,6 +19,9 @@ pub(crate) const RATE: &str = "its rate is {3} Hz, and 1,000,000 to 50,000,000 H
 
 pub(crate) const LONG: &str = "it has {4} bits per channel, and 68,719,476,736 are the most";
 
+// Where the table of contents of an SACD begins, in an image by sectors of 2,048 or of 2,064 bytes, and how.
+const SACD: ([u64; 2], [u8; 8]) = ([1_044_480, 1_052_652], *b"SACDMTOC");
+
 // How many bytes of the beginning are looked at, and at least make a DSDIFF file.
 const FRONT: usize = 16;
 
@@ -56,6 +59,8 @@ enum Seen {
     Dsf(Dsf),
     // It begins otherwise: its first bytes, how many of them there are, and how many bytes it has.
     Other([u8; FRONT], usize, u64),
+    // It is the image of an SACD.
+    Sacd,
     // It can't be looked at.
     Unseen(Trouble),
 }
@@ -83,8 +88,28 @@ fn see_as<F: Read + Seek + Drop>(look: &mut Look<F>, front: [u8; FRONT], count: 
         Seen::Dsf(dsf::look_at(look))
     } else if id == *b"FRM8" && form == *b"DSD " {
         Seen::Dsdiff(dsdiff::look_at(look))
+    } else if is_sacd(look) {
+        Seen::Sacd
     } else {
         Seen::Other(front, count, look.length)
+    }
+}
+
+fn is_sacd<F: Read + Seek + Drop>(look: &mut Look<F>) -> bool {
+    let (places, wanted) = SACD;
+    for place in places {
+        if look.bytes_at(place) == Some(wanted) {
+            return true;
+        }
+    }
+    false
+}
+
+/// How many marks the file of a name has. A DSF file has none.
+pub(crate) fn marks_of<R: Files>(rt: &R, name: &str) -> u64 {
+    match see(rt, name) {
+        Seen::Dsdiff(look) => look.marks,
+        _ => 0,
     }
 }
 
@@ -95,6 +120,14 @@ pub(crate) fn shape_of<R: Files>(rt: &R, name: &str) -> Option<Shape> {
         Seen::Dsf(look) => look.shape(),
         _ => None,
     }
+}
+
+/// Whether the file of a name begins as a certificate.
+pub(crate) fn is_certificate<R: Files>(rt: &R, name: &str) -> bool {
+    matches!(
+        see(rt, name),
+        Seen::Other([b'D', b'S', b'P', b'C', ..], _, _)
+    )
 }
 
 /// Whether the file of a name begins as a recording.
@@ -129,6 +162,7 @@ pub(crate) fn explain_file<R: Files>(line: &mut Line, rt: &R, name: &str, fault:
         (ReadFault::UnknownForm, Seen::Other(front, count, length)) => {
             explain_front(line, &front, count, length)
         }
+        (ReadFault::UnknownForm, Seen::Sacd) => line.push(IS_SACD),
         (ReadFault::Dsdiff(fault), Seen::Dsdiff(look)) => look.explain(line, fault),
         (ReadFault::Dsf(fault), Seen::Dsf(look)) => look.explain(line, fault),
         // It was changed since.
@@ -152,6 +186,9 @@ pub(crate) fn explain_seen<R: Files>(line: &mut Line, rt: &R, name: &str, otherw
     };
     explain_file(line, rt, name, fault);
 }
+
+const IS_SACD: &str =
+    "it is the image of an SACD: write its tracks as DSDIFF or DSF files first, as sacd_extract does";
 
 // Adds what a file is that is neither a DSDIFF nor a DSF file, by its first bytes.
 fn explain_front(line: &mut Line, front: &[u8; FRONT], count: usize, length: u64) {

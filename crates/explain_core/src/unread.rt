@@ -8,7 +8,7 @@ use folder_core::Step;
 use std::io::{Error, ErrorKind};
 use std::rt::{Env, Files};
 use std::{env, fs};
-use words_core::Task;
+use words_core::{Place, Task};
 
 /// Adds which file of a command can't be opened or read, the first in the order in which they are opened.
 pub(crate) fn explain_unread<R: Files + Env + AllocGlobal>(line: &mut Line, rt: &R, task: Task) {
@@ -18,8 +18,9 @@ pub(crate) fn explain_unread<R: Files + Env + AllocGlobal>(line: &mut Line, rt: 
             explain_takes(line, rt, project);
         }
     }
-    if let Some(file) = input_of(task) {
+    if let (Some(file), true) = (input_of(task), line.is_empty()) {
         explain_named(line, rt, file);
+        explain_input(line, rt, task, file);
     }
     if let Task::Check { .. } = task {
         for step in [Step::First, Step::Second] {
@@ -42,6 +43,27 @@ fn explain_named<R: Files>(line: &mut Line, rt: &R, file: File) {
         explain_at(line, rt, file.0, trouble);
     }
 }
+
+// Adds what of an input can't be played: all of a folder, or marks of what is read once.
+fn explain_input<R: Files>(line: &mut Line, rt: &R, task: Task, file: File) {
+    match (task, reopen(rt, file.0)) {
+        (Task::Play { .. } | Task::PlayPart { .. }, Err(Trouble::Folder)) => line.push(ALL),
+        (Task::PlayPart { from, to, .. }, Err(Trouble::Stream)) if is_mark(from) || is_mark(to) => {
+            line.say_one(MARKS, Part::Named(file.0, file.1))
+        }
+        _ => {}
+    }
+}
+
+fn is_mark(place: Option<Place>) -> bool {
+    matches!(place, Some(Place::Mark(_)))
+}
+
+const ALL: &str = "; workflows/play_all plays the files of a folder";
+
+const MARKS: &str =
+    "{0} is read once, and marks come after the sound: name times or frames, or write it to a file \
+                     first";
 
 fn explain_takes<R: Files + Env + AllocGlobal>(line: &mut Line, rt: &R, project: &str) {
     if let Some(cutting) = cutting_of(rt, line.alloc(), project) {
@@ -117,6 +139,9 @@ pub(crate) fn explain_unwritten<R: Files>(line: &mut Line, rt: &R, file: File, e
     line.say_one("{0}: ", Part::Named(file.0, file.1));
     explain_error(line, error);
     explain_parent(line, rt, file.0, error);
+    if error.kind() == ErrorKind::IsADirectory {
+        line.push("; name a file in it");
+    }
 }
 
 // Adds that the folder of a name is missing, if this is why.

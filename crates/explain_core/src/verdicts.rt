@@ -2,7 +2,7 @@
 
 use crate::files::reopen;
 use crate::line::{Line, Part};
-use crate::seen::{explain_seen, shape_of};
+use crate::seen::{explain_seen, is_certificate, is_recording, shape_of};
 use crate::splices::{Cutting, cutting_of, say_shape};
 use cert_core::CertReason;
 use chunk_core::{Order, id_at, u16_at, u32_at};
@@ -38,6 +38,9 @@ fn explain_reason<R: Files>(
 
 fn explain_master<R: Files>(line: &mut Line, rt: &R, master: &str) {
     line.say_one("{0}: ", Part::Named(master, "MASTER"));
+    if is_certificate(rt, master) {
+        return line.push("it is a certificate; MASTER comes before CERT");
+    }
     explain_seen(line, rt, master, "info says why");
 }
 
@@ -88,6 +91,7 @@ fn explain_head<R: Files>(line: &mut Line, rt: &R, cutting: &Cutting, cert: &str
     line.say_one("{0}: ", Part::Named(cert, "CERT"));
     match cert_head(rt, cert) {
         Some(head) if id_at(&head, 0) == *b"DSPC" => explain_fields(line, rt, cutting, &head),
+        _ if is_recording(rt, cert) => line.push("it is a recording; CERT comes last"),
         Some(head) => line.say_one(
             "it begins with {0}, not \"DSPC\"",
             Part::Id(id_at(&head, 0)),

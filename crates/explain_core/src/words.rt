@@ -37,9 +37,22 @@ fn explain_usage(line: &mut Line, name: &str, misfit: Misfit) {
         Misfit::NoPlace(option) => line.say_one(NO_PLACE, Part::Text(option)),
         Misfit::NotPlace(option, word) => {
             line.say(NOT_PLACE, &[Part::Text(word), Part::Text(option)]);
+            say_slip(line, word);
         }
     }
     say_usage(line, name);
+}
+
+// Adds what may be wrong with a time: a comma, or more than 59 after a colon.
+fn say_slip(line: &mut Line, word: &str) {
+    if let Some((seconds, rest)) = word.split_once(',') {
+        line.say(
+            "; did you mean {0}.{1}?",
+            &[Part::Text(seconds), Part::Text(rest)],
+        );
+    } else if word.contains(':') {
+        line.push("; after a colon come minutes or seconds from 0 to 59");
+    }
 }
 
 // Adds how many names a command takes, and how many there are.

@@ -1,5 +1,5 @@
 -- What contracts see of a file of the operating system that is being written.
-use Rattle.std.specs.Prelude.{◌≡◌, ℕ, ◌<◌, List, [], ◌∷◌, length, take, Option, Some, Result, IfOk, MatchResult}
+use Rattle.std.specs.Prelude.{◌≡◌, ℕ, ◌<◌, List, [], ◌∷◌, length, nat_lt, if◌then◌else◌, take, Option, None, Some, Result, IfOk, MatchResult}
 use Rattle.std.specs.Option.{option_or}
 use Rattle.std.specs.Io.KnownBytes.{Appends, append_known}
 use Rattle.std.specs.IoError.{error_kind}
@@ -12,6 +12,8 @@ use Rattle.folder_core.specs.declared.direct.Kept.TheVariants as kept
 use Rattle.folder_core.specs.declared.disk_file.Destination.{Destination}
 use Rattle.folder_core.specs.declared.disk_file.Destination.TheVariants.{Beside, InPlace, Output}
 use Rattle.folder_core.specs.declared.disk_file.DiskFile.{DiskFile}
+use Rattle.folder_core.specs.declared.disk_file.Front.{Front}
+use Rattle.folder_core.specs.declared.disk_file.Front.TheVariants.{Bytes, Empty, Short}
 
 -- the bytes that are held back
 abbrev pub held_bytes : Kept → List ℕ
@@ -60,3 +62,23 @@ NotesWrite got bytes old new = MatchResult got (λ count. NotesCount count bytes
 -- a flush that failed is remembered, unless a failure was before
 abbrev pub NotesFlush : {T : Type 0} → Result T Error → Option Error → Option Error → Type 0
 NotesFlush got old new = MatchResult got (λ done. new ≡ old) (λ error. new ≡ option_or old (Some error))
+
+-- what is remembered of the first write of a file that took some bytes: the first 36 of them, if it took as many
+abbrev pub front_begun : List ℕ → Front
+front_begun taken = if nat_lt 0 (length taken) then (if nat_lt (length taken) 36 then Short else Bytes (take 36 taken)) else Empty
+
+-- what is remembered after one more write took these bytes
+abbrev pub front_after : Front → List ℕ → Front
+front_after Empty taken = front_begun taken
+front_after (Bytes bytes) taken = Bytes bytes
+front_after Short taken = Short
+
+-- the first bytes of a file that is written, if they are remembered
+abbrev pub known_front : Front → Option (List ℕ)
+known_front (Bytes bytes) = Some bytes
+known_front Empty = None
+known_front Short = None
+
+-- the first bytes that were written to a file, if its first write took as many
+abbrev pub front_of : {F O : Type 0} → DiskFile F O → Option (List ℕ)
+front_of file = known_front file.front

@@ -1,13 +1,13 @@
 //! The folder of the operating system.
 
 ghost use Rattle.std.specs.Prelude.{◌≡◌, None, IfOk, IfSome, IsErr, OnErr, OnOk};
-ghost use Rattle.folder_core.specs.DiskFiles.{failure_of};
+ghost use Rattle.folder_core.specs.DiskFiles.{failure_of, front_of};
 ghost use Rattle.folder_core.specs.Disks.{MakingFailed, CreatingFailed, IsFresh, IsRefused, MayUseOutput, NotesFailure, kept_notes, notes_of, next_step, noting_write};
 ghost use Rattle.folder_core.specs.Files.{unknown_view};
 ghost use Rattle.folder_core.specs.Protecting.{protected_files};
 ghost use Rattle.folder_core.specs.declared.notes.Step.TheVariants.{Second};
 
-use crate::disk_file::DiskFile;
+use crate::disk_file::{DiskFile, FRONT};
 use crate::disk_input::DiskInput;
 use crate::folder::{Folder, FolderFault};
 use crate::notes::{Failure, Notes, Step};
@@ -41,6 +41,7 @@ pub struct Disk<'a, R: Files> {
     opened: Opened,
     held: Option<Held>,
     notes: Notes,
+    front: Option<[u8; FRONT]>,
 }
 
 // A name, and where its file goes.
@@ -64,6 +65,7 @@ impl<'a, R: Files + AllocGlobal> Disk<'a, R> {
             opened,
             held: None,
             notes,
+            front: None,
         }
     }
 }
@@ -95,6 +97,13 @@ impl<'a, R: Files> Disk<'a, R> {
         ensures { result ≡ (notes_of self.now).failure }
     {
         self.notes.failure
+    }
+
+    /// The first bytes of the file that was kept last, if its first write took as many.
+    pub fn front(&self) -> Option<[u8; FRONT]>
+        ensures { result ≡ self.now.front }
+    {
+        self.front
     }
 }
 
@@ -257,9 +266,12 @@ where
             (notes_of self.new)) }
         ensures heeded { IfSome (failure_of out.entry) (λ error. IsErr result
             × (notes_of self.new ≡ noting_write (failure_of out.entry) (notes_of self.old))) }
+        ensures front { OnOk result (self.new.front ≡ front_of out.entry) }
     {
+        let front = out.front();
         match out.put_in_place(self.rt) {
             Ok(()) => {
+                self.front = front;
                 self.opened.add_kept(self.rt, name);
                 self.notes.has_kept = true;
                 Ok(())

@@ -1,12 +1,12 @@
 //! A file of the operating system that is being written.
 
-ghost use Rattle.std.specs.Prelude.{◌≡◌, None, Some, false, Err, IfSome, OnOk};
+ghost use Rattle.std.specs.Prelude.{◌≡◌, None, Some, false, Err, IfOk, IfSome, OnOk, take};
 ghost use Rattle.std.specs.Io.KnownBytes.{Keeps};
 ghost use Rattle.std.specs.Io.{WritesAtMost};
 ghost use Rattle.std.specs.Option.{option_or};
 ghost use Rattle.std.specs.IoError.{error_kind};
 ghost use Rattle.std.specs.declared.io.ErrorKind.TheVariants.{WriteZero};
-ghost use Rattle.folder_core.specs.DiskFiles.{NotesCount, NotesFlush, NotesWrite, TakesBytes, destination_contents, direct_contents, failure_of, file_contents};
+ghost use Rattle.folder_core.specs.DiskFiles.{NotesCount, NotesFlush, NotesWrite, TakesBytes, destination_contents, direct_contents, failure_of, file_contents, front_after, front_begun, front_of};
 
 use crate::direct::Direct;
 use crate::places::TargetPath;
@@ -15,12 +15,28 @@ use std::io::{Error, ErrorKind, Write};
 use std::rt::Files;
 use std::{fs, io};
 
+/// How many of the first bytes of a file that is written are remembered.
+pub const FRONT: usize = 36;
+
+/// What is remembered of the first bytes of a file that is written.
+#[derive(Clone, Copy)]
+pub enum Front {
+    /// Nothing was written yet.
+    Empty,
+    /// The first write took these, and maybe more.
+    Bytes([u8; FRONT]),
+    /// It took fewer.
+    Short,
+}
+
 /// A file of a [`Disk`](crate::Disk) that is being written. It ends only with [`keep`](crate::Folder::keep) or
 /// [`give_up`](crate::Folder::give_up).
 pub struct DiskFile<F, O> {
     destination: Destination<F, O>,
     // Why the first write or flush that failed did.
     failure: Option<Error>,
+    // What the first write took.
+    front: Front,
 }
 
 // Where the bytes go.
@@ -77,6 +93,17 @@ impl<F, O> DiskFile<F, O> {
         DiskFile {
             destination,
             failure: None,
+            front: Front::Empty,
+        }
+    }
+
+    /// The first bytes that were written, if the first write took as many.
+    pub(crate) fn front(&self) -> Option<[u8; FRONT]>
+        ensures { result ≡ front_of self.now }
+    {
+        match self.front {
+            Front::Bytes(bytes) => Some(bytes),
+            _ => None,
         }
     }
 }
@@ -90,6 +117,7 @@ impl<F: Write + OpenFile + Drop, O: Write + Drop> DiskFile<F, O> {
         let DiskFile {
             destination,
             failure,
+            front: _,
         } = self;
         let ended = match destination {
             Destination::Beside(file, beside) => beside.end(rt, &file, failure),
@@ -109,6 +137,7 @@ impl<F: Write + OpenFile + Drop, O: Write + Drop> DiskFile<F, O> {
         let DiskFile {
             destination,
             failure,
+            front: _,
         } = self;
         let _ = match destination {
             Destination::Beside(file, beside) => {
@@ -123,11 +152,40 @@ impl<F: Write + OpenFile + Drop, O: Write + Drop> DiskFile<F, O> {
     }
 }
 
+impl Front {
+    // What is remembered once a write took these bytes.
+    fn after(self, taken: &[u8]) -> Front
+        ensures { result ≡ front_after self taken.now }
+    {
+        match self {
+            Front::Empty => begun_by(taken),
+            other => other,
+        }
+    }
+}
+
+// What is remembered where the first write took these bytes.
+fn begun_by(taken: &[u8]) -> Front
+    ensures { result ≡ front_begun taken.now }
+{
+    if taken.is_empty() {
+        return Front::Empty;
+    }
+    if taken.len() < FRONT {
+        return Front::Short;
+    }
+    let (first, _) = taken.split_at(FRONT);
+    let mut bytes = [0; FRONT];
+    bytes.copy_from_slice(first);
+    Front::Bytes(bytes)
+}
+
 impl<F, O> DiskFile<F, O> {
     // Remembers a write that took nothing of some bytes.
     fn remember_count(&mut self, count: usize, buf: &[u8])
         ensures notes { NotesCount count buf.now (failure_of self.old) (failure_of self.new) }
         ensures same { self.new.destination ≡ self.old.destination }
+        ensures front { self.new.front ≡ self.old.front }
     {
         if count == 0 && !buf.is_empty() {
             self.remember(untaken());
@@ -138,6 +196,7 @@ impl<F, O> DiskFile<F, O> {
     fn remember(&mut self, error: Error)
         ensures notes { failure_of self.new ≡ option_or (failure_of self.old) (Some error) }
         ensures same { self.new.destination ≡ self.old.destination }
+        ensures front { self.new.front ≡ self.old.front }
     {
         self.failure = self.failure.or(Some(error));
     }
@@ -233,10 +292,12 @@ impl<F: Write + OpenFile, O: Write> Write for DiskFile<F, O> {
         ensures taken { TakesBytes (file_contents F.contents O.contents self.old)
             (file_contents F.contents O.contents self.new) result buf.now }
         ensures notes { NotesWrite result buf.now (failure_of self.old) (failure_of self.new) }
+        ensures front { IfOk result (λ count. self.new.front ≡ front_after self.old.front (take count buf.now)) }
     {
         match self.destination.write(buf) {
             Ok(count) => {
                 self.remember_count(count, buf);
+                self.front = self.front.after(&buf[..count]);
                 Ok(count)
             }
             Err(error) => {

@@ -58,7 +58,7 @@ mod progress;
 mod watched_folder;
 
 pub use disk::Disk;
-pub use disk_file::DiskFile;
+pub use disk_file::{DiskFile, FRONT};
 pub use disk_input::DiskInput;
 pub use fault::FileFault;
 pub use files::{hand_back, read_file, read_files, read_whole, write_file};

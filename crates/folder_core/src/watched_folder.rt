@@ -5,6 +5,7 @@ ghost use Rattle.folder_core.specs.WatchedFolders.{shows, watched_file, watched_
 
 use crate::folder::{Folder, FolderFault, Work};
 use crate::progress::{ProgressLine, Stint, clear_stint, show_sizes, show_stint};
+use std::cell::Cell;
 use std::io;
 use std::io::{Eprint, Read};
 use std::rt::Clock;
@@ -18,6 +19,8 @@ use std::time::Instant;
 pub struct WatchedFolder<'a, F, R> {
     folder: F,
     rt: &'a R,
+    // Where it is counted how many bytes the file gave that was opened last.
+    count: &'a Cell<u64>,
     start: Option<Instant>,
     work: Option<Stint>,
 }
@@ -32,6 +35,7 @@ pub trait KnownLength {
 #[derive(Drop)]
 pub struct WatchedFile<'a, I, R: Clock + Eprint> {
     file: I,
+    count: &'a Cell<u64>,
     given: u64,
     length: u64,
     line: ProgressLine<'a, R>,
@@ -39,7 +43,8 @@ pub struct WatchedFile<'a, I, R: Clock + Eprint> {
 
 impl<'a, F: Folder, R: Clock> WatchedFolder<'a, F, R> {
     /// Watches this folder. `is_shown` says whether anything is shown; nothing is, either, if the time isn't known.
-    pub fn new(rt: &'a R, folder: F, is_shown: bool) -> Self
+    /// `count` gets the number of bytes that the file gave that was opened last.
+    pub fn new(rt: &'a R, folder: F, is_shown: bool, count: &'a Cell<u64>) -> Self
         ensures folder { watched_folder result ≡ folder }
         ensures quiet { is_shown ≡ false → shows result ≡ false }
     {
@@ -51,6 +56,7 @@ impl<'a, F: Folder, R: Clock> WatchedFolder<'a, F, R> {
         WatchedFolder {
             folder,
             rt,
+            count,
             start,
             work: None,
         }
@@ -63,6 +69,7 @@ impl<'a, F: Folder, R: Clock> WatchedFolder<'a, F, R> {
         let WatchedFolder {
             folder,
             rt: _,
+            count: _,
             start: _,
             work: _,
         } = self;
@@ -108,9 +115,11 @@ where
 
     fn open(&mut self, name: &str) -> Result<WatchedFile<'a, F::In, R>, FolderFault> {
         let file = self.folder.open(name)?;
+        self.count.set(0);
         Ok(WatchedFile {
             length: file.known_length().unwrap_or(0),
             file,
+            count: self.count,
             given: 0,
             line: ProgressLine::new(self.rt, self.start),
         })
@@ -124,6 +133,7 @@ where
         let got = self.folder.pass(&mut file.file, buffer);
         if let Ok(count) = got {
             file.given = file.given.saturating_add(count as u64);
+            file.count.set(file.given);
             file.line.show(file.given, file.length);
         }
         got
@@ -157,6 +167,7 @@ impl<I: Read, R: Clock + Eprint> Read for WatchedFile<'_, I, R> {
         let got = self.file.read(buffer);
         if let Ok(count) = got {
             self.given = self.given.saturating_add(count as u64);
+            self.count.set(self.given);
             self.line.show(self.given, self.length);
         }
         got

@@ -22,10 +22,10 @@
  * Ownership. A player is made by dsdarc_player_new and freed by dsdarc_player_drop. All other memory is the caller's,
  * and is read or written during the call alone. Buffers of one call must not overlap each other.
  * Threads. Each player belongs to one call at a time; different players are independent of each other.
- * Statuses. Each call that can fail returns one. DSDARC_NULL and DSDARC_SIZE say that the call itself is wrong;
- * the player stays as it was. After a fault (from DSDARC_FILE_REFUSED to DSDARC_TOO_LONG, or DSDARC_MEMORY) of a push, an end or a
- * seek, the frames that wait can be pulled, and dsdarc_player_info returns what it returned before. A push takes nothing
- * while frames wait. All other calls return DSDARC_AFTER_FAULT, also a push of no bytes.
+ * Statuses. Each call that can fail returns one. DSDARC_NULL and DSDARC_SIZE say that the call itself is wrong; the
+ * player stays as it was. After a fault (from DSDARC_FILE_REFUSED to DSDARC_TOO_LONG, or DSDARC_MEMORY) of a push, an end
+ * or a seek, the frames that wait can be pulled, and dsdarc_player_info returns what it returned before. A push takes
+ * nothing while frames wait. All other calls return DSDARC_AFTER_FAULT, also a push of no bytes.
  */
 #ifndef DSDARC_H
 #define DSDARC_H

@@ -3,10 +3,12 @@ import os
 import re
 import signal
 import subprocess
+import threading
 
 from dsdiffs import dsdiff
 from playing import PROGRAM, ROOT, compiled, demand, get, run
 
+MOST_SECONDS = 60  # what doesn't come to its end is killed then
 SURROUND = [b"MLFT", b"MRGT", b"C   ", b"LFE ", b"LS  ", b"RS  "]
 
 
@@ -21,12 +23,21 @@ def interrupted(words, **how):
     child = subprocess.Popen(
         ["gst-launch-1.0", "-e", *words], stdout=subprocess.PIPE, stderr=subprocess.STDOUT, text=True, **how
     )
+    killing = threading.Timer(MOST_SECONDS, child.kill)
+    killing.start()
     said = ""
     for line in child.stdout:
         said += line
         if "New clock" in line:
             child.send_signal(signal.SIGINT)
-    return child.wait(), said
+    status = child.wait()
+    killing.cancel()
+    return status, said
+
+
+def is_stopped(status, said):
+    """Whether a stream that the application ended came to its end without an error."""
+    return status == 0 and "ERROR" not in said and "Forcing EOS" in said and "EOS received" in said
 
 
 def ends(long, short):
@@ -35,15 +46,15 @@ def ends(long, short):
     for name in (long, long.replace(".dff", ".dsf")):
         source = ["filesrc", f"location={name}", *dec]
         status, said = interrupted([*source, "fakesink", "sync=true"])
-        is_right = status == 0 and "ERROR" not in said and "EOS received" in said
+        is_right = is_stopped(status, said)
         demand(is_right, f"dsdarcdec: stopped by the application: status {status}, {said[-400:]}")
         with open(name, "rb") as file:
             status, said = interrupted(["fdsrc", *dec, "fakesink", "sync=true"], stdin=file)
-        demand(status == 0 and "ERROR" not in said, f"dsdarcdec: stopped at a file's number: {status}, {said[-400:]}")
+        demand(is_stopped(status, said), f"dsdarcdec: stopped at a file's number: {status}, {said[-400:]}")
         with subprocess.Popen(["cat", name], stdout=subprocess.PIPE) as pipe:
             status, said = interrupted(["fdsrc", *dec, "fakesink", "sync=true"], stdin=pipe.stdout)
             pipe.stdout.close()
-        demand(status == 0 and "ERROR" not in said, f"dsdarcdec: stopped at a pipe: {status}, {said[-400:]}")
+        demand(is_stopped(status, said), f"dsdarcdec: stopped at a pipe: {status}, {said[-400:]}")
         for sink in (["fakesink", "num-buffers=3"], ["identity", "eos-after=3", "!", "fakesink"]):
             status, said = launched(*source, *sink)
             is_right = status == 0 and "ERROR" not in said

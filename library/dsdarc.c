@@ -113,7 +113,8 @@ const char *dsdarc_status_text(dsdarc_status status) {
     static const char *const texts[] = {
         "Ok",          "Null",           "Size",      "Memory",       "AfterFault", "NotYet",     "BehindEnd",
         "FileRefused", "RateNotDivided", "TooLong",   "NoDecimation", "NotToml",    "UnknownKey", "MissingKey",
-        "WrongKind",   "OutOfLimit",     "NoTake",    "ShortCue",     "LastBridge", "Processor", [21] = "NoFilter",
+        "WrongKind",   "OutOfLimit",     "NoTake",    "ShortCue",     "LastBridge", "Processor",  "TooMuchHeld",
+        "NoFilter",
     };
     const char *text = (unsigned)status < sizeof texts / sizeof *texts ? texts[status] : NULL;
     return text ? text : "Unknown";

@@ -3,6 +3,8 @@
  * The caller reads the file and pushes its bytes; the library takes them and gives frames. It opens nothing, prints
  * nothing, starts no thread and never aborts. A player holds the bytes before the sound, the frames of at most one piece
  * of 65,536 bytes of the sound, and what its filter still reads. It also keeps what a DSDIFF form has after the sound.
+ * It holds at most 256 MiB (2^28 bytes) of what comes before the sound, and as much of what it keeps after it, which is
+ * far more than real files have. A push with which it would hold more returns DSDARC_TOO_MUCH_HELD.
  *
  *     dsdarc_player *player;
  *     if (dsdarc_player_new(text, text_size, &player) != DSDARC_OK) ...
@@ -23,9 +25,10 @@
  * and is read or written during the call alone. Buffers of one call must not overlap each other.
  * Threads. Each player belongs to one call at a time; different players are independent of each other.
  * Statuses. Each call that can fail returns one. DSDARC_NULL and DSDARC_SIZE say that the call itself is wrong; the
- * player stays as it was. After a fault (from DSDARC_FILE_REFUSED to DSDARC_TOO_LONG, or DSDARC_MEMORY) of a push, an end
- * or a seek, the frames that wait can be pulled, and dsdarc_player_info returns what it returned before. A push takes
- * nothing while frames wait. All other calls return DSDARC_AFTER_FAULT, also a push of no bytes.
+ * player stays as it was. After a fault (from DSDARC_FILE_REFUSED to DSDARC_TOO_LONG, DSDARC_TOO_MUCH_HELD or
+ * DSDARC_MEMORY) of a push, an end or a seek, the frames that wait can be pulled, and dsdarc_player_info returns what it
+ * returned before. A push takes nothing while frames wait. All other calls return DSDARC_AFTER_FAULT, also a push of no
+ * bytes.
  */
 #ifndef DSDARC_H
 #define DSDARC_H
@@ -71,8 +74,9 @@ typedef enum dsdarc_status {
     DSDARC_NO_TAKE = 16,
     DSDARC_SHORT_CUE = 17,
     DSDARC_LAST_BRIDGE = 18,
-    DSDARC_PROCESSOR = 19, /* the library was built for processors that can do more than this one */
-    DSDARC_NO_FILTER = 21  /* the index lists no such filter */
+    DSDARC_PROCESSOR = 19,     /* the library was built for processors that can do more than this one */
+    DSDARC_TOO_MUCH_HELD = 20, /* more than 256 MiB come before the sound, or after it in a DSDIFF form */
+    DSDARC_NO_FILTER = 21      /* the index lists no such filter */
 } dsdarc_status;
 
 /* How samples are written. */

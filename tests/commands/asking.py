@@ -112,7 +112,7 @@ def tell(case, found):
         for each in wrong:
             print(f"  FOUND: dsdarc {step.words}: {each}", flush=True)
     if any(found):
-        over = (f"{name} {data if len(data) < 500 else len(data)}" for name, data in case.files.items())
+        over = (f"{ascii(name)} {data if len(data) < 500 else len(data)}" for name, data in case.files.items())
         print(f"  OVER: {'; '.join(over)}", flush=True)
     return sum(not wrong for wrong in found)
 

@@ -30,7 +30,7 @@ from small_files import (
     to_cut,
 )
 from sums import CHECK as JUDGE
-from sums import ONE
+from sums import NOT_UTF_8, ONE
 
 # More than two megabytes of sound, of which the end is missing.
 LONG_CUT = mono(bytes(2_153_286))[:2_000_000]
@@ -412,7 +412,29 @@ SUMS = (
     ),
     ({}, JUDGE, "ReadFailed  list", "list (LIST): No such file or directory", ""),
     ({"list": b""}, JUDGE, "ListRefused  list", "list (LIST): it has no line", ""),
-    ({"list": b"\xff\n"}, JUDGE, "ListRefused  list", "list (LIST): it is not UTF-8", ""),
+    ({"list": b"\0\n"}, JUDGE, "ListRefused  list", "list (LIST): it is no text", ""),
+    (
+        {"list": b"\xff\n"},
+        JUDGE,
+        "ListRefused line 1  list",
+        f'list (LIST): line 1 is "\\xff"; {SUM_LINE}',
+        "",
+    ),
+    (
+        {"in": FILE, "caf\udce9": FILE},
+        ["sum", "in", b"caf\xe9"],
+        "ReadFailed  caf\\xe9",
+        f"caf\\xe9 (FILE){NOT_UTF_8}",
+        f"{ONE}  in\n",
+    ),
+    ({}, ["sum", "--check", b"l\xff\n"], "ReadFailed  l\\xff\\n", f"l\\xff\\n (LIST){NOT_UTF_8}", ""),
+    (
+        {"list": f"{ONE}  caf".encode() + b"\xe9\n"},
+        JUDGE,
+        "ReadFailed  caf\\xe9",
+        f"caf\\xe9 (line 1 of list){NOT_UTF_8}",
+        "caf\\xe9: FAILED\n",
+    ),
     ({"list": FILE}, JUDGE, "ListRefused  list", "list (LIST): it is a recording; without --check it is summed", ""),
     ({"list": b"no sums\n"}, JUDGE, "ListRefused line 1  list", f'list (LIST): line 1 is "no sums"; {SUM_LINE}', ""),
     ({"list": b"s" * 100}, JUDGE, "ListRefused line 1  list", f"list (LIST): line 1 is 100 bytes long; {SUM_LINE}", ""),

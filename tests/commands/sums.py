@@ -2,8 +2,12 @@
 It is taken here by Python of the bytes of which the files are made."""
 import hashlib
 import itertools
+import os
+import shlex
+import subprocess
+import tempfile
 
-from asking import Case, Step
+from asking import PROGRAM, ROOT, Case, Step
 from shapes import CHANNELS, FORMS, SIZES, file_of, sounds
 from small_files import CUT_OFF, FILE, LEAST, LONG, LONG_MOST, MOST, NINE, NINE_MOST, RATE, TAGGED, dsf, mono, stereo
 
@@ -17,6 +21,16 @@ CHECK = ["sum", "--check", "list"]
 # Names that are printed otherwise than they are, as on one line.
 NAMES = {"a b": "a b", " two  blanks ": " two  blanks ", "\\": "\\\\", "a\nb": "a\\nb", "a\r": "a\\r", "ä~é": "ä~é"}
 
+# Names that aren't UTF-8, and how they are printed: a byte that isn't is `\x` and two digits.
+NO_TEXTS = {
+    b"caf\xe9": "caf\\xe9",
+    b"\xff\xfe": "\\xff\\xfe",
+    b"\\\xff\n\r ": "\\\\\\xff\\n\\r ",
+    "ä".encode() + b"\xc3": "ä\\xc3",
+    b"\xed\xa0\x80\xc0\xaf": "\\xed\\xa0\\x80\\xc0\\xaf",
+}
+NOT_UTF_8 = ": a name has to be UTF-8: give the file another name, or a link to it"
+
 # Lines that `sum` never prints.
 NO_LINES = (
     "",
@@ -25,6 +39,11 @@ NO_LINES = (
     f"{ONE}  ",
     f"{ONE}  a\\b",
     f"{ONE}  a\\",
+    f"{ONE}  a\\x",
+    f"{ONE}  a\\xf",
+    f"{ONE}  a\\xfg",
+    f"{ONE}  a\\xf\\\\",
+    f"{ONE}  a\\xFF",
     f"{ONE.upper()}  in",
     "  in",
     # Lines of other programs, and sums of no channel, of seven, and of a channel cut short.
@@ -122,8 +141,33 @@ def several():
     for line in NO_LINES:
         text = f"{ONE}  in\n{line}\n{ONE}  in\n"
         yield Case({"in": FILE, "list": text.encode()}, [faulty(CHECK, "ListRefused line 2  list", "in: OK\nin: OK\n")])
-    for text in (b"", b"\xff\n"):
+    for text in (b"", b"\0\xff\n", f"{ONE}  in\n\0\n".encode()):
         yield Case({"in": FILE, "list": text}, [faulty(CHECK, "ListRefused  list")])
+
+
+def untexted():
+    """A name that isn't UTF-8 is one fault, and all others are summed or judged; as a word, in a list, and of a list."""
+    for bytes_of, shown in NO_TEXTS.items():
+        name = os.fsdecode(bytes_of)
+        files = {"a": FILE, name: FILE, "b": LEAST}
+        before, fault = f"{ONE}  a\n{ONE}  b\n", f"ReadFailed  {shown}"
+        yield Case(
+            files,
+            [faulty(["sum", "a", name, "b"], fault, before), faulty(["sum", "--", name, "a", "b"], fault, before)],
+        )
+        for listed in (bytes_of.replace(b"\\", b"\\\\").replace(b"\n", b"\\n").replace(b"\r", b"\\r"), shown.encode()):
+            lines = [f"{ONE}  ".encode() + it for it in (b"a", listed, b"b")]
+            before = f"a: OK\n{shown}: FAILED\nb: OK\n"
+            yield Case(files | {"list": b"\n".join(lines)}, [faulty(CHECK, fault, before)])
+        files |= {"list": f"{ONE}  b\n{ONE}  a".encode()}
+        yield Case(files, [faulty(["sum", "--check", name, "list"], fault, "b: OK\na: OK\n")])
+    for line in (b"\xff", b"\xff  in", f"{ONE} \xff in".encode("latin-1"), f"{ONE}\xff  in".encode("latin-1")):
+        text = f"{ONE}  in\n".encode() + line + f"\r\n{ONE}  in".encode()
+        yield Case({"in": FILE, "list": text}, [faulty(CHECK, "ListRefused line 2  list", "in: OK\nin: OK\n")])
+    # Each is told of for itself.
+    names = [b"%d\xff" % number for number in range(3)]
+    faults = "".join(f"\nfault: ReadFailed  {number}\\xff" for number in range(3))
+    yield Case({"a": FILE}, [Step(["sum", *names, "a"], 2, faults[1:], before=f"{ONE}  a\n")])
 
 
 def sum_cases():
@@ -139,3 +183,51 @@ def sum_cases():
         files = {name: FILE, "list": line.encode()}
         yield Case(files, [said(["sum", name], line), said(CHECK, f"{shown}: OK")])
     yield from several()
+    yield from untexted()
+
+
+# An archive, of which two names aren't UTF-8, and how these are printed.
+BELOW = {"./a.dff": FILE, "./by/a\nb.dsf": LEAST, "./by/z.DSF": MOST}
+BELOW_NOT = {"./by/caf\udce9.dff": "./by/caf\\xe9.dff", "./\udcff.dsf": "./\\xff.dsf"}
+# What the recipes of docs/ARCHIVES.md come to there: the status of xargs, or that of the program.
+FAULTS = "".join(f"fault: ReadFailed  {it}\n" for it in BELOW_NOT.values())
+JUDGED = "".join(f"{it}: OK\n".replace("a\nb", "a\\nb") for it in BELOW)
+RECIPES = {"xargs -0 dsdarc sum --": (123, "", FAULTS), "dsdarc sum --check": (0, JUDGED, "")}
+# The program as `dsdarc`, by itself and by the launcher.
+LAUNCHERS = ('exec {program} "$@"', '. {root}/bin/launch.sh\nrun_child {program} "$@"')
+
+
+def cooked(folder, launcher):
+    """Runs the recipes in an archive below a folder, and answers those that come to something else."""
+    os.makedirs(f"{folder}/archive/by")
+    for name, data in (BELOW | dict.fromkeys(BELOW_NOT, FILE)).items():
+        with open(os.path.join(folder, "archive", name), "wb") as file:
+            file.write(data)
+    with open(f"{folder}/dsdarc", "w", encoding="utf-8") as file:
+        file.write("#!/bin/sh\n" + launcher.format(program=shlex.quote(PROGRAM), root=shlex.quote(ROOT)))
+    os.chmod(f"{folder}/dsdarc", 0o755)
+    with open(os.path.join(ROOT, "docs", "ARCHIVES.md"), encoding="utf-8") as file:
+        lines = [it.strip() for it in file if it.startswith("    ")]
+    env = os.environ | {"PATH": f"{folder}:{os.environ['PATH']}", "LC_ALL": "C"}
+    for part, must in RECIPES.items():
+        (line,) = (it for it in lines if part in it)
+        ran = subprocess.run(["sh", "-c", line], capture_output=True, cwd=f"{folder}/archive", env=env, check=False)
+        told = (ran.returncode, ran.stdout.decode(), ran.stderr.decode())
+        if told != must:
+            yield f"{line}: {told}, not {must}"
+
+
+def recipe():
+    """The recipe sums each file of an archive whose name is UTF-8, and judges these: 0, or 1 where something was found."""
+    found = []
+    for launcher in LAUNCHERS:
+        with tempfile.TemporaryDirectory() as folder:
+            found += cooked(folder, launcher)
+    for it in found:
+        print(f"  FOUND: {it}")
+    print(
+        f"the recipe for sums of an archive: {len(found)} found"
+        if found
+        else "the recipe for sums of an archive: tried"
+    )
+    return 1 if found else 0

@@ -7,7 +7,8 @@
 
    With ORDER_OPENS each opening of a file by a name in the current folder is noted too, and can be failed (open). From
    opening number ORDER_OTHER on it opens the file `changed` in its place. With ORDER_MOST each read of a file gives at
-   most so many bytes, and is noted. With ORDER_ROOM no more than so many bytes are written to files in all. */
+   most so many bytes, and is noted. With ORDER_ROOM no more than so many bytes are written to files in all. A file that
+   is renamed gets the name ORDER_ALIAS too, as on a disk that takes both names for one. */
 #define _GNU_SOURCE
 #include <dlfcn.h>
 #include <errno.h>
@@ -127,7 +128,12 @@ int rename(const char *from, const char *to)
 {
     struct stat found;
     note("rename", stat(from, &found) ? 0 : found.st_mode & 07777, from, to);
-    return is_failed("rename") ? -1 : ((int (*)(const char *, const char *))dlsym(RTLD_NEXT, "rename"))(from, to);
+    if (is_failed("rename"))
+        return -1;
+    int failed = ((int (*)(const char *, const char *))dlsym(RTLD_NEXT, "rename"))(from, to);
+    if (!failed && getenv("ORDER_ALIAS") && link(to, getenv("ORDER_ALIAS")))
+        _exit(125);
+    return failed;
 }
 
 /* Whether a file in the current folder is opened by its name to be read. */

@@ -21,9 +21,9 @@ numbers_text sums = decimal sums.rate ++ (codes " " ++ decimal sums.count)
 abbrev pub fields_text : Sums → List ℕ
 fields_text sums = numbers_text sums ++ flat_map digest_text sums.digests.items
 
--- a byte of a name: a backslash, a line feed and a carriage return are written as two
+-- a byte of a name: a backslash, a line feed, a carriage return and a NUL are written as two
 abbrev pub escape : ℕ → List ℕ
-escape byte = if byte == 92 then 92 ∷ 92 ∷ [] else (if byte == 10 then 92 ∷ 110 ∷ [] else (if byte == 13 then 92 ∷ 114 ∷ [] else byte ∷ []))
+escape byte = if byte == 92 then 92 ∷ 92 ∷ [] else (if byte == 10 then 92 ∷ 110 ∷ [] else (if byte == 13 then 92 ∷ 114 ∷ [] else (if byte == 0 then 92 ∷ 120 ∷ [] else byte ∷ [])))
 
 -- a name on one line
 abbrev pub name_text : List ℕ → List ℕ

@@ -42,6 +42,7 @@ mod parts;
 mod performing;
 mod program;
 mod sources;
+mod spelling;
 mod summing;
 mod sums;
 mod writing;

@@ -59,7 +59,12 @@ fn is_digest(word: &str) -> bool {
 fn name_of(alloc: Global, shown: &str) -> Result<Option<String>, AllocError> {
     let mut name = String::new(alloc);
     let mut is_escaped = false;
+    // How many hexadecimal digits of a byte are still to come.
+    let mut digits = 0u8;
     for letter in shown.chars() {
+        if digits > 0 && !is_hexadecimal(letter) {
+            return Ok(None);
+        }
         if letter == '\\' && !is_escaped {
             is_escaped = true;
             continue;
@@ -69,24 +74,33 @@ fn name_of(alloc: Global, shown: &str) -> Result<Option<String>, AllocError> {
         } else {
             Some(letter)
         };
+        digits = match meant {
+            Some('\0') => 2,
+            _ => digits.saturating_sub(1),
+        };
         match meant {
             Some(meant) => name.push(meant)?,
             None => return Ok(None),
         }
         is_escaped = false;
     }
-    if is_escaped || name.is_empty() {
+    if is_escaped || digits > 0 || name.is_empty() {
         return Ok(None);
     }
     Ok(Some(name))
 }
 
-// What a letter behind a backslash stands for.
+fn is_hexadecimal(letter: char) -> bool {
+    matches!(letter, '0'..='9' | 'a'..='f')
+}
+
+// What a letter behind a backslash stands for: `x` for the NUL before the two digits of a byte that isn't UTF-8.
 fn meant_by(letter: char) -> Option<char> {
     match letter {
         '\\' => Some('\\'),
         'n' => Some('\n'),
         'r' => Some('\r'),
+        'x' => Some('\0'),
         _ => None,
     }
 }

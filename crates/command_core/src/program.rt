@@ -11,6 +11,7 @@ ghost use Rattle.transfer_core.specs.declared.fault.Fault.TheVariants.{Memory};
 use crate::explaining::{Remembered, Shown, asks_to_explain, explain_outcome};
 use crate::outcome::{Outcome, outcome_line, status};
 use crate::performing::perform;
+use crate::spelling::spelled_words;
 use crate::sums::{Watch, run_sums};
 use archive_core::Fault;
 use folder_core::{Disk, FRONT, Folder, WatchedFolder};
@@ -51,7 +52,10 @@ where
             Came::Ran(ran) => end(rt, Some(&words), ran, watch.is_explained),
             Came::Summed(status) => ExitCode::from(status),
         },
-        Err(error) => end(rt, None, not_run(&error), watch.is_explained),
+        Err(error) => match ran_unread(rt, &error, is_asked, watch) {
+            Came::Ran(ran) => end(rt, None, ran, watch.is_explained),
+            Came::Summed(status) => ExitCode::from(status),
+        },
     }
 }
 
@@ -103,16 +107,41 @@ where
     }
 }
 
-// No words could be read.
-fn not_run(error: &io::Error) -> Ran
-    ensures { ComesToOnDisk result.outcome }
+// Does what words ask for of which one isn't UTF-8, or for which memory ran out.
+fn ran_unread<R: Files + Env + Clock + Input + Print + Eprint + AllocGlobal>(
+    rt: &R,
+    error: &io::Error,
+    is_asked: bool,
+    watch: Watch,
+) -> Came
+where
+    R::File: AsFd,
+    ensures { CameTo result }
 {
-    let outcome = if error.kind() == io::ErrorKind::OutOfMemory {
-        Fault::Memory.into()
-    } else {
-        Outcome::WrongWords
-    };
-    not_done(outcome)
+    if error.kind() == io::ErrorKind::OutOfMemory {
+        return Came::Ran(not_done(Fault::Memory.into()));
+    }
+    match spelled_words(rt, is_asked) {
+        Ok(words) => ran_spelled(rt, words.as_slice(), watch),
+        Err(_) => Came::Ran(not_done(Fault::Memory.into())),
+    }
+}
+
+// Does what words ask for that are spelled as text: `sum` alone takes names that aren't UTF-8.
+fn ran_spelled<R: Files + Env + Clock + Input + Print + Eprint + AllocGlobal>(
+    rt: &R,
+    words: &[String],
+    watch: Watch,
+) -> Came
+where
+    R::File: AsFd,
+    ensures { CameTo result }
+{
+    match sum_task_of(rt.alloc(), words) {
+        Ok(Some(task)) => Came::Summed(run_sums(rt, &task, watch)),
+        Ok(None) => Came::Ran(not_done(Outcome::WrongWords)),
+        Err(fault) => Came::Ran(not_done(fault.into())),
+    }
 }
 
 // Nothing was done with the disk.

@@ -12,7 +12,7 @@ use transfer_commands::{CommandFault, Sums, sum_file};
 
 /// The line of a file: its rate in hertz, how many bits each channel has, the SHA-256 of each channel's packed bits in
 /// hexadecimal digits, two blanks and its name. In the name a backslash stands as `\\`, a line feed as `\n` and a
-/// carriage return as `\r`. The line has no end.
+/// carriage return as `\r`. A NUL, which no file's name has, stands as `\x`. The line has no end.
 ///
 /// Refusals: those of [`sum_file`]; `Memory`.
 pub fn sum_line<F: Folder>(
@@ -119,6 +119,7 @@ fn push_escaped(line: &mut Vec<u8>, byte: u8) -> Result<(), AllocError>
         b'\\' => line.extend_from_slice(b"\\\\"),
         b'\n' => line.extend_from_slice(b"\\n"),
         b'\r' => line.extend_from_slice(b"\\r"),
+        b'\0' => line.extend_from_slice(b"\\x"),
         _ => line.extend_from_slice(&[byte]),
     }
 }

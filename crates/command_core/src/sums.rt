@@ -8,6 +8,7 @@ ghost use Rattle.command_core.specs.Summing.{JudgesLine, ShowsSums};
 
 use crate::listing::listed_name;
 use crate::outcome::{Outcome, outcome_line, status};
+use crate::spelling::spelled;
 use crate::summing::{is_as_listed, push_name, sum_line};
 use archive_core::Fault;
 use explain_core::{Ended, Summed, explain, explain_sum};
@@ -126,7 +127,8 @@ where
     }
 }
 
-// Judges the files of a list's lines. A list that isn't text or has no line is refused.
+// Judges the files of a list's lines. A list that isn't text, since it has a NUL, or has no line is refused. A line that
+// isn't UTF-8 is one of sums, too, but its name is no name of a file.
 fn check_bytes<R: Files + Env + Clock + Input + Print + Eprint + AllocGlobal>(
     rt: &R,
     list: &str,
@@ -137,10 +139,33 @@ where
     R::File: AsFd,
     ensures { IfOk result ListComesTo }
 {
-    match str::from_utf8(bytes) {
-        Ok(text) if !text.is_empty() => check_lines(rt, list, text, watch),
-        _ => Ok(refuse_list(rt, list, 0, watch)),
+    if bytes.is_empty() || bytes.contains(&0) {
+        return Ok(refuse_list(rt, list, 0, watch));
     }
+    match str::from_utf8(bytes) {
+        Ok(text) => check_text(rt, list, text, watch),
+        Err(_) => match spelled(rt.alloc(), bytes) {
+            Ok(text) => check_text(rt, list, &text, watch),
+            Err(_) => Ok(tell_fault(rt, Fault::Memory.into(), Summed::List(list), watch)),
+        },
+    }
+}
+
+// Judges the files of a list's text. One without a line is refused.
+fn check_text<R: Files + Env + Clock + Input + Print + Eprint + AllocGlobal>(
+    rt: &R,
+    list: &str,
+    text: &str,
+    watch: Watch,
+) -> Result<u8, Error>
+where
+    R::File: AsFd,
+    ensures { IfOk result ListComesTo }
+{
+    if text.is_empty() {
+        return Ok(refuse_list(rt, list, 0, watch));
+    }
+    check_lines(rt, list, text, watch)
 }
 
 // Judges the files of the lines of a text, and returns the greatest status.

@@ -10,6 +10,7 @@ use crate::playing::{
 use crate::projects::explain_project;
 use crate::seen::{explain_file, is_certificate, is_recording};
 use crate::splices::cutting_of;
+use crate::taken::explain_taken;
 use crate::tasks::{input_of, output_of, project_of};
 use crate::unread::{explain_unread, explain_unwritten};
 use crate::verdicts::explain_verdict;
@@ -118,7 +119,9 @@ fn explain_part<R: Files>(line: &mut Line, rt: &R, task: Task, fault: SpanFault)
 
 fn explain_output<R: Files>(line: &mut Line, rt: &R, task: Task, failure: &Failure) {
     if let Some(file) = output_of(task, failure.step) {
-        explain_unwritten(line, rt, file, &failure.error);
+        if !explain_taken(line, rt, task, file, &failure.error) {
+            explain_unwritten(line, rt, file, &failure.error);
+        }
     }
 }
 

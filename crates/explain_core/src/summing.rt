@@ -4,6 +4,7 @@ use crate::explaining::Ended;
 use crate::files::text_of;
 use crate::line::{Line, Part};
 use crate::seen::{explain_file, is_recording};
+use crate::spelled::explain_spelled;
 use crate::unread::{explain_at, say_folder, trouble_of};
 use std::rt::{Env, Files};
 use transfer_core::Fault;
@@ -27,6 +28,11 @@ pub fn explain_sum<R: Files + Env + AllocGlobal>(
     ended: Ended,
 ) -> Option<Explanation> {
     let mut line = Line::new(rt.alloc());
+    if let Ended::ReadFailed = ended {
+        if explain_spelled(&mut line, file) {
+            return line.end();
+        }
+    }
     let name = say_file(&mut line, file);
     match ended {
         Ended::Fault(Fault::FileUnread(why)) => explain_file(&mut line, rt, name, why),
@@ -76,20 +82,24 @@ fn explain_list<R: Files>(line: &mut Line, rt: &R, name: &str, number: usize) {
 }
 
 fn explain_lines(line: &mut Line, text: &[u8], number: usize) {
-    match (std::str::from_utf8(text), number.checked_sub(1)) {
-        (Err(_), _) => line.push("it is not UTF-8"),
-        (Ok(_), None) => line.push("it has no line"),
-        (Ok(text), Some(before)) => {
-            for found in text.lines().skip(before).take(1) {
-                line.say_one("line {0} is ", Part::Number(number as u64));
-                match found.len() {
-                    0..=80 => line.say_one("\"{0}\"; ", Part::Text(found)),
-                    bytes => line.say_one("{0} bytes long; ", Part::Count(bytes as u64)),
-                }
-            }
-            line.push(WANTED);
+    let Some(before) = number.checked_sub(1) else {
+        line.push(if text.is_empty() {
+            "it has no line"
+        } else {
+            "it is no text"
+        });
+        return;
+    };
+    for found in text.split(|byte| *byte == b'\n').skip(before).take(1) {
+        line.say_one("line {0} is ", Part::Number(number as u64));
+        let found = found.strip_suffix(b"\r").unwrap_or(found);
+        match (found.len(), std::str::from_utf8(found)) {
+            (0..=80, Ok(found)) => line.say_one("\"{0}\"; ", Part::Text(found)),
+            (0..=80, Err(_)) => line.say_one("\"{0}\"; ", Part::Raw(found)),
+            (bytes, _) => line.say_one("{0} bytes long; ", Part::Count(bytes as u64)),
         }
     }
+    line.push(WANTED);
 }
 
 const MEMORY: &str = "what surrounds the sound is held whole, and a list: free some memory";

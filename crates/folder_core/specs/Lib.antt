@@ -3,4 +3,5 @@ pub mod Disks
 pub mod Files
 pub mod GappedFiles
 pub mod MemoryFolders
+pub mod Protecting
 pub mod WatchedFolders

@@ -4,6 +4,7 @@ ghost use Rattle.std.specs.Prelude.{◌≡◌, None, IfOk, IfSome, IsErr, OnErr,
 ghost use Rattle.folder_core.specs.DiskFiles.{failure_of, front_of};
 ghost use Rattle.folder_core.specs.Disks.{MakingFailed, CreatingFailed, IsFresh, IsRefused, MayUseOutput, NotesFailure, kept_notes, notes_of, next_step, noting_write};
 ghost use Rattle.folder_core.specs.Files.{unknown_view};
+ghost use Rattle.folder_core.specs.Protecting.{protected_files};
 ghost use Rattle.folder_core.specs.declared.notes.Step.TheVariants.{Second};
 
 use crate::disk_file::{DiskFile, FRONT};
@@ -11,7 +12,7 @@ use crate::disk_input::DiskInput;
 use crate::folder::{Folder, FolderFault};
 use crate::notes::{Failure, Notes, Step};
 use crate::opened::{Opened, STANDARD};
-use crate::places::Place;
+use crate::places::{Place, refused};
 use std::fs::OpenFile;
 use std::io::{Input, Printer};
 use std::os::fd::AsFd;
@@ -23,7 +24,8 @@ use std::{fs, io};
 ///
 /// A file that is created is written in the folder of its name, as `.NAME.dsdarc-PROCESS-N`. It gets its name once it
 /// is kept and its bytes are on the device. Until then, and if the program is stopped, the old file stays there whole.
-/// So a file that is read may be written, under any of its names. Links are followed. An old file's permissions are
+/// So a file that is read may be replaced, under any of its names, unless it is [protected](Folder::protect). Links are
+/// followed. An old file's permissions are
 /// kept, and so are its owner and group if the system allows it. What processes that no longer exist left of the same
 /// name is removed.
 ///
@@ -123,19 +125,38 @@ where
     }
 
     fn held_of(&self, name: &str) -> io::Result<Held> {
-        let mut place = Place::of(self.rt, name)?;
-        place.check(self.rt, name, self.process, &self.opened)?;
+        if self.opened.is_protected(self.rt, name) {
+            return Err(refused());
+        }
+        let place = Place::of(self.rt, name)?;
         let name = String::from_str(self.rt.alloc(), name)?;
         Ok(Held { name, place })
     }
 
-    // The place that is held for a name, or else a new one.
+    // The place of a name: the one that is held for it once a file was kept, or else a new one.
     fn place_of(&mut self, name: &str) -> io::Result<Place>
         ensures { notes_of self.new ≡ notes_of self.old }
     {
-        match self.held.take_if(|held| held.name.as_str() == name) {
+        let has_kept = self.notes.has_kept;
+        match self
+            .held
+            .take_if(|held| has_kept && held.name.as_str() == name)
+        {
             Some(held) => Ok(held.place),
             None => Place::of(self.rt, name),
+        }
+    }
+
+    // Whether a file of this name and place is the one whose place is held for later. The null device is none.
+    fn is_held(&self, name: &str, place: &Place) -> bool {
+        let Some(held) = &self.held else {
+            return false;
+        };
+        let file = self.opened.file_at(self.rt, name);
+        let other = self.opened.file_at(self.rt, held.name.as_str());
+        match (file, other) {
+            (None, None) => place.is_same(self.rt, &held.place),
+            _ => file == other,
         }
     }
 
@@ -144,6 +165,9 @@ where
         ensures fresh { IfOk result (λ file. failure_of file ≡ None) }
     {
         let place = self.place_of(name)?;
+        if self.opened.is_protected(self.rt, name) || self.is_held(name, &place) {
+            return Err(refused());
+        }
         if !self.opened.is_null() && self.opened.is_output(self.rt, name) {
             self.notes.used_output = true;
         }
@@ -193,8 +217,15 @@ where
         file.pass(buffer)
     }
 
-    // It holds the place of one name at a time. It also fails if the file is being read and could only be written
-    // directly.
+    // Files are told apart by what the system says of them, whatever their names are.
+    fn protect(&mut self)
+        ensures same { notes_of self.new ≡ notes_of self.old }
+        ensures protected { protected_files self.new.opened ≡ self.old.opened.sources.items }
+    {
+        self.opened.protect();
+    }
+
+    // It holds the place of one name at a time.
     fn hold(&mut self, name: &str) -> Result<(), FolderFault>
         ensures same { OnOk result (notes_of self.new ≡ notes_of self.old) }
         ensures failed { OnErr result (MakingFailed Second (notes_of self.old) (notes_of self.new)) }
@@ -237,10 +268,10 @@ where
             × (notes_of self.new ≡ noting_write (failure_of out.entry) (notes_of self.old))) }
         ensures front { OnOk result (self.new.front ≡ front_of out.entry) }
     {
-        let _ = name;
         let front = out.front();
         match out.put_in_place(self.rt) {
             Ok(()) => {
+                self.opened.add_kept(self.rt, name);
                 self.front = front;
                 self.notes.has_kept = true;
                 Ok(())

@@ -88,8 +88,14 @@ pub trait Folder {
         file.read(buffer)
     }
 
-    /// Reserves the memory that is needed to create a file of this name later. A folder reserves nothing if it needs no
-    /// memory, or if it lets `create` fail when memory runs out.
+    /// The files that were opened so far may not be replaced from now on: to create one fails. A folder in which one name
+    /// is one file need not know it.
+    fn protect(&mut self)
+        ensures same { view self.new ≡ view self.old }
+    {}
+
+    /// Reserves the memory that is needed to create a file of this name after the next one. A folder reserves nothing if
+    /// it needs no memory, or if it lets `create` fail when memory runs out.
     ///
     /// Refusal: `FolderFault` if memory runs out, or if it is known that the file can't be created.
     fn hold(&mut self, name: &str) -> Result<(), FolderFault>
@@ -101,7 +107,8 @@ pub trait Folder {
 
     /// A new file without bytes, to be written and then kept under the same name.
     ///
-    /// Refusal: `FolderFault` if none can be made.
+    /// Refusal: `FolderFault` if none can be made. A folder may refuse one that is [protected](Folder::protect), or is the
+    /// one whose memory is reserved.
     fn create(&mut self, name: &str) -> Result<Self::Out, FolderFault>
         ensures same { view self.new ≡ view self.old }
         ensures empty { IfOk result (λ w. IsTrue (view self.old).is_known → Self.Out.contents w ≡ Some []) };

@@ -32,7 +32,8 @@ pub(crate) fn folder_of(path: &str) -> &str {
     }
 }
 
-fn name_of(path: &str) -> &str {
+/// The name of a path's file.
+pub(crate) fn name_of(path: &str) -> &str {
     match path.rsplit_once('/') {
         Some((_, name)) => name,
         None => path,

@@ -11,7 +11,7 @@
 //! - A [`WatchedFolder`] shows on a terminal how far the files of another folder are read, in per cent with the time
 //!   left if their [`KnownLength`] is known, and how far [`Work`] has come of which [`Folder::show_work`] is told.
 //!
-//! The words of the contracts, from `specs/Files.antt` but for the last three:
+//! The words of the contracts, from `specs/Files.antt` but for the last four:
 //!
 //! - `F.view` is what is known of a folder, a `View`: whether the bytes of its readers and writers are known, what an
 //!   opening of each name gives, at one time and another, what was put under each name last, and whether giving a file
@@ -24,6 +24,7 @@
 //! - `watched_folder` and `watched_file` are what is watched (`specs/WatchedFolders.antt`), `gapped_file` is what is
 //!   read but for gaps, `gapped_place` the place of its next byte, `gaps_of` its gaps (`specs/GappedFiles.antt`).
 //! - `notes_of` is what a disk remembers of its calls, its [`Notes`] (`specs/Disks.antt`).
+//! - `protected_files` are the files that a disk does not replace (`specs/Protecting.antt`).
 //!
 //! What it promises, over a folder whose bytes are known: what is read is what an opening of that name gives, and what
 //! was written is what is put under a name. A write that failed leaves the old file, or a prefix if there was none, and

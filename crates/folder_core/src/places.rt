@@ -4,8 +4,8 @@ ghost use Rattle.std.specs.Prelude.{◌≡◌, None, IfOk};
 ghost use Rattle.folder_core.specs.DiskFiles.{failure_of};
 
 use crate::disk_file::DiskFile;
-use crate::leftovers::{MOST_ADDED_BYTES, create_beside, folder_of, remove_abandoned};
-use crate::opened::{Opened, STANDARD};
+use crate::leftovers::{MOST_ADDED_BYTES, create_beside, folder_of, name_of, remove_abandoned};
+use crate::opened::{FileId, Opened, STANDARD};
 use std::fs::{Metadata, OpenFile, OpenOptions};
 use std::io::{Error, ErrorKind, Printer};
 use std::os::fd::AsFd;
@@ -64,35 +64,26 @@ impl Place {
         }
     }
 
-    // Fails if a file that is being read has this name and could only be written directly.
-    pub(crate) fn check<R: Files>(
-        &mut self,
-        rt: &R,
-        name: &str,
-        process: u32,
-        opened: &Opened,
-    ) -> io::Result<()>
-    where
-        R::File: AsFd,
-    {
-        let Ok(found) = fs::metadata(rt, name) else {
-            return Ok(());
-        };
-        if !opened.is_source(&found) {
-            return Ok(());
-        }
-        match self {
-            Place::Path(path, leftover) => {
-                create_beside(rt, path.as_str(), Some(&found), process, leftover)?;
-                fs::remove_file(rt, leftover.as_str())
+    // Whether files that are new in both places would be one.
+    pub(crate) fn is_same<R: Files>(&self, rt: &R, other: &Place) -> bool {
+        match (self, other) {
+            (Place::Path(path, _), Place::Path(other, _)) => {
+                is_one_path(rt, path.as_str(), other.as_str())
             }
-            Place::AsItStands => Err(refused()),
+            _ => false,
         }
     }
 }
 
-// The error for a file that is being read and would be written directly.
-fn refused() -> Error {
+// Whether paths are those of one name in one folder.
+fn is_one_path<R: Files>(rt: &R, path: &str, other: &str) -> bool {
+    let folder = FileId::at(rt, folder_of(path));
+    let is_one_folder = folder.is_some() && folder == FileId::at(rt, folder_of(other));
+    is_one_folder && name_of(path) == name_of(other)
+}
+
+/// The error for a file that may not be written, since the command reads it, or writes it as its other file.
+pub(crate) fn refused() -> Error {
     Error::from(ErrorKind::ResourceBusy)
 }
 
@@ -126,7 +117,7 @@ fn as_it_holds<'a, R: Files + Print>(
     ensures { IfOk result (λ file. failure_of file ≡ None) }
 {
     if opened.is_output(rt, path) {
-        if opened.is_output_source() {
+        if opened.is_output_source(rt) {
             return Err(refused());
         }
         return Ok(DiskFile::output(io::writer(rt)));

@@ -139,6 +139,10 @@ where
         got
     }
 
+    fn protect(&mut self) {
+        self.folder.protect();
+    }
+
     fn hold(&mut self, name: &str) -> Result<(), FolderFault> {
         self.folder.hold(name)
     }

@@ -11,10 +11,11 @@ ghost use Rattle.transfer_commands.specs.declared.parts.PartFault.TheVariants as
 use crate::fault::CommandFault;
 use crate::gaps::gaps_around;
 use crate::opened::{OpenedFile, open_prefix};
+use crate::playing::read_project;
 use crate::reporting::open_past_sound;
 use chunk_core::{Inlet, Outlet};
 use dsd_bits::Sound;
-use folder_core::{FileFault, Folder, GappedFile, hand_back, read_file};
+use folder_core::{FileFault, Folder, GappedFile, hand_back};
 use std::alloc::Global;
 use std::io::{Cursor, Read, Write};
 use transfer_core::{Fault, Place, Span, SpanFault, frames_of, play_part_stream, span_of};
@@ -78,7 +79,7 @@ struct FoundPart<'a, R> {
 
 /// Reads the project, finds the part in the recording, creates the WAVE file and plays the part to it. Returns how many
 /// bytes the WAVE file has. After a fault of playing the WAVE file may hold a prefix of what was due, but a folder that
-/// keeps old files keeps an old one.
+/// keeps old files keeps an old one. The folder protects the project's file before it opens the recording.
 ///
 /// Refusals before the WAVE file is created, in this order: `ReadFailed` of the project, `ReadFailed` of the recording,
 /// `FileUnread`, `Project`, `NoDecimation`, `RateNotDivided`, `NoMark`, `PartOutside`, `PartReversed`. Then
@@ -97,7 +98,7 @@ pub fn play_part_file<F: Folder>(
 ) -> Result<u64, PartFault>
     ensures { PlayPartComesTo project.now input.now output.now span (F.view folder.old) (F.view folder.new) result }
 {
-    let project = read_file(alloc, folder, project)?;
+    let project = read_project(alloc, folder, project)?;
     let found = find_part(alloc, folder, &project, input, span)?;
     Ok(play_part_to(alloc, folder, found, output)?)
 }

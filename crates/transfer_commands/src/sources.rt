@@ -1,7 +1,9 @@
 //! Reads a project and the takes that it names.
 
 ghost use Rattle.std.specs.Prelude.{◌≡◌, IfErr, IfOk};
-ghost use Rattle.transfer_commands.specs.Excerpts.{AreOfItsTakes, ReadsSources};
+ghost use Rattle.splice_core.specs.Splices.{splice_content};
+ghost use Rattle.transfer_commands.specs.Excerpts.{AreOfItsTakes, AreOfTakes, ReadsSources, ReadsTakes};
+ghost use Rattle.transfer_commands.specs.Outlining.{IsUnread};
 ghost use Rattle.transfer_commands.specs.Sources.{SourcesUnread};
 
 use crate::excerpts::read_excerpts;
@@ -22,7 +24,7 @@ pub struct Sources {
 }
 
 /// Reads the project, then the takes that it names, and keeps of them what the splice reads. A take's file is read in
-/// one pass, which doesn't hold its sound.
+/// one pass, which doesn't hold its sound. The folder protects all of these files from then on.
 pub fn source_excerpts<F: Folder>(
     alloc: Global,
     folder: &mut F,
@@ -35,6 +37,22 @@ pub fn source_excerpts<F: Folder>(
 {
     let project = read_file(alloc, folder, project)?;
     let splice = splice_of(alloc, &project)?;
-    let takes = read_excerpts(alloc, folder, &splice)?;
+    let takes = read_takes(alloc, folder, &splice)?;
     Ok(Sources { splice, takes })
+}
+
+// What a splice reads of its takes. The folder protects what was read so far from then on.
+fn read_takes<F: Folder>(
+    alloc: Global,
+    folder: &mut F,
+    splice: &Splice,
+) -> Result<Result<Vec<Excerpts>, CutFault>, CommandFault>
+    ensures same { F.view folder.new ≡ F.view folder.old }
+    ensures excerpts { IfOk result (ReadsTakes (F.view folder.old) (splice_content splice.now)) }
+    ensures of { IfOk result (AreOfTakes (splice_content splice.now)) }
+    ensures fault { IfErr result IsUnread }
+{
+    let takes = read_excerpts(alloc, folder, splice);
+    folder.protect();
+    takes
 }

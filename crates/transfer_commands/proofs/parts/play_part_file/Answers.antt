@@ -13,8 +13,8 @@ pub returns-in_err-project : goal.returns-in_err-project
 returns-in_err-project g c =
     let view = g.F.Folder.view in
     let e = err_from_is_err_and c.from_residual.result c.from_residual.ensures.1 in
-    subst (PlayPartComesTo c.args.project.now c.args.input.now c.args.output.now c.args.span (view c.args.folder.now) (view c.read_file.new.folder)) (sym (e.1 ∙ ap Err e.2))
-    (project_unread c.args.project.now c.args.input.now c.args.output.now c.args.span (view c.args.folder.now) (view c.read_file.new.folder) c.read_file.ensures.same c.in_err-project.field-0.0 c.in_err-project.ensures.fault)
+    subst (PlayPartComesTo c.args.project.now c.args.input.now c.args.output.now c.args.span (view c.args.folder.now) (view c.read_project.new.folder)) (sym (e.1 ∙ ap Err e.2))
+    (project_unread c.args.project.now c.args.input.now c.args.output.now c.args.span (view c.args.folder.now) (view c.read_project.new.folder) c.read_project.ensures.same c.in_err-project.field-0.0 c.in_err-project.ensures.fault)
 
 pub returns-in_err-found : goal.returns-in_err-found
 returns-in_err-found g c =
@@ -22,9 +22,9 @@ returns-in_err-found g c =
     let text = c.in_ok-project.project.items in
     let fault = c.in_err-found.field-0.0 in
     let e = err_from_is_err_and c.from_residual-in_err-found.result c.from_residual-in_err-found.ensures.1 in
-    let none = subst (λ project. IsUnfound project c.args.input.now (view c.read_file.new.folder) c.args.span fault) c.deref.ensures.value c.in_err-found.ensures.refused in
+    let none = subst (λ project. IsUnfound project c.args.input.now (view c.read_project.new.folder) c.args.span fault) c.deref.ensures.value c.in_err-found.ensures.refused in
     subst (PlayPartComesTo c.args.project.now c.args.input.now c.args.output.now c.args.span (view c.args.folder.now) (view c.find_part.new.folder)) (sym (e.1 ∙ ap Err e.2))
-    (part_refused c.args.project.now c.args.input.now c.args.output.now text c.args.span (view c.args.folder.now) (view c.read_file.new.folder) (view c.find_part.new.folder) c.in_ok-project.ensures.bytes c.read_file.ensures.same c.find_part.ensures.same fault none)
+    (part_refused c.args.project.now c.args.input.now c.args.output.now text c.args.span (view c.args.folder.now) (view c.read_project.new.folder) (view c.find_part.new.folder) c.in_ok-project.ensures.bytes c.read_project.ensures.same c.find_part.ensures.same fault none)
 
 -- what the playing of the part came to, by the project's text
 came : (g : Over) (c : After-play_part_to g) (r : Result ℕ CommandFault) → PlayedPartComesTo c.in_ok-found.found.part.project.now c.in_ok-found.found.part.start c.in_ok-found.found.part.stop c.args.input.now c.args.output.now (g.F.Folder.view c.find_part.new.folder) (g.F.Folder.view c.play_part_to.new.folder) r
@@ -38,8 +38,8 @@ came g c r h =
 has : (g : Over) (c : After-play_part_to g) → FindsSpan c.in_ok-project.project.items c.args.input.now (g.F.Folder.view c.args.folder.now) c.args.span c.in_ok-found.found.part.start c.in_ok-found.found.part.stop
 has g c =
     let part = c.in_ok-found.found.part in
-    subst (λ (v : View). FindsSpan c.in_ok-project.project.items c.args.input.now v c.args.span part.start part.stop) c.read_file.ensures.same
-    (subst (λ project. FindsSpan project c.args.input.now (g.F.Folder.view c.read_file.new.folder) c.args.span part.start part.stop) c.deref.ensures.value c.in_ok-found.ensures.found.1)
+    subst (λ (v : View). FindsSpan c.in_ok-project.project.items c.args.input.now v c.args.span part.start part.stop) c.read_project.ensures.same
+    (subst (λ project. FindsSpan project c.args.input.now (g.F.Folder.view c.read_project.new.folder) c.args.span part.start part.stop) c.deref.ensures.value c.in_ok-found.ensures.found.1)
 
 pub returns-in_err-play_part_to : goal.returns-in_err-play_part_to
 returns-in_err-play_part_to g c =
@@ -52,7 +52,7 @@ returns-in_err-play_part_to g c =
     let fails = came g at (Err fault) (c.in_err-play_part_to.ensures c.args.input.now given) in
     subst (PlayPartComesTo c.args.project.now c.args.input.now c.args.output.now c.args.span (view c.args.folder.now) (view c.play_part_to.new.folder)) (sym (e.1 ∙ ap Err e.2))
     (part_fails c.args.project.now c.args.input.now c.args.output.now c.in_ok-project.project.items part.start part.stop c.args.span (view c.args.folder.now) (view c.find_part.new.folder) (view c.play_part_to.new.folder) c.in_ok-project.ensures.bytes (has g at)
-    (c.find_part.ensures.same ∙ c.read_file.ensures.same) fault fails)
+    (c.find_part.ensures.same ∙ c.read_project.ensures.same) fault fails)
 
 pub returns : goal.returns
 returns g c =
@@ -63,4 +63,4 @@ returns g c =
     let given = subst (λ (v : View). IsGiven v c.args.input.now (left_of g.F.In.Read.remaining c.in_ok-found.found.opened)) (sym c.find_part.ensures.same) c.in_ok-found.ensures.given in
     let plays = came g at (Ok n) (c.in_ok-play_part_to.ensures c.args.input.now given) in
     part_ends c.args.project.now c.args.input.now c.args.output.now c.in_ok-project.project.items part.start part.stop c.args.span (view c.args.folder.now) (view c.find_part.new.folder) (view c.play_part_to.new.folder) c.in_ok-project.ensures.bytes (has g at)
-    (c.find_part.ensures.same ∙ c.read_file.ensures.same) n plays
+    (c.find_part.ensures.same ∙ c.read_project.ensures.same) n plays

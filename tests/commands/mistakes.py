@@ -181,16 +181,18 @@ start = 2
 stop = 9
 """
 
-# What a text without its quotation marks is told beside the reader's message.
+# What the reader of TOML says, and what is said beside it where a text has no quotation marks.
+NO_VALUE = "invalid value, expected a string, number, boolean, date-time, array or inline table"
+NO_COMMA = "missing comma between array elements, expected `,` or `]`"
 QUOTES = '; a text is in quotation marks, as in takes = ["one.dff", "two.dff"]'
 
 # What stands in it in place of what, and why.
 SLIPS = (
-    (b'["a.dff", "b.dff"]', b"[a.dff, b.dff]", "NotToml", f"line 3: TOML{QUOTES}"),
-    (b'["a.dff", "b.dff"]', b'["a.dff, "b.dff"]', "NotToml", f"line 3: TOML{QUOTES}"),
-    (b'["a.dff", "b.dff"]', b'[\n  "a.dff",\n  b.dff,\n]', "NotToml", f"line 5: TOML{QUOTES}"),
-    (b"bridge = 1", b"bridge = 1\ntitle = one", "NotToml", f"line 10: TOML{QUOTES}"),
-    (b"bridge = 1", b'title = "one"\nbridge = one', "NotToml", "line 10: TOML"),
+    (b'["a.dff", "b.dff"]', b"[a.dff, b.dff]", "NotToml", f"line 3: {NO_VALUE}{QUOTES}"),
+    (b'["a.dff", "b.dff"]', b'["a.dff, "b.dff"]', "NotToml", f"line 3: {NO_COMMA}{QUOTES}"),
+    (b'["a.dff", "b.dff"]', b'[\n  "a.dff",\n  b.dff,\n]', "NotToml", f"line 5: {NO_VALUE}{QUOTES}"),
+    (b"bridge = 1", b"bridge = 1\ntitle = one", "NotToml", f"line 10: {NO_VALUE}{QUOTES}"),
+    (b"bridge = 1", b'title = "one"\nbridge = one', "NotToml", f"line 10: {NO_VALUE}"),
     (
         b"weights",
         b"weigths",

@@ -190,7 +190,7 @@ find_filter() {
         no_filter "by a rate and width only a file can be played, as its own rate is looked at first;" \
             "name a filter, as $play_filters/dsd64-to-88200-24.toml"
     fi
-    play_rate="$(rate_in_head "$play_in")"
+    play_rate="$(rate_in_head "$play_in")" || play_rate=
     if [ -z "$play_rate" ]; then
         # The program says what is wrong with it.
         play_said="$("$1" ${play_explains:+"$play_explains"} info "$play_in")" || exit

@@ -48,14 +48,30 @@ where
         is_explained: is_watched || is_asked,
     };
     match given_words(rt, is_asked) {
-        Ok(words) => match ran_by(rt, words.as_slice(), watch) {
-            Came::Ran(ran) => end(rt, Some(&words), ran, watch.is_explained),
-            Came::Summed(status) => ExitCode::from(status),
-        },
-        Err(error) => match ran_unread(rt, &error, is_asked, watch) {
-            Came::Ran(ran) => end(rt, None, ran, watch.is_explained),
-            Came::Summed(status) => ExitCode::from(status),
-        },
+        Ok(words) => {
+            let came = ran_by(rt, words.as_slice(), watch);
+            ended(rt, Some(&words), came, watch.is_explained)
+        }
+        Err(error) => {
+            let came = ran_unread(rt, &error, is_asked, watch);
+            ended(rt, None, came, watch.is_explained)
+        }
+    }
+}
+
+// Ends what came of the words: an outcome is printed now, and sums have printed their lines.
+fn ended<R: Files + Env + Print + Eprint + AllocGlobal>(
+    rt: &R,
+    words: Option<&Vec<String>>,
+    came: Came,
+    is_explained: bool,
+) -> ExitCode
+    requires { CameTo came }
+    ensures { EndsWith (exit_status result) }
+{
+    match came {
+        Came::Ran(ran) => end(rt, words, ran, is_explained),
+        Came::Summed(status) => ExitCode::from(status),
     }
 }
 

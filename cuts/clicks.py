@@ -103,9 +103,7 @@ def seamed(project: Project, reference: Reference, spot: Spot, first: int, stop:
 
 def above_split(rate: int, reference: Reference) -> Reference:
     """What of the takes' sounds goes over more slowly in some butts."""
-    return Reference(
-        lambda take, first, stop: above(rate, lambda low, high: reference(take, low, high), first, stop)
-    )
+    return Reference(lambda take, first, stop: above(rate, lambda low, high: reference(take, low, high), first, stop))
 
 
 def linked(project: Project, roles: list[str], number: int) -> tuple[int, int]:

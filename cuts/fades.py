@@ -3,6 +3,7 @@ from dataclasses import dataclass, replace
 from pathlib import Path
 
 import fading
+import planned
 import times
 from outputs import Refused
 from projects import Project
@@ -103,11 +104,15 @@ def plan_of(project: Project, cut: int, asked: Asked) -> fading.Plan:
 
 
 def fade(project: Project, program: Path, number: int, asked: Asked) -> fading.Fade:
-    """Makes a seam of a cut, in the place of a bridge that fades, a link or a seam that it had."""
-    with project.undone():
-        spot = project.spots()[number]
+    """Makes a seam of a cut, in the place of a bridge that fades, a link or a seam that it had. If it clicked louder then
+    it is refused."""
+    spot = project.spots()[number]
+
+    def plain() -> None:
         project.leave_out_between(spot)
         project.leave_out_shift(spot.before + 1)
+
+    with project.undone(), planned.no_louder(project, number, plain):
         project.leave_out_bridge(spot.before)
         stop, start = project.cues[spot.before]["stop"], project.cues[spot.before + 1]["start"]
         try:

@@ -6,6 +6,7 @@ import numpy as np
 import bridges
 import joins
 import links
+import planned
 import titles
 import transitions
 from hearing import hearing_of
@@ -60,10 +61,10 @@ class Room:
             return None
         return joins.Window(low, high - low + 1, first, last - first + 1, wished, most)
 
-    def inside(self, stop: int, start: int) -> "Room":
-        """The part in which both takes have bits up to a place, and from one on."""
-        stops, starts = (self.stops[0], min(self.stops[1], stop)), (max(self.starts[0], start), self.starts[1])
-        return Room(self.stop, self.start, stops, starts)
+    def inside(self, stops: tuple[int, int], starts: tuple[int, int]) -> "Room":
+        """The part that lies between these places of both takes."""
+        parts = [(max(one[0], it[0]), min(one[1], it[1])) for one, it in ((self.stops, stops), (self.starts, starts))]
+        return Room(self.stop, self.start, *parts)
 
 
 def room_of(project: Project, cut: int, within: int, margin: int) -> Room:
@@ -88,9 +89,11 @@ def window_of(project: Project, cut: int, asked: Asked, margin: int = 0) -> join
     pairs of places."""
     within, most = round(asked.within * project.rate), round(asked.shift * project.rate)
     room = room_of(project, cut, within, margin)
-    before, after = project.take(cut), project.take(cut + 1)
-    safe = room.inside(project.span(cut)[1] - known(before), project.span(cut + 1)[0] + known(after))
-    return safe.window(most) or room.window(most)
+    (first, last), (start, end) = project.span(cut), project.span(cut + 1)
+    before, after = known(project.take(cut)), known(project.take(cut + 1))
+    safe = room.inside((first, last - before), (start + after, end))
+    safest = safe.inside((first + before, last), (start, end - after))
+    return safest.window(most) or safe.window(most) or room.window(most)
 
 
 def meeting(project: Project, cut: int, window: joins.Window | None) -> joins.Cut:
@@ -176,13 +179,17 @@ def signs_of(project: Project, cut: int, ends: tuple[int, int], place: joins.Pla
 
 
 def place(project: Project, number: int, asked: Asked) -> None:
-    """Moves a cut, whose link or seam is left out before."""
-    with project.undone():
-        spot = project.spots()[number]
-        is_apart = makes_transition(project, number, asked)
+    """Moves a cut, whose link or seam is left out before. If it clicked louder then it is refused."""
+    spot = project.spots()[number]
+
+    def plain() -> None:
         project.leave_out_between(spot)
         project.leave_out_shift(spot.before + 1)
-        if asked.plain:
-            project.leave_out_bridge(spot.before)
-        if not (is_apart and place_apart(project, spot.before, asked)):
-            place_together(project, spot.before, asked)
+
+    with project.undone():
+        is_apart = makes_transition(project, number, asked)
+        with planned.no_louder(project, number, plain):
+            if asked.plain:
+                project.leave_out_bridge(spot.before)
+            if not (is_apart and place_apart(project, spot.before, asked)):
+                place_together(project, spot.before, asked)

@@ -294,15 +294,21 @@ class Project:
 
     @contextlib.contextmanager
     def undone(self) -> Iterator[None]:
-        """After a fault in a block the cues are as before. It is one too if a cue has become so short that it would be
-        taken for a link."""
+        """After a fault in a block the cues and the takes are as before. It is one too if a cue has become so short
+        that it would be taken for a link."""
         cues, origins, cuts = copy.deepcopy(self.cues), list(self.origins), len(self.spots())
+        takes = [list(it) for it in (self.takes, self.records, self.shifts, self.names)]
+        seams = self.seams
+        held = seams.state() if seams else None
         try:
             yield
             if len(self.spots()) != cuts:
                 raise Refused("a cue would be shorter than 10 us, and so be taken for a link")
         except BaseException:
-            self.cues, self.origins = cues, origins
+            self.cues, self.origins, self.seams = cues, origins, seams
+            self.takes, self.records, self.shifts, self.names = takes
+            if seams:
+                seams.restore(held)
             raise
 
     def leave_out_bridge(self, cut: int) -> None:

@@ -148,6 +148,16 @@ class Seams:
         self.take = Held(name, old.rate, old.stored(0, old.bits).astype(np.uint8))
         self.seams = dict(seams)
 
+    def state(self) -> tuple:
+        """What it holds, to be restored."""
+        return self.take.rows, dict(self.seams)
+
+    def restore(self, state: tuple) -> None:
+        """Lets it hold what it held."""
+        self.take.rows = state[0]
+        self.seams.clear()
+        self.seams.update(state[1])
+
     def add(self, seam: Seam, signs: np.ndarray) -> None:
         """Adds a seam, whose first bit is the next one of the take."""
         rows = (signs > 0).astype(np.uint8)

@@ -101,15 +101,17 @@ def path_for(filters, rate, wishes, is_louder=False):
 
 
 def by_rates(text, is_louder=False):
-    """The path of the filter for each rate that has one, by wishes."""
+    """The path of the filter for each rate that has one, by wishes, of which each has one for some rate."""
     wishes, there, found = all_parsed(text), ready(), {}
     if wishes is None:
         raise Refused(f"{text!r} is no RATE/BITS, as 88200/24 is")
+    played = {wish for rate in served(there) for wish in for_rate(there, rate, is_louder)}
+    unserved = ", ".join(f"{out}/{width}" for out, width in wishes if (out, width) not in played)
+    if unserved:
+        raise Refused(f"no filter plays any rate to {unserved}: filters/pick --list prints what there is")
     for rate in served(there):
         with contextlib.suppress(Refused):
             found[str(rate)] = path_for(there, rate, wishes, is_louder)
-    if not found:
-        raise Refused(f"no filter plays any rate to {text}: filters/pick --list prints what there is")
     return found
 
 

@@ -80,7 +80,12 @@ def look(key):
         found = {"fault": fault.removeprefix("fault: "), "why": more}
     else:
         sys.exit(f"{text or f'status {status}'}: {entry_of(key)['name']!r}")
-    keep(look_of(key), found | {"sha256": sum_of(source_of(key)), "identity": identity})
+    try:
+        total = sum_of(source_of(key))
+    except OSError as error:
+        found, total = {"fault": "ReadFailed", "why": [error.strerror]}, None
+    # What can't be read may be read the next time.
+    keep(look_of(key), found | {"sha256": total, "identity": identity if total else None})
 
 
 def placed(parts):
@@ -164,7 +169,7 @@ def unplayable(found, filters):
     Or None."""
     rate, name = found["rate"], filters.get(str(found["rate"]))
     if name is None:
-        there = ", ".join(filters) or "none"
+        there = ", ".join(sorted(filters, key=lambda it: (len(it), it))) or "none"
         return f"NoFilter {rate}", f"no filter was chosen for its {rate} Hz; the rates that have one are {there}"
     with open(name, "rb") as file:
         project = tomllib.load(file)["decimate"]
@@ -246,7 +251,8 @@ def lists():
     sources, made, sounds, results = [], {}, [], {}
     for key, entry in by_name(table):
         notes, results[entry["name"]] = told(key, steps[key], form)
-        sources.append(sum_line(results[entry["name"]]["sha256"], entry["name"]))
+        if results[entry["name"]]["sha256"]:
+            sources.append(sum_line(results[entry["name"]]["sha256"], entry["name"]))
         for note in notes.values():
             made |= note["results"]
         if "convert" in notes:

@@ -40,6 +40,8 @@ def is_there(found: dict) -> bool:
 def kept(name: str, before: dict | None, most: int, taken: set[tuple[int, int]]) -> dict:
     """The copy of a file, where it is there already or is made."""
     source, copy = f"archive/{name}", f"{FOLDER}/{name}"
+    if len(os.fsencode(copy)) > names.LONGEST_RESULT:
+        raise Unkept("its path is too long to be that of a copy")
     if not stat.S_ISREG(os.stat(source).st_mode):
         raise Unkept("it is no file")
     identity = walks.identity_of(source)

@@ -5,8 +5,8 @@ For each file that was converted, OUT has all but its sound, as it was: `.head` 
 or `.tail` what follows it, and `.fill` the last blocks of a DSF file whose fill isn't zero. With the sound of the
 converted file this is the old file, byte for byte. Other files are in `beside/` as they were, but for those that
 `not_kept.tsv` lists. All are written to FOLDER under their old names, each once its SHA-256 is the old one's. A file
-that is there already with that SHA-256 stays. The script reads `results.json`, `beside.json`, `converted/`, `kept/`,
-`renamed/` and `beside/`, and doesn't need dsdarc.
+that is there already stays: if it has that SHA-256 it is the old one, otherwise the old one is not made. The script
+reads `results.json`, `beside.json`, `converted/`, `kept/`, `renamed/` and `beside/`, and doesn't need dsdarc.
 """
 import os
 import sys
@@ -146,6 +146,8 @@ def restore(out, name, found, part, folder):
     path = os.path.join(folder, name)
     if is_made(path, found["sha256"]):
         return
+    if os.path.lexists(path):
+        raise channels.Unread("another file has its name: move that away")
     write(part, data_of(out, found))
     if names.sum_of(part) != found["sha256"]:
         raise channels.Unread("it would have another sum")

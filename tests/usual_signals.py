@@ -7,8 +7,9 @@ import signal
 
 # What a shell lets the commands ignore that it starts in the background, or that have to outlive it.
 IGNORED = (signal.SIGHUP, signal.SIGINT, signal.SIGQUIT)
-# What ends a process. Python ignores SIGPIPE, and subprocess resets it in what is started.
-ENDING = (signal.SIGTERM, signal.SIGALRM, signal.SIGUSR1, signal.SIGUSR2)
+# Others that a process may inherit as ignored: the status of a child is lost where SIGCHLD is. Python itself ignores
+# SIGPIPE, and subprocess resets it in what is started.
+OTHERS = (signal.SIGTERM, signal.SIGALRM, signal.SIGUSR1, signal.SIGUSR2, signal.SIGCHLD)
 
 
 def begin() -> None:
@@ -16,12 +17,12 @@ def begin() -> None:
     for number in IGNORED:
         if signal.getsignal(number) is signal.SIG_IGN:
             signal.signal(number, lambda *_: None)
-    for number in ENDING:
+    for number in OTHERS:
         signal.signal(number, signal.SIG_DFL)
     signal.pthread_sigmask(signal.SIG_SETMASK, ())
 
 
 def begin_child() -> None:
     """The same in a process that the test forks and that stays Python: there the signals end it."""
-    for number in (*IGNORED, *ENDING):
+    for number in (*IGNORED, *OTHERS):
         signal.signal(number, signal.SIG_DFL)

@@ -1,4 +1,3 @@
-use Rattle.std.proofs.Common.{sym}
 use Rattle.dsd_bits.specs.declared.sound.SoundAt.TheVariants.{More, Found}
 use Rattle.sound_core.proofs.NamingLaws.{form_found}
 use Rattle.dsdarc_c.proofs.HeaderLaws.{form_refused, form_unstated}

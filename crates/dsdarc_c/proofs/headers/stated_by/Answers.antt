@@ -1,5 +1,4 @@
-use Rattle.std.proofs.Common.{sym}
-use Rattle.dsd_bits.specs.declared.sound.SoundAt.TheVariants.{More, Found}
+use Rattle.dsd_bits.specs.declared.sound.SoundAt.TheVariants.{Found}
 use Rattle.sound_core.proofs.NamingLaws.{form_found}
 use Rattle.dsdarc_c.proofs.HeaderLaws.{form_refused, form_unstated}
 use Rattle.dsdarc_c.proofs.headers.stated_by.Goals as goal

@@ -16,7 +16,7 @@ class Adding(build_py):
         super().run()
         package = pathlib.Path(self.build_lib) / "dsdarc"
         (package / "filters").mkdir(parents=True, exist_ok=True)
-        for path in sorted((ROOT / "filters").glob("dsd*.toml")):
+        for path in (ROOT / "filters" / "index.txt", *sorted((ROOT / "filters").glob("dsd*.toml"))):
             shutil.copyfile(path, package / "filters" / path.name)
         if LIBRARY.is_file():
             shutil.copyfile(LIBRARY, package / LIBRARY.name)

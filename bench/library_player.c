@@ -1,7 +1,10 @@
-/* Plays a file by the library as `dsdarc play` does, but without a header: library_player PROJECT FILE OUT */
+/* Plays a file by the library as `dsdarc play` does, but without a header: library_player PROJECT FILE OUT [PIECE]
+ *
+ * It pushes at most PIECE bytes at once, and otherwise 65,536. */
 #include <dsdarc.h>
 #include <fcntl.h>
 #include <stdio.h>
+#include <stdlib.h>
 #include <unistd.h>
 
 enum { BLOCK = 65536, FRAMES = 65536 };
@@ -21,11 +24,12 @@ int main(int count, char **words) {
     dsdarc_info info = {0};
     size_t taken, given;
     ssize_t size;
+    size_t piece = count == 5 ? strtoul(words[4], NULL, 10) : BLOCK;
     int project, file, out;
-    if (count != 4 || (project = open(words[1], O_RDONLY)) < 0 || (file = open(words[2], O_RDONLY)) < 0) return 3;
+    if (count < 4 || count > 5 || piece == 0 || piece > BLOCK || (project = open(words[1], O_RDONLY)) < 0 || (file = open(words[2], O_RDONLY)) < 0) return 3;
     if ((out = open(words[3], O_WRONLY | O_CREAT | O_TRUNC, 0666)) < 0) return 3;
     if ((size = read(project, text, sizeof text)) < 0 || dsdarc_player_new(text, (size_t)size, &player)) return 1;
-    while ((size = read(file, bytes, BLOCK)) > 0)
+    while ((size = read(file, bytes, piece)) > 0)
         for (size_t at = 0; at < (size_t)size; at += taken) {
             if (dsdarc_player_push(player, bytes + at, (size_t)size - at, &taken)) return 1;
             if (info.width == 0) dsdarc_player_info(player, &info);

@@ -12,6 +12,10 @@
 # runs the program as a child, so that a signal leaves nothing behind, and ends this shell with its status. HUP, INT,
 # QUIT and TERM end the program too. What it was writing is then removed, and the shell ends by the same signal (status
 # 128 + n), so that whoever called it stops too.
+#
+# Where `play` has a rate and width in place of PROJECT, as 88200/24, and no file has this name, the program gets the
+# ready filter that plays IN to it. Of 88200/24,96000/24 this is the first that there is; with --plus6 it is the one that
+# is 6 dB louder. --plus6 and --explain may be anywhere behind `play` then. IN is looked at first, so it is no pipe.
 # shellcheck shell=sh
 
 print_usage() {
@@ -67,13 +71,151 @@ end_by() {
     kill -s "$1" $$
 }
 
+# Signals that end this shell end the program first.
+trap_signals() {
+    for child_name in HUP INT QUIT TERM; do
+        # shellcheck disable=SC2064
+        trap "end_by $child_name" "$child_name"
+    done
+}
+
 # A number below ten that no open file has. Standard input gets it too, for a shell gives a child in the background none.
 free_number() {
     child_input=9
     while [ -e "/dev/fd/$child_input" ] && [ "$child_input" -gt 3 ]; do child_input=$((child_input - 1)); done
 }
 
+# Whether a word is RATE/BITS, or several of these with commas between them.
+is_wish() {
+    wish_rest="$1,"
+    while [ -n "$wish_rest" ]; do
+        wish_rate="${wish_rest%%[/,]*}" wish_one="${wish_rest%%,*}" wish_rest="${wish_rest#*,}"
+        case "$wish_one" in
+            0* | *[!0-9/]* | */*/* | */0*) return 1 ;;
+            [1-9]*/[1-9] | [1-9]*/[1-9][0-9]) [ ${#wish_rate} -le 10 ] || return 1 ;;
+            *) return 1 ;;
+        esac
+    done
+}
+
+# Whether the words of a program play a file by a wish. It notes the place of the wish among them, the name of IN, and
+# the places of words that are no words of the program.
+plays_by_wish() {
+    play_in='' play_wish='' play_at=0 play_names=0 play_place=0 play_before=program play_louder='' play_explains=''
+    play_drops=' '
+    for play_word; do
+        play_place=$((play_place + 1))
+        case "$play_before $play_word" in
+            program\ *) play_before='' && continue ;;
+            --from\ * | --to\ *) play_before='' && continue ;;
+            " --from" | " --to") play_before="$play_word" && continue ;;
+            " --from="* | " --to="*) continue ;;
+            " --") play_before=names && continue ;;
+            " --plus6") play_louder=yes play_drops="$play_drops$play_place " && continue ;;
+            " --explain") play_explains=--explain play_drops="$play_drops$play_place " && continue ;;
+        esac
+        case "$play_names:$play_word" in
+            0:play) ;;
+            0:*) return 1 ;;
+            1:*) play_wish="$play_word" play_at="$play_place" ;;
+            2:*) play_in="$play_word" ;;
+        esac
+        play_names=$((play_names + 1))
+    done
+    [ "$play_names" -eq 4 ] && is_wish "$play_wish" && [ ! -e "$play_wish" ] && [ ! -L "$play_wish" ]
+}
+
+# Says why a file can't be played by a wish, in one line.
+no_filter() {
+    echo "dsdarc: $(printf '%s' "$play_in" | LC_ALL=C tr '[:cntrl:]' '?'): $*" >&2 || true
+    exit 2
+}
+
+# The rate in the first bytes of a DSF or DSDIFF file, if it is there.
+rate_in_head() {
+    od -An -v -tu1 -N4096 -- "$1" 2>/dev/null | awk '
+        BEGIN { for (i = 32; i < 127; i++) code[sprintf("%c", i)] = i }
+        { for (i = 1; i <= NF; i++) byte[size++] = $i }
+        function is(at, text,   i) {
+            for (i = 1; i <= 4; i++) if (byte[at + i - 1] != code[substr(text, i, 1)]) return 0
+            return at + 4 <= size
+        }
+        function number(at, count, step,   i, sum) {
+            for (i = 0; i < count; i++) sum = sum * 256 + byte[at + i * step]
+            return sum
+        }
+        END {
+            if (is(0, "DSD ") && is(28, "fmt ") && size >= 60) print number(59, 4, -1)
+            at = is(0, "FRM8") ? 16 : size
+            while (at + 16 <= size) {
+                if (is(at, "PROP") && is(at + 12, "SND ")) at += 16
+                else if (is(at, "FS  ")) { print number(at + 12, 4, 1); exit }
+                else { length_of = number(at + 4, 8, 1); at += 12 + length_of + length_of % 2 }
+            }
+        }'
+}
+
+# The name of the filter in an index that plays a rate to a wish, or why there is none, and status 1.
+filter_in() {
+    awk -v rate="$2" -v wishes="$3" -v louder="$4" '
+        function sorted(list, count,   i, j, it, text) {
+            for (i = 2; i <= count; i++)
+                for (j = i; j > 1 && list[j] + 0 < list[j - 1] + 0; j--) { it = list[j]; list[j] = list[j - 1]; list[j - 1] = it }
+            for (i = 1; i <= count; i++) text = text (i > 1 ? ", " : "") list[i]
+            return text
+        }
+        /^#/ || NF != 5 { next }
+        {
+            count = split($2, rates, ",")
+            for (i = 1; i <= count; i++) if (!(rates[i] in known)) { known[rates[i]]; all[++many] = rates[i] }
+            for (i = 1; i <= count; i++)
+                if (rates[i] == rate && ($5 > 0) == (louder != "")) { wish = rate / $3 "/" $4; name[wish] = $1; made[++there] = wish }
+        }
+        END {
+            count = split(wishes, wished, ",")
+            for (i = 1; i <= count; i++) if (wished[i] in name) { print name[wished[i]]; exit 0 }
+            gsub(",", " or ", wishes)
+            if (rate in known) print "no filter plays its " rate " Hz to " wishes "; there are " sorted(made, there)
+            else print "no filter plays its " rate " Hz; there are some for " sorted(all, many)
+            exit 1
+        }' "$1"
+}
+
+# Finds the filter by which a program plays a file to a wish, or ends this shell.
+find_filter() {
+    play_filters="$usage_folder/filters"
+    # A name - is standard input, whatever file has it.
+    if [ "$play_in" = - ] || [ -p "$play_in" ] || [ -c "$play_in" ]; then
+        [ "$play_in" != - ] || play_in="standard input"
+        no_filter "by a rate and width only a file can be played, as its own rate is looked at first;" \
+            "name a filter, as $play_filters/dsd64-to-88200-24.toml"
+    fi
+    play_rate="$(rate_in_head "$play_in")" || play_rate=
+    if [ -z "$play_rate" ]; then
+        # The program says what is wrong with it.
+        play_said="$("$1" ${play_explains:+"$play_explains"} info "$play_in")" || exit
+        play_rate="$(printf '%s\n' "$play_said" | sed -n 's/^rate //p')"
+    fi
+    if play_found="$(filter_in "$play_filters/index.txt" "$play_rate" "$play_wish" "$play_louder")"; then
+        play_filter="$play_filters/$play_found"
+    else
+        no_filter "${play_found:-there is no list of filters}"
+    fi
+}
+
 run_child() {
+    if plays_by_wish "$@"; then
+        find_filter "$1"
+        play_place=0
+        for play_word; do
+            shift
+            play_place=$((play_place + 1))
+            case "$play_drops" in *" $play_place "*) continue ;; esac
+            if [ "$play_place" -eq "$play_at" ]; then play_word="$play_filter"; fi
+            set -- "$@" "$play_word"
+            if [ "$play_place" -eq 1 ] && [ -n "$play_explains" ]; then set -- "$@" "$play_explains"; fi
+        done
+    fi
     child_status=0
     # A command writes the files that its last two names name, or one of them; the places of a part may follow them.
     child_first='' child_second='' child_before=''
@@ -84,10 +226,7 @@ run_child() {
         esac
         child_before="$child_name"
     done
-    for child_name in HUP INT QUIT TERM; do
-        # shellcheck disable=SC2064
-        trap "end_by $child_name" "$child_name"
-    done
+    trap_signals
     if [ -e /dev/fd/0 ]; then
         free_number
         eval "exec $child_input<&0"

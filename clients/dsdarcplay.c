@@ -3,7 +3,8 @@
  *     cc dsdarcplay.c $(pkg-config --cflags --libs dsdarc alsa) -o dsdarcplay
  *     dsdarcplay "$(filters/pick 88200/24 in.dsf)" in.dsf
  *
- * With -s each file is played from that second on. */
+ * With -s each file is played from that second on. A line warns of a filter that the index beside it lists for files of
+ * other rates. */
 #include <alsa/asoundlib.h>
 #include <dsdarc.h>
 #include <errno.h>
@@ -12,7 +13,7 @@
 #include <string.h>
 #include <unistd.h>
 
-enum { BLOCK = 65536, FRAMES = 4096 };
+enum { BLOCK = 65536, FRAMES = 4096, MOST_TEXT = 1 << 20, MOST_RATES = 16 };
 
 static int told(const char *name, const char *what) {
     fprintf(stderr, "dsdarcplay: %s: %s\n", name, what);
@@ -21,11 +22,28 @@ static int told(const char *name, const char *what) {
 
 static char *text_of(const char *name, size_t *size) {
     FILE *file = fopen(name, "rb");
-    char *text = malloc(1 << 20);
-    if (!file || !text) return NULL;
-    *size = fread(text, 1, 1 << 20, file);
-    fclose(file);
+    char *text = file ? malloc(MOST_TEXT) : NULL;
+    *size = text ? fread(text, 1, MOST_TEXT, file) : 0;
+    if (file) fclose(file);
     return text;
+}
+
+/* Warns of a filter that the index beside it lists for files of other rates. */
+static void warn_of_rate(const char *filter, const dsdarc_info *info, const char *name) {
+    const char *slash = strrchr(filter, '/'), *base = slash ? slash + 1 : filter;
+    uint32_t rates[MOST_RATES];
+    size_t size, count, known;
+    char path[4096], *index;
+    if (snprintf(path, sizeof path, "%.*sindex.txt", (int)(base - filter), filter) >= (int)sizeof path) return;
+    if (!(index = text_of(path, &size))) return;
+    if (dsdarc_filter_rates(index, size, base, rates, MOST_RATES, &count) == DSDARC_OK && count > 0) {
+        if (count > MOST_RATES) count = MOST_RATES;
+        for (known = 0; known < count && rates[known] != info->rate_in;) known++;
+        if (known == count)
+            fprintf(stderr, "dsdarcplay: %s: warning: the filter %s is for files of %u Hz, and this one has %u Hz\n", name,
+                    filter, rates[0], info->rate_in);
+    }
+    free(index);
 }
 
 /* Opens the device as soon as it is known what is played. */
@@ -36,13 +54,19 @@ static int open_device(snd_pcm_t **pcm, const char *device, const dsdarc_info *i
     return snd_pcm_set_params(*pcm, form, SND_PCM_ACCESS_RW_INTERLEAVED, info->channels, info->rate, 1, 500000);
 }
 
-static int play(const char *device, const char *text, size_t text_size, double from, const char *name) {
+/* The filter: the name of its file, and its text. */
+typedef struct filter {
+    const char *name, *text;
+    size_t size;
+} filter;
+
+static int play(const char *device, filter by, double from, const char *name) {
     static unsigned char bytes[BLOCK], frames[FRAMES * 6 * 3];
     FILE *file = fopen(name, "rb");
     snd_pcm_t *pcm = NULL;
     dsdarc_player *player = NULL;
     dsdarc_info info;
-    dsdarc_status status = dsdarc_player_new(text, text_size, &player);
+    dsdarc_status status = dsdarc_player_new(by.text, by.size, &player);
     size_t size, at, taken, given;
     int fault = 0;
     if (!file) return dsdarc_player_drop(player), told(name, "it can't be read");
@@ -51,6 +75,7 @@ static int play(const char *device, const char *text, size_t text_size, double f
             if ((status = dsdarc_player_push(player, bytes + at, size - at, &taken)) != DSDARC_OK) break;
             if (!pcm && dsdarc_player_info(player, &info) == DSDARC_OK) {
                 uint64_t offset;
+                warn_of_rate(by.name, &info, name);
                 if ((fault = open_device(&pcm, device, &info)) < 0) break;
                 if (from > 0) {
                     status = dsdarc_player_seek(player, (uint64_t)(from * info.rate), &offset);
@@ -91,7 +116,8 @@ int main(int count, char **words) {
         return 2;
     }
     if (!(text = text_of(words[optind], &size))) return told(words[optind], "it can't be read");
-    for (word = optind + 1; word < count; word++) failed |= play(device, text, size, from, words[word]);
+    for (word = optind + 1; word < count; word++)
+        failed |= play(device, (filter){words[optind], text, size}, from, words[word]);
     free(text);
     return failed;
 }

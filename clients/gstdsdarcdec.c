@@ -5,9 +5,10 @@
  *     GST_PLUGIN_PATH=. gst-play-1.0 in.dsf
  *
  * `filter` is a project text's path, or what to play to: RATE/BITS, or several with commas between them, the best first.
- * Without it that is what DSDARC_FILTER says, else 88200/24,96000/24. The ready filters are those of the installation
- * that the library belongs to, or stand where DSDARC_FILTERS says. A seek is answered by one in bytes of the element
- * before. */
+ * Without it that is what DSDARC_FILTER says, else 88200/24,96000/24. The ready filters are found by their index. They
+ * are those of the installation that the library belongs to, or in the folder that DSDARC_FILTERS names. A filter that
+ * the index beside it lists for files of other rates gives a warning. A seek is answered by one in bytes of the element
+ * before. After a stop before the end of the file, nothing is said about the file. */
 #define _GNU_SOURCE
 #include <dlfcn.h>
 #include <dsdarc.h>
@@ -16,22 +17,15 @@
 #include <string.h>
 
 #define PACKAGE "dsdarc"
+#define ORIGIN "urn:dsdarc"
 #define BEST "88200/24,96000/24"
-enum { FRAMES = 4096, FILTER = 1 };
+#define GST_CAT_DEFAULT dsdarcdec_debug
+enum { FRAMES = 4096, FILTER = 1, MOST_RATES = 16 };
+
+GST_DEBUG_CATEGORY_STATIC(dsdarcdec_debug);
 
 /* A filter that is loaded for nothing but the rate of a file. */
 static const char plain[] = "[decimate]\ntaps = [1]\nfactor = 8\ndelay = 0\nshift = 0\nwidth = 16\n";
-
-/* By which rates ready filters are named; they go by the ratio of rates. */
-static const struct {
-    guint32 rate, named_for;
-    const char *name;
-} rates[] = {{2822400, 2822400, "dsd64"},    {5644800, 5644800, "dsd128"},   {11289600, 11289600, "dsd256"},
-             {12288000, 11289600, "dsd256"}, {3072000, 3072000, "dsd3072"}, {6144000, 6144000, "dsd6144"}};
-
-/* Where three to six channels usually belong, as the library doesn't tell it and nothing mixes channels that belong
- * nowhere: left, right, centre; left, right and both behind; these with the centre, and with the low frequencies too. */
-static const guint64 masks[] = {0x07, 0x33, 0x37, 0x3f};
 
 typedef struct {
     GstElement element;
@@ -39,29 +33,35 @@ typedef struct {
     char *filter;
     dsdarc_player *scout, *player; /* the scout learns the rate, by which the filter is found */
     GByteArray *front;             /* what the scout was given */
+    guint64 place;                 /* the next byte of the file */
     dsdarc_info info;
+    guint32 mask;            /* the loudspeakers of the channels, if the file names them */
     gboolean told, dropping; /* what was sent before a seek is dropped */
+    gboolean stopped;        /* the element behind wants no more */
+    gboolean expects_end;    /* the end of a segment was reported: what ends then isn't the stream */
     GstSegment segment;
+    guint32 seek_number; /* of the events and messages that belong to the last seek */
+    gboolean keeps;      /* this seek flushes what comes before the element, and nothing behind it */
     guint64 frame, last; /* the next one, and the one at which the segment stops */
-} Dec;
+} DsdarcDec;
 typedef struct {
     GstElementClass parent;
-} DecClass;
-G_DEFINE_TYPE(Dec, dec, GST_TYPE_ELEMENT)
+} DsdarcDecClass;
+G_DEFINE_TYPE(DsdarcDec, dsdarc_dec, GST_TYPE_ELEMENT)
 
 static GstStaticPadTemplate sinks =
     GST_STATIC_PAD_TEMPLATE("sink", GST_PAD_SINK, GST_PAD_ALWAYS, GST_STATIC_CAPS("audio/x-dsf; audio/x-dff"));
 static GstStaticPadTemplate srcs = GST_STATIC_PAD_TEMPLATE("src", GST_PAD_SRC, GST_PAD_ALWAYS, GST_STATIC_CAPS("audio/x-raw"));
 
-static GstFlowReturn refused(Dec *dec, dsdarc_status status) {
+static GstFlowReturn refused(DsdarcDec *dec, dsdarc_status status) {
     GST_ELEMENT_ERROR(dec, STREAM, DECODE, ("%s", dsdarc_status_text(status)), (NULL));
     return GST_FLOW_ERROR;
 }
 
-static GstClockTime time_of(Dec *dec, guint64 frame) { return gst_util_uint64_scale(frame, GST_SECOND, dec->info.rate); }
+static GstClockTime time_of(DsdarcDec *dec, guint64 frame) { return gst_util_uint64_scale(frame, GST_SECOND, dec->info.rate); }
 
 /* The frame that begins at a time. Times are whole nanoseconds, and may be a little before it. */
-static guint64 frame_at(Dec *dec, GstClockTime time) { return gst_util_uint64_scale_round(time, dec->info.rate, GST_SECOND); }
+static guint64 frame_at(DsdarcDec *dec, GstClockTime time) { return gst_util_uint64_scale_round(time, dec->info.rate, GST_SECOND); }
 
 /* The folder of the ready filters. */
 static char *filters(void) {
@@ -76,32 +76,53 @@ static char *filters(void) {
     return folder;
 }
 
+/* The index in the folder of a filter; it has no byte if there is none. */
+static char *index_in(const char *folder, gsize *size) {
+    char *path = g_build_filename(folder, "index.txt", NULL), *index = NULL;
+    if (!g_file_get_contents(path, &index, size, NULL)) *size = 0;
+    g_free(path);
+    return index;
+}
+
 /* The path of the filter for a file of a rate, or NULL. */
-static char *path_for(Dec *dec, guint32 rate) {
+static char *path_for(DsdarcDec *dec, guint32 rate) {
     const char *said = dec->filter ? dec->filter : g_getenv("DSDARC_FILTER");
     gchar **wishes = g_strsplit(said ? said : BEST, ",", 0);
-    char *path = NULL, *folder = filters();
+    gsize size;
+    char *path = NULL, *folder = filters(), *index = index_in(folder, &size);
     for (gsize number = 0; wishes[number] && !path; number++) {
-        guint out, bits;
-        char more;
-        if (sscanf(wishes[number], "%9u/%2u%c", &out, &bits, &more) != 2) {
+        dsdarc_wish wish = {.rate_in = rate};
+        char name[4096], more;
+        if (sscanf(wishes[number], "%9u/%2u%c", &wish.rate, &wish.width, &more) != 2)
             path = g_strdup(wishes[number]);
-            break;
-        }
-        for (gsize row = 0; row < G_N_ELEMENTS(rates) && !path; row++)
-            if (rates[row].rate == rate && (guint64)out * rates[row].named_for % rate == 0) {
-                path = g_strdup_printf("%s/%s-to-%u-%u.toml", folder, rates[row].name,
-                                       (guint)((guint64)out * rates[row].named_for / rate), bits);
-                if (!g_file_test(path, G_FILE_TEST_EXISTS)) g_clear_pointer(&path, g_free);
-            }
+        else if (dsdarc_filter_find(index, size, &wish, name, sizeof name) == DSDARC_OK)
+            path = g_build_filename(folder, name, NULL);
     }
     g_strfreev(wishes);
+    g_free(index);
     g_free(folder);
     return path;
 }
 
+/* Warns of a filter that the index beside it lists for files of other rates. */
+static void warn_of_rate(DsdarcDec *dec, const char *path, guint32 rate) {
+    char *folder = g_path_get_dirname(path), *name = g_path_get_basename(path);
+    guint32 rates[MOST_RATES];
+    gsize size, count, known;
+    char *index = index_in(folder, &size);
+    if (dsdarc_filter_rates(index, size, name, rates, MOST_RATES, &count) == DSDARC_OK && count > 0) {
+        for (known = 0; known < MIN(count, MOST_RATES) && rates[known] != rate;) known++;
+        if (known == MIN(count, MOST_RATES))
+            GST_ELEMENT_WARNING(dec, STREAM, FORMAT,
+                                ("the filter %s is for files of %u Hz, and this one has %u Hz", path, rates[0], rate), (NULL));
+    }
+    g_free(index);
+    g_free(name);
+    g_free(folder);
+}
+
 /* Makes the player by the filter for a file of a rate. */
-static GstFlowReturn begin(Dec *dec, guint32 rate) {
+static GstFlowReturn begin(DsdarcDec *dec, guint32 rate) {
     char *path = path_for(dec, rate), *text = NULL;
     gsize size = 0;
     dsdarc_status status = DSDARC_OK;
@@ -114,6 +135,9 @@ static GstFlowReturn begin(Dec *dec, guint32 rate) {
         flow = GST_FLOW_ERROR;
     } else if ((status = dsdarc_player_new(text, size, &dec->player)) != DSDARC_OK) {
         flow = refused(dec, status);
+    } else {
+        GST_DEBUG_OBJECT(dec, "a file of %u Hz, by %s", rate, path);
+        warn_of_rate(dec, path, rate);
     }
     g_free(text);
     g_free(path);
@@ -121,12 +145,13 @@ static GstFlowReturn begin(Dec *dec, guint32 rate) {
 }
 
 /* Tells what follows, once it is known. */
-static void tell(Dec *dec) {
+static void tell(DsdarcDec *dec) {
     GstCaps *caps = gst_caps_new_simple("audio/x-raw", "format", G_TYPE_STRING, dec->info.width == 16 ? "S16LE" : "S24LE",
                                         "rate", G_TYPE_INT, (int)dec->info.rate, "channels", G_TYPE_INT,
                                         (int)dec->info.channels, "layout", G_TYPE_STRING, "interleaved", NULL);
-    if (dec->info.channels > 2)
-        gst_caps_set_simple(caps, "channel-mask", GST_TYPE_BITMASK, masks[dec->info.channels - 3], NULL);
+    /* More than two channels have a mask always: 0 says that they belong to no loudspeakers. */
+    if (dec->info.channels > 2 || (dec->info.channels == 2 && dec->mask != 0))
+        gst_caps_set_simple(caps, "channel-mask", GST_TYPE_BITMASK, (guint64)dec->mask, NULL);
     gst_pad_push_event(dec->src, gst_event_new_caps(caps));
     gst_caps_unref(caps);
     dec->last = dec->info.frames;
@@ -135,14 +160,34 @@ static void tell(Dec *dec) {
     dec->told = TRUE;
 }
 
-static GstFlowReturn give(Dec *dec) {
+/* Reports that a segment was given whole, for which the application waits instead of the end of the stream. */
+static void answer(DsdarcDec *dec) {
+    gint64 stop = (gint64)(dec->segment.stop == GST_CLOCK_TIME_NONE ? dec->segment.duration : dec->segment.stop);
+    GstMessage *message = gst_message_new_segment_done(GST_OBJECT(dec), GST_FORMAT_TIME, stop);
+    GstEvent *event = gst_event_new_segment_done(GST_FORMAT_TIME, stop);
+    gst_message_set_seqnum(message, dec->seek_number);
+    gst_event_set_seqnum(event, dec->seek_number);
+    gst_element_post_message(GST_ELEMENT(dec), message);
+    gst_pad_push_event(dec->src, event);
+}
+
+static gboolean is_segment(DsdarcDec *dec) { return dec->told && (dec->segment.flags & GST_SEGMENT_FLAG_SEGMENT); }
+
+/* All frames were given. At the end of the sound the rest of the file is still looked at. */
+static GstFlowReturn all_given(DsdarcDec *dec) {
+    if (dec->last == dec->info.frames) return GST_FLOW_OK;
+    if (is_segment(dec) && !dec->expects_end) answer(dec), dec->expects_end = TRUE;
+    return GST_FLOW_EOS;
+}
+
+static GstFlowReturn give(DsdarcDec *dec) {
     gsize frame = (gsize)dec->info.width / 8 * dec->info.channels, given;
     for (;;) {
         guint64 left = dec->last - dec->frame;
         GstBuffer *buffer;
         GstMapInfo map;
         GstFlowReturn flow;
-        if (left == 0) return dec->last < dec->info.frames ? GST_FLOW_EOS : GST_FLOW_OK;
+        if (left == 0) return all_given(dec);
         buffer = gst_buffer_new_allocate(NULL, FRAMES * frame, NULL);
         gst_buffer_map(buffer, &map, GST_MAP_WRITE);
         dsdarc_player_pull(dec->player, map.data, left < FRAMES ? (gsize)left : FRAMES, DSDARC_PACKED, &given);
@@ -152,16 +197,19 @@ static GstFlowReturn give(Dec *dec) {
         GST_BUFFER_PTS(buffer) = time_of(dec, dec->frame);
         GST_BUFFER_DURATION(buffer) = time_of(dec, dec->frame + given) - GST_BUFFER_PTS(buffer);
         dec->frame += given;
-        if ((flow = gst_pad_push(dec->src, buffer)) != GST_FLOW_OK) return flow;
+        flow = gst_pad_push(dec->src, buffer);
+        if (flow == GST_FLOW_EOS) dec->stopped = TRUE;
+        if (flow != GST_FLOW_OK) return flow;
     }
 }
 
-static GstFlowReturn push(Dec *dec, const guint8 *bytes, gsize size) {
+static GstFlowReturn push(DsdarcDec *dec, const guint8 *bytes, gsize size) {
     GstFlowReturn flow = GST_FLOW_OK;
     gsize taken;
     for (gsize at = 0; at < size && flow == GST_FLOW_OK; at += taken) {
         dsdarc_status status = dsdarc_player_push(dec->player, bytes + at, size - at, &taken);
         if (status != DSDARC_OK) return refused(dec, status);
+        dec->place += taken;
         if (!dec->told && dsdarc_player_info(dec->player, &dec->info) == DSDARC_OK) tell(dec);
         if (dec->told) flow = give(dec);
     }
@@ -169,7 +217,7 @@ static GstFlowReturn push(Dec *dec, const guint8 *bytes, gsize size) {
 }
 
 /* Lets the scout take bytes until it knows the rate, and then begins with what it took: *taken says how many. */
-static GstFlowReturn look(Dec *dec, const guint8 *bytes, gsize size, gsize *taken) {
+static GstFlowReturn look(DsdarcDec *dec, const guint8 *bytes, gsize size, gsize *taken) {
     GstFlowReturn flow = GST_FLOW_OK;
     dsdarc_status status = DSDARC_OK;
     dsdarc_info info;
@@ -180,20 +228,21 @@ static GstFlowReturn look(Dec *dec, const guint8 *bytes, gsize size, gsize *take
         g_byte_array_append(dec->front, bytes + *taken, (guint)count);
         if (dsdarc_player_info(dec->scout, &info) == DSDARC_OK) {
             *taken += count;
-            if ((flow = begin(dec, info.rate_in)) == GST_FLOW_OK) flow = push(dec, dec->front->data, dec->front->len);
-            return flow;
+            if ((flow = begin(dec, info.rate_in)) != GST_FLOW_OK) return flow;
+            dsdarc_channel_mask(dec->front->data, dec->front->len, &dec->mask);
+            return push(dec, dec->front->data, dec->front->len);
         }
     }
     return status == DSDARC_OK ? flow : refused(dec, status);
 }
 
 static GstFlowReturn chain(GstPad *pad, GstObject *parent, GstBuffer *buffer) {
-    Dec *dec = (Dec *)parent;
+    DsdarcDec *dec = (DsdarcDec *)parent;
     GstFlowReturn flow = GST_FLOW_OK;
     GstMapInfo map;
     gsize at = 0;
     (void)pad;
-    if (dec->dropping) return gst_buffer_unref(buffer), GST_FLOW_FLUSHING;
+    if (dec->dropping) return gst_buffer_unref(buffer), GST_FLOW_OK;
     gst_buffer_map(buffer, &map, GST_MAP_READ);
     if (!dec->player) flow = look(dec, map.data, map.size, &at);
     if (flow == GST_FLOW_OK && dec->player) flow = push(dec, map.data + at, map.size - at);
@@ -202,31 +251,72 @@ static GstFlowReturn chain(GstPad *pad, GstObject *parent, GstBuffer *buffer) {
     return flow;
 }
 
-/* Whether the file holds a recording; where a segment stops before its end, that isn't known. */
-static void end(Dec *dec) {
+/* Whether the stream ends with the file, and neither by the element behind nor by the application. */
+static gboolean is_at_end(DsdarcDec *dec, GstEvent *event) {
+    guint64 place = dec->player ? dec->place : dec->front->len;
+    GstEvent *segment;
+    gint64 size;
+    gboolean is_own = FALSE;
+    if (dec->stopped || (dec->told && dec->frame == dec->last && dec->last < dec->info.frames)) return FALSE;
+    if (gst_pad_peer_query_duration(dec->sink, GST_FORMAT_BYTES, &size) && size >= 0) return place >= (guint64)size;
+    /* The element before doesn't know the size: an end of the application has a number of its own. */
+    if ((segment = gst_pad_get_sticky_event(dec->sink, GST_EVENT_SEGMENT, 0))) {
+        is_own = gst_event_get_seqnum(segment) == gst_event_get_seqnum(event);
+        gst_event_unref(segment);
+    }
+    return is_own;
+}
+
+/* Whether the file holds a recording. */
+static gboolean is_whole(DsdarcDec *dec) {
     dsdarc_player *player = dec->player ? dec->player : dec->scout;
     dsdarc_status status = player ? dsdarc_player_end(player) : DSDARC_FILE_REFUSED;
     if (status != DSDARC_OK) refused(dec, status);
+    return status == DSDARC_OK;
+}
+
+/* Passes on the end of the stream, but for one that only follows from a segment or from what is dropped. */
+static gboolean end_of_stream(GstPad *pad, DsdarcDec *dec, GstEvent *event) {
+    gboolean is_hidden = dec->dropping || dec->expects_end;
+    dec->expects_end = FALSE;
+    if (!is_hidden && is_at_end(dec, event) && is_whole(dec) && is_segment(dec)) answer(dec), is_hidden = TRUE;
+    if (!is_hidden) return gst_pad_event_default(pad, GST_OBJECT(dec), event);
+    gst_event_unref(event);
+    return TRUE;
 }
 
 static gboolean sink_event(GstPad *pad, GstObject *parent, GstEvent *event) {
-    Dec *dec = (Dec *)parent;
-    if (GST_EVENT_TYPE(event) == GST_EVENT_CAPS || GST_EVENT_TYPE(event) == GST_EVENT_SEGMENT) {
-        if (GST_EVENT_TYPE(event) == GST_EVENT_SEGMENT && dec->told) {
-            GstEvent *own = gst_event_new_segment(&dec->segment);
-            gst_event_set_seqnum(own, gst_event_get_seqnum(event));
+    DsdarcDec *dec = (DsdarcDec *)parent;
+    guint32 number = gst_event_get_seqnum(event);
+    GstEvent *own;
+    switch (GST_EVENT_TYPE(event)) {
+    case GST_EVENT_SEGMENT:
+        if (dec->told && !dec->dropping) {
+            own = gst_event_new_segment(&dec->segment);
+            gst_event_set_seqnum(own, number);
             gst_pad_push_event(dec->src, own);
         }
         gst_event_unref(event);
         return TRUE;
+    case GST_EVENT_CAPS:
+        gst_event_unref(event);
+        return TRUE;
+    case GST_EVENT_EOS:
+        return end_of_stream(pad, dec, event);
+    case GST_EVENT_FLUSH_STOP:
+        dec->dropping = FALSE;
+        /* fall through */
+    case GST_EVENT_FLUSH_START:
+        if (!dec->keeps || number != dec->seek_number) return gst_pad_event_default(pad, parent, event);
+        gst_event_unref(event);
+        return TRUE;
+    default:
+        return gst_pad_event_default(pad, parent, event);
     }
-    if (GST_EVENT_TYPE(event) == GST_EVENT_FLUSH_STOP) dec->dropping = FALSE;
-    if (GST_EVENT_TYPE(event) == GST_EVENT_EOS && (!dec->told || dec->last == dec->info.frames)) end(dec);
-    return gst_pad_event_default(pad, parent, event);
 }
 
 /* Whether the element before can go to a byte. */
-static gboolean is_seekable(Dec *dec) {
+static gboolean is_seekable(DsdarcDec *dec) {
     GstQuery *query = gst_query_new_seeking(GST_FORMAT_BYTES);
     gboolean is_able = FALSE;
     if (gst_pad_peer_query(dec->sink, query)) gst_query_parse_seeking(query, NULL, &is_able, NULL, NULL);
@@ -234,55 +324,87 @@ static gboolean is_seekable(Dec *dec) {
     return is_able;
 }
 
-static gboolean seek(Dec *dec, GstEvent *event) {
+/* The segment of a seek from where the player is now, and the frame with which it begins. */
+static gboolean sought(DsdarcDec *dec, GstEvent *event, GstSegment *segment, guint64 *frame) {
     gdouble rate;
     GstFormat format;
     GstSeekFlags flags;
     GstSeekType type, stop_type;
-    GstSegment segment = dec->segment;
-    GstEvent *flush, *before;
     gint64 start, stop;
+    gst_event_parse_seek(event, &rate, &format, &flags, &type, &start, &stop_type, &stop);
+    if (!dec->told || format != GST_FORMAT_TIME || rate != 1.0) return FALSE;
+    *segment = dec->segment;
+    segment->position = time_of(dec, dec->frame);
+    if (!gst_segment_do_seek(segment, rate, format, flags, type, start, stop_type, stop, NULL)) return FALSE;
+    if ((*frame = frame_at(dec, segment->position)) > dec->info.frames) return FALSE;
+    segment->start = segment->time = segment->position = time_of(dec, *frame);
+    return TRUE;
+}
+
+/* Has the player go to a seek's frame: *offset is the byte from which on the file is pushed then. */
+static dsdarc_status go_to(DsdarcDec *dec, GstEvent *event, guint64 *offset) {
+    GstSegment segment;
+    guint64 frame;
+    dsdarc_status status;
+    if (!sought(dec, event, &segment, &frame)) return DSDARC_BEHIND_END;
+    if ((status = dsdarc_player_seek(dec->player, frame, offset)) != DSDARC_OK) return status;
+    dec->segment = segment;
+    dec->seek_number = gst_event_get_seqnum(event);
+    dec->frame = frame;
+    dec->last = segment.stop == GST_CLOCK_TIME_NONE ? dec->info.frames : frame_at(dec, segment.stop);
+    dec->last = CLAMP(dec->last, frame, dec->info.frames);
+    dec->place = *offset;
+    dec->keeps = !(segment.flags & GST_SEGMENT_FLAG_RESET);
+    dec->dropping = TRUE;
+    dec->stopped = dec->expects_end = FALSE;
+    return DSDARC_OK;
+}
+
+static void send_with_number(DsdarcDec *dec, GstEvent *event, guint32 number) {
+    gst_event_set_seqnum(event, number);
+    gst_pad_push_event(dec->src, event);
+}
+
+static gboolean seek(DsdarcDec *dec, GstEvent *event) {
+    GstSeekFlags flags;
+    GstSegment segment;
+    GstEvent *before;
     guint64 frame, offset = 0;
     dsdarc_status status;
     guint32 number = gst_event_get_seqnum(event);
-    gst_event_parse_seek(event, &rate, &format, &flags, &type, &start, &stop_type, &stop);
-    if (!dec->told || format != GST_FORMAT_TIME || rate != 1.0 || !(flags & GST_SEEK_FLAG_FLUSH)) return FALSE;
-    if (!is_seekable(dec)) return FALSE;
-    segment.position = time_of(dec, dec->frame);
-    if (!gst_segment_do_seek(&segment, rate, format, flags, type, start, stop_type, stop, NULL)) return FALSE;
-    if ((frame = frame_at(dec, segment.position)) > dec->info.frames) return FALSE;
-    segment.start = segment.time = segment.position = time_of(dec, frame);
-    /* What is under way is flushed first, and what was sent before the seek is dropped: the player wants other bytes. */
-    flush = gst_event_new_flush_start();
-    gst_event_set_seqnum(flush, number);
-    gst_pad_push_event(dec->src, flush);
+    gst_event_parse_seek(event, NULL, NULL, &flags, NULL, NULL, NULL, NULL);
+    if (!sought(dec, event, &segment, &frame) || !is_seekable(dec)) return FALSE;
+    /* What is under way is flushed first, or else played to its end. What was sent before the seek is dropped: the
+     * player wants other bytes. */
+    if (flags & GST_SEEK_FLAG_FLUSH) send_with_number(dec, gst_event_new_flush_start(), number);
     GST_PAD_STREAM_LOCK(dec->sink);
-    if ((status = dsdarc_player_seek(dec->player, frame, &offset)) == DSDARC_OK) {
-        dec->dropping = TRUE;
-        dec->segment = segment;
-        dec->frame = frame;
-        dec->last = segment.stop == GST_CLOCK_TIME_NONE ? dec->info.frames : frame_at(dec, segment.stop);
-        dec->last = CLAMP(dec->last, frame, dec->info.frames);
-    }
+    status = go_to(dec, event, &offset);
     GST_PAD_STREAM_UNLOCK(dec->sink);
-    before = gst_event_new_seek(1.0, GST_FORMAT_BYTES, flags, GST_SEEK_TYPE_SET, (gint64)offset, GST_SEEK_TYPE_NONE, -1);
+    if (status != DSDARC_OK) return refused(dec, status), FALSE;
+    if (is_segment(dec)) {
+        GstMessage *start = gst_message_new_segment_start(GST_OBJECT(dec), GST_FORMAT_TIME, (gint64)dec->segment.start);
+        gst_message_set_seqnum(start, number);
+        gst_element_post_message(GST_ELEMENT(dec), start);
+    }
+    /* The element before may have come to its end, from which only a flush brings it back. */
+    before = gst_event_new_seek(1.0, GST_FORMAT_BYTES, GST_SEEK_FLAG_FLUSH, GST_SEEK_TYPE_SET, (gint64)offset,
+                                GST_SEEK_TYPE_NONE, -1);
     gst_event_set_seqnum(before, number);
-    if (status == DSDARC_OK && gst_pad_push_event(dec->sink, before)) return TRUE;
-    if (status != DSDARC_OK) gst_event_unref(before);
-    refused(dec, status == DSDARC_OK ? DSDARC_NOT_YET : status);
+    if (gst_pad_push_event(dec->sink, before)) return TRUE;
+    refused(dec, DSDARC_NOT_YET);
     return FALSE;
 }
 
 static gboolean src_event(GstPad *pad, GstObject *parent, GstEvent *event) {
     gboolean is_done;
     if (GST_EVENT_TYPE(event) != GST_EVENT_SEEK) return gst_pad_event_default(pad, parent, event);
-    is_done = seek((Dec *)parent, event);
+    is_done = seek((DsdarcDec *)parent, event);
     gst_event_unref(event);
     return is_done;
 }
 
 static gboolean src_query(GstPad *pad, GstObject *parent, GstQuery *query) {
-    Dec *dec = (Dec *)parent;
+    DsdarcDec *dec = (DsdarcDec *)parent;
     GstFormat format;
     if (!dec->told) return gst_pad_query_default(pad, parent, query);
     switch (GST_QUERY_TYPE(query)) {
@@ -307,34 +429,36 @@ static gboolean src_query(GstPad *pad, GstObject *parent, GstQuery *query) {
 }
 
 /* As before the first byte of a file. */
-static void reset(Dec *dec) {
+static void reset(DsdarcDec *dec) {
     dsdarc_player_drop(dec->player), dec->player = NULL;
     dsdarc_player_drop(dec->scout), dec->scout = NULL;
     g_byte_array_set_size(dec->front, 0);
     gst_segment_init(&dec->segment, GST_FORMAT_TIME);
-    dec->told = dec->dropping = FALSE;
-    dec->frame = dec->last = 0;
+    dec->told = dec->dropping = dec->stopped = dec->expects_end = dec->keeps = FALSE;
+    dec->frame = dec->last = dec->place = 0;
+    dec->mask = 0;
+    dec->seek_number = GST_SEQNUM_INVALID;
 }
 
 static GstStateChangeReturn change_state(GstElement *element, GstStateChange change) {
-    GstStateChangeReturn done = GST_ELEMENT_CLASS(dec_parent_class)->change_state(element, change);
-    if (change == GST_STATE_CHANGE_PAUSED_TO_READY) reset((Dec *)element);
+    GstStateChangeReturn done = GST_ELEMENT_CLASS(dsdarc_dec_parent_class)->change_state(element, change);
+    if (change == GST_STATE_CHANGE_PAUSED_TO_READY) reset((DsdarcDec *)element);
     return done;
 }
 
 static void set(GObject *object, guint id, const GValue *value, GParamSpec *spec) {
     (void)spec;
-    if (id == FILTER) g_free(((Dec *)object)->filter), ((Dec *)object)->filter = g_value_dup_string(value);
+    if (id == FILTER) g_free(((DsdarcDec *)object)->filter), ((DsdarcDec *)object)->filter = g_value_dup_string(value);
 }
 
 static void finalize(GObject *object) {
-    reset((Dec *)object);
-    g_byte_array_unref(((Dec *)object)->front);
-    g_free(((Dec *)object)->filter);
-    G_OBJECT_CLASS(dec_parent_class)->finalize(object);
+    reset((DsdarcDec *)object);
+    g_byte_array_unref(((DsdarcDec *)object)->front);
+    g_free(((DsdarcDec *)object)->filter);
+    G_OBJECT_CLASS(dsdarc_dec_parent_class)->finalize(object);
 }
 
-static void dec_class_init(DecClass *class) {
+static void dsdarc_dec_class_init(DsdarcDecClass *class) {
     GstElementClass *element = GST_ELEMENT_CLASS(class);
     G_OBJECT_CLASS(class)->set_property = set;
     G_OBJECT_CLASS(class)->finalize = finalize;
@@ -347,7 +471,7 @@ static void dec_class_init(DecClass *class) {
     gst_element_class_set_static_metadata(element, "dsdarc", "Codec/Decoder/Audio", "decimates DSDIFF and DSF files", "dsdarc");
 }
 
-static void dec_init(Dec *dec) {
+static void dsdarc_dec_init(DsdarcDec *dec) {
     dec->front = g_byte_array_new();
     dec->sink = gst_pad_new_from_static_template(&sinks, "sink");
     dec->src = gst_pad_new_from_static_template(&srcs, "src");
@@ -371,11 +495,13 @@ static void find(GstTypeFind *file, gpointer data) {
 
 static gboolean init(GstPlugin *plugin) {
     GstCaps *caps = gst_static_pad_template_get_caps(&sinks);
-    gboolean is_done = gst_type_find_register(plugin, "dsdarcfind", GST_RANK_PRIMARY, find, "dsf,dff", caps, NULL, NULL) &&
-                       gst_element_register(plugin, "dsdarcdec", GST_RANK_PRIMARY, dec_get_type());
+    gboolean is_done;
+    GST_DEBUG_CATEGORY_INIT(dsdarcdec_debug, "dsdarcdec", 0, "frames of DSDIFF and DSF files");
+    is_done = gst_type_find_register(plugin, "dsdarcfind", GST_RANK_PRIMARY, find, "dsf,dff", caps, NULL, NULL) &&
+              gst_element_register(plugin, "dsdarcdec", GST_RANK_PRIMARY, dsdarc_dec_get_type());
     gst_caps_unref(caps);
     return is_done;
 }
 
 GST_PLUGIN_DEFINE(GST_VERSION_MAJOR, GST_VERSION_MINOR, dsdarc, "decimates DSDIFF and DSF files", init, "0.1.0", "MIT/X11",
-                  "dsdarc", "https://example.org/")
+                  "dsdarc", ORIGIN)

@@ -1,6 +1,7 @@
 # Completes the words of dsdarc in bash: its commands, the names of forms, and files by what a command reads. Where a
-# filter is named, the ready ones are found by the fronts of their names too. bin/install installs this as
-# share/bash-completion/completions/dsdarc; from a clone it is read by `source completions/dsdarc.bash`.
+# filter is named, the ready ones are found by the fronts of their names too, and rates and widths by their first
+# figures. bin/install installs this as share/bash-completion/completions/dsdarc; from a clone it is read by
+# `source completions/dsdarc.bash`. The commands of scripts, as dsdarc-fade, have bash's own completion of files.
 # shellcheck shell=bash
 
 # The folder of the ready filters, in the clone or the installation that this file belongs to.
@@ -36,8 +37,19 @@ _dsdarc_stream() {
     esac
 }
 
+# Adds the rates and widths that the index of the ready filters has.
+_dsdarc_wishes() {
+    local rates factor width rate
+    while read -r _ rates factor width _; do
+        for rate in ${rates//,/ }; do printf '%s\n' "$((rate / factor))/$width"; done
+    done < <(grep -v '^#' "$_dsdarc_filters/index.txt" 2>/dev/null) | sort -u
+}
+
 _dsdarc_project() {
     local path
+    if [ "$1" = play ]; then
+        case "$cur" in [1-9]*) _dsdarc_words "$(_dsdarc_wishes)" ;; esac
+    fi
     _dsdarc_files '[tT][oO][mM][lL]'
     if [ "$1" = play ] && [ -n "$_dsdarc_filters" ]; then
         for path in "$_dsdarc_filters/$cur"*.toml; do
@@ -68,12 +80,13 @@ _dsdarc() {
     local next=$((first + 1)) width
     if [ "$command" = play ]; then
         while [ "$next" -lt "$COMP_CWORD" ]; do
+            width=2
             case "${COMP_WORDS[next]}" in
                 --from | --to) ;;
+                --plus6) width=1 ;;
                 *) break ;;
             esac
-            width=2
-            if [ "${COMP_WORDS[next + 1]-}" = @ ]; then width=3; fi
+            if [ "$width" -eq 2 ] && [ "${COMP_WORDS[next + 1]-}" = @ ]; then width=3; fi
             while [ "${COMP_WORDS[next + width]-}" = : ]; do width=$((width + 2)); done
             next=$((next + width)) place=$((place - width))
         done
@@ -84,7 +97,7 @@ _dsdarc() {
         case "$cur" in
             --*)
                 compopt +o filenames +o default 2>/dev/null
-                _dsdarc_words --from --to
+                _dsdarc_words --from --to --plus6
                 return
                 ;;
         esac

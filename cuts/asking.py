@@ -1,8 +1,11 @@
 """What the scripts that change projects are asked for, and what they do alike."""
 import argparse
 import os
+import sys
+from collections.abc import Callable, Iterator
 from pathlib import Path
 
+import planned
 from outputs import Refused
 from projects import Project
 
@@ -13,6 +16,8 @@ def usual(words: argparse.ArgumentParser) -> None:
     words.add_argument("-o", "--output", type=Path, required=True, metavar="NEW")
     words.add_argument("--take", type=Path, metavar="FILE", help="the take of seams, DSDIFF (NEW.seams.dff)")
     words.add_argument("--cut", type=int, nargs="+", metavar="N", help="these cuts alone, counted from 0")
+    going = "leave the cuts that are refused as they are; the status is 1 then"
+    words.add_argument("--keep-going", action="store_true", help=going)
 
 
 def parsed(words: argparse.ArgumentParser) -> argparse.Namespace:
@@ -44,6 +49,20 @@ def cuts_of(project: Project, wished: list[int] | None, staying: set[str], what:
     if not found:
         raise Refused(f"there is no cut to {what}")
     return found
+
+
+def tried(project: Project, cuts: list[int], make: Callable[[int], None], keeps_going: bool) -> Iterator[int]:
+    """Makes each cut, or leaves it as it was and prints why; yields the numbers of those that are made."""
+    for number in cuts:
+        try:
+            make(number)
+        except Refused as error:
+            if not keeps_going:
+                raise Refused(f"cut {number}: {error}; --keep-going leaves it as it is") from None
+            print(f"{planned.script()}: cut {number}: {error}; it stays as it was", file=sys.stderr)
+        else:
+            yield number
+    end_with_a_byte(project)
 
 
 def end_with_a_byte(project: Project) -> None:

@@ -35,16 +35,21 @@ def powers(take) -> np.ndarray:
     return found / (3 * count * np.sum(window**2))
 
 
-def least(rate: int, row: np.ndarray) -> float:
-    """The frequency (Hz) above the audio band at which a power spectrum is least."""
+def least(rate: int, row: np.ndarray) -> float | None:
+    """The frequency (Hz) above the audio band at which a power spectrum is least; none if there is nothing there at
+    all, as in digital silence."""
     hertz = np.linspace(0, rate / 2, len(row))
     smooth = np.convolve(np.log(row + SILENT), np.ones(SMOOTHED), "same")
     inside = (hertz >= LOWEST) & (hertz <= HIGHEST * rate)
-    return float(hertz[inside][smooth[inside].argmin()])
+    lowest = int(smooth[inside].argmin())
+    is_nothing = smooth[inside][lowest] < SMOOTHED * np.log(2 * SILENT)
+    return None if is_nothing else float(hertz[inside][lowest])
 
 
-def band_at(hertz: float) -> Band:
-    """The band whose end is nearest to a frequency."""
+def band_at(hertz: float | None) -> Band:
+    """The band whose end is nearest to a frequency, or the usual one."""
+    if hertz is None:
+        return USUAL
     return min(BANDS, key=lambda it: abs(np.log(sum(it) / 2 / hertz)))
 
 

@@ -26,6 +26,12 @@ def targets(weights: list[int], before: np.ndarray, after: np.ndarray, length: i
     return np.concatenate([fade, (length + 1) * second[:, length:]], axis=1)
 
 
+def line(ends: list[int], more: int, length: int) -> np.ndarray:
+    """The targets of a line, as one row: at the bridge's places, and at so many behind it."""
+    rising = np.minimum(np.arange(1, length + more + 1), length + 1)
+    return ((length + 1 - rising) * ends[0] + rising * ends[1])[None]
+
+
 def states_of(signs: np.ndarray) -> np.ndarray:
     """The state that each row of signs ends in, the newest bit the lowest digit."""
     return (signs > 0) @ (1 << np.arange(signs.shape[1])[::-1])
@@ -51,13 +57,18 @@ def first_of_least(costs: np.ndarray, bits: int) -> np.ndarray:
     return order[costs[:, order].argmin(axis=1)]
 
 
-def least(weights: list[int], before: np.ndarray, after: np.ndarray, length: int) -> np.ndarray:
-    """The signs of the least bridges, a row for each cut; rows before and after as for `targets`."""
+def least(
+    weights: list[int], before: np.ndarray, after: np.ndarray, length: int, line_ends: list[int] | None = None
+) -> np.ndarray:
+    """The signs of the least bridges, a row for each cut; rows before and after as for `targets`. Bridges fade, or go in
+    a line with these ends."""
     more, count = len(weights) - 1, 1 << (len(weights) - 1)
     codes = np.arange(2 * count)
     digits = (codes[:, None] >> np.arange(more + 1) & 1) * 2 - 1
     sums = (length + 1) * (digits @ np.array(weights, np.int64))
     wished = targets(weights, before, after, length)
+    if line_ends:
+        wished = np.repeat(line(line_ends, more, length), len(before), axis=0)
     costs = np.full((len(before), count), NO_WAY)
     costs[np.arange(len(before)), states_of(before[:, :more])] = 0
     second = np.empty((length, len(before), count), bool)

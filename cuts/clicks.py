@@ -4,6 +4,7 @@ What it should be is its takes' sounds, put together as the project says: switch
 of its link where it has one, faded in a straight line over a bridge, and as its crossfade says in a seam. What the
 takes' sounds are is said by a reference: all that passes a low-pass, or true signals that are known from elsewhere."""
 from collections.abc import Callable
+from dataclasses import dataclass
 
 import numpy as np
 
@@ -13,10 +14,22 @@ from hearing import Hearing
 from owing import sounds
 from projects import Project, Spot
 from shifts import Shifted
+from spectra import let_in
 from takes import Signals
 
-# Of a take, counted from 0, its sound from one place to another, a row for each channel.
-Reference = Callable[[int, int, int], np.ndarray]
+
+@dataclass(frozen=True)
+class Reference:
+    """What the takes' sounds are: `sound` tells that of a take, counted from 0, from one place to another, a row for
+    each channel. Where a take ends something may be heard of what is left of it, unless it `is_silent`."""
+
+    sound: Callable[[int, int, int], np.ndarray]
+    is_silent: bool = False
+
+    def __call__(self, take: int, first: int, stop: int) -> np.ndarray:
+        return self.sound(take, first, stop)
+
+
 PIECE = 1 << 22  # bits of a cue that are compared at a time
 
 
@@ -27,7 +40,7 @@ def length_of(cue: dict) -> int:
 def decoded(project: Project, band: Band | None = None) -> Reference:
     """The takes' sounds are what passes low-passes: those of their own bands, or one."""
     bands = [band] * project.count if band else None
-    return lambda take, first, stop: sounds(project.takes[take], first, stop, bands)
+    return Reference(lambda take, first, stop: sounds(project.takes[take], first, stop, bands), band is None)
 
 
 def known(project: Project, rows: list[np.ndarray]) -> Reference:
@@ -44,7 +57,7 @@ def known(project: Project, rows: list[np.ndarray]) -> Reference:
         low, high = min(max(first, 0), row.shape[1]), max(min(stop, row.shape[1]), 0)
         return np.pad(row[:, low : max(low, high)], ((0, 0), (low - first, stop - max(low, high))))
 
-    return part
+    return Reference(part)
 
 
 def originals(project: Project) -> list[int]:
@@ -90,7 +103,9 @@ def seamed(project: Project, reference: Reference, spot: Spot, first: int, stop:
 
 def above_split(rate: int, reference: Reference) -> Reference:
     """What of the takes' sounds goes over more slowly in some butts."""
-    return lambda take, first, stop: above(rate, lambda low, high: reference(take, low, high), first, stop)
+    return Reference(
+        lambda take, first, stop: above(rate, lambda low, high: reference(take, low, high), first, stop)
+    )
 
 
 def linked(project: Project, roles: list[str], number: int) -> tuple[int, int]:
@@ -101,13 +116,15 @@ def linked(project: Project, roles: list[str], number: int) -> tuple[int, int]:
 
 
 def ideal(project: Project, reference: Reference, first: int, stop: int) -> np.ndarray:
-    """What the master should be from one place to another; 0 outside of it."""
+    """What the master should be from one place to another; outside of it the takes of the first and of the last cue go
+    on."""
     found = np.zeros((project.count, stop - first))
-    place, roles = 0, project.roles()
+    place, roles, last = 0, project.roles(), len(project.cues) - 1
     for number, cue in enumerate(project.cues):
         length = length_of(cue)
         early, late = linked(project, roles, number)
-        low, high = max(place - early, first), min(place + length + late, stop)
+        low = max(place - early, first) if number else first
+        high = min(place + length + late, stop) if number < last else stop
         if low < high and roles[number] == "cue":
             offset = cue["start"] - place
             found[:, low - first : high - first] = reference(cue["take"], low + offset, high + offset)
@@ -121,11 +138,42 @@ def ideal(project: Project, reference: Reference, first: int, stop: int) -> np.n
     return found
 
 
+def held(project: Project, master: Signals, first: int, stop: int) -> np.ndarray:
+    """The signals of a master from one place to another; outside of it the takes of the first and of the last cue go
+    on. So no end of the file is heard as a click of a cut near it."""
+    found, length = master.signs(first, stop), project.length()
+    if first < 0:
+        start = project.cues[0]["start"]
+        found[:, : min(-first, stop - first)] = project.take(0).signs(start + first, start + min(stop, 0))
+    if stop > length:
+        low, offset = max(first, length), project.cues[-1]["stop"] - length
+        found[:, low - first :] = project.take(len(project.cues) - 1).signs(low + offset, stop + offset)
+    return found
+
+
 def errors(hearing: Hearing, project: Project, master: Signals, spot: Spot, reference: Reference) -> np.ndarray:
     """The master less what it should be, around the middle of a cut, a row for each channel."""
     size = hearing.size_for(spot.length // 2)
     first = spot.place + spot.length // 2 - size // 2
-    return master.signs(first, first + size) - ideal(project, reference, first, first + size)
+    found = held(project, master, first, first + size) - ideal(project, reference, first, first + size)
+    if not reference.is_silent:
+        without_ends(project, found, first)
+    return found
+
+
+def without_ends(project: Project, rows: np.ndarray, first: int) -> None:
+    """Lets errors in slowly, from a place of the master on, where the first take begins or the last one ends near a
+    cut: from there to the nearest cut. So no end of a take is heard."""
+    spots, stop = project.spots(), first + rows.shape[1]
+    low = -project.cues[0]["start"]
+    high = project.length() + project.take(len(project.cues) - 1).bits - project.cues[-1]["stop"]
+    for part, missing, room in (
+        (rows, low - first, spots[0].place - low),
+        (rows[:, ::-1], stop - high, high - spots[-1].place - spots[-1].length),
+    ):
+        if missing > 0:
+            part[:, :missing] = 0
+            part[:, missing:] = let_in(part[:, missing:], project.rate, room)
 
 
 def levels(

@@ -3,10 +3,13 @@ from dataclasses import dataclass, replace
 from pathlib import Path
 
 import fading
+import planned
+import times
 from outputs import Refused
 from projects import Project
 from seams import Seam
 
+SHORTEST = 0.5e-3  # seconds: in less, what leads up to a take doesn't come apart from what goes on
 LONGER = (2, 4, 8, 16)  # times as long: what is tried if takes are too alike
 LONGEST = 0.04  # seconds
 LITTLE = 3e-6  # seconds that what follows may move before there is a bump
@@ -40,13 +43,27 @@ def wish_of(project: Project, cut: int, asked: Asked) -> fading.Wish:
 
 
 def demand_room(project: Project, cut: int, wish: fading.Wish) -> None:
-    """Refuses a fade for which there is no room in both cues and both takes."""
-    cue, following, length = project.cues[cut], project.cues[cut + 1], wish.length
-    stop, start = wish.ends
-    if stop < cue["start"] + project.least(cut) or start + wish.most > following["stop"] - project.least(cut + 1):
-        raise Refused("a cue is too short for the fade")
-    if stop + length > project.span(cut)[1] or start - wish.most - length < project.span(cut + 1)[0]:
-        raise Refused("a take isn't long enough for the fade")
+    """Refuses a fade for which there is no room in both cues and both takes, and says how long one may be."""
+    cue, following = project.cues[cut], project.cues[cut + 1]
+    # How many bits of the fade may lie before the cut. One more lies after it.
+    rooms = (
+        (wish.stop - cue["start"] - project.least(cut), short(project, cut)),
+        (following["stop"] - project.least(cut + 1) - wish.start - wish.most - 1, short(project, cut + 1)),
+        (project.span(cut)[1] - wish.stop - 1, f"take {cue['take']} ends too soon after the cut"),
+        (wish.start - wish.most - project.span(cut + 1)[0], f"take {following['take']} starts too late before the cut"),
+    )
+    room, why = min(rooms, key=lambda it: it[0])
+    if wish.early > room:
+        most = 2 * room + 1
+        is_long = most >= odd(SHORTEST * project.rate)
+        longest_time = f"the longest --time is {times.longest(most, project.rate)}" if is_long else "no --time fits"
+        raise Refused(f"{why} for a fade of {times.lasting(wish.length, project.rate)}: {longest_time}")
+
+
+def short(project: Project, cue: int) -> str:
+    """That a cue, by its number in the text that was read, is too short, and how long it is."""
+    bits = project.cues[cue]["stop"] - project.cues[cue]["start"]
+    return f"cue {project.origins[cue]} is too short, with {bits} bits ({times.lasting(bits, project.rate)}),"
 
 
 def longest(project: Project, cut: int) -> int:
@@ -87,11 +104,15 @@ def plan_of(project: Project, cut: int, asked: Asked) -> fading.Plan:
 
 
 def fade(project: Project, program: Path, number: int, asked: Asked) -> fading.Fade:
-    """Makes a seam of a cut, in the place of a bridge that fades, a link or a seam that it had."""
-    with project.undone():
-        spot = project.spots()[number]
+    """Makes a seam of a cut, in the place of a bridge that fades, a link or a seam that it had. If it clicked louder then
+    it is refused."""
+    spot = project.spots()[number]
+
+    def plain() -> None:
         project.leave_out_between(spot)
         project.leave_out_shift(spot.before + 1)
+
+    with project.undone(), planned.no_louder(project, number, plain):
         project.leave_out_bridge(spot.before)
         stop, start = project.cues[spot.before]["stop"], project.cues[spot.before + 1]["start"]
         try:

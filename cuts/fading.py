@@ -8,7 +8,9 @@ Two numbers of all that is owed can't be changed by choosing bits: their sum is 
 moment. So the middle of the crossfade moves in each channel until the sum is right (`crossfades`), and what is left of
 the moment is added to the sound as a wave that is too small to be heard. If no middle is found, as the takes are too
 much alike, the fade is made longer (`fades`), the second take is moved by some bits, or what is left of the sum is
-added to the sound as a bump as long as the fade."""
+added to the sound as a bump as long as the fade.
+
+A channel in which both takes have the same bits in the fade, as in digital silence, keeps these."""
 from dataclasses import dataclass, replace
 from pathlib import Path
 
@@ -114,6 +116,7 @@ class Surroundings:
         rate = before.rate
         self.wish, self.rate = wish, rate
         self.stop, self.start = wish.ends
+        self.takes = (before, self.stop), (after, self.start)
         outside = before.signs(self.stop - reach, self.stop) - sound_of(before, self.stop - reach, self.stop)
         self.before = let_in(outside, rate)
         low, high = self.start - wish.most, self.start + wish.most
@@ -136,6 +139,14 @@ class Surroundings:
         both, high = ((it[0], it[1][:, part]) if it else None for it in (self.whole, self.above))
         return Sounds(*both, high)
 
+    def shared(self, moved: int) -> np.ndarray:
+        """The signs that both takes have in the fade, a row for each channel: 0 in those in which they differ."""
+        (before, stop), (after, start) = self.takes[0], self.takes[1]
+        length, start = self.wish.length, start + moved
+        rows = before.signs(stop, stop + length)
+        is_same = np.all(rows == after.signs(start - length, start), axis=1)
+        return rows * is_same[:, None]
+
     def owed(self, moved: int) -> np.ndarray:
         """Sum and first moment, about the middle, that the sound of the fade is to have or to differ from by even
         numbers: a column for each channel."""
@@ -148,7 +159,11 @@ class Surroundings:
         wanted, both = self.owed(moved)[0], self.sounds(moved)
         empty = Crossfade(ramp, self.wish.power, [], self.wish.slow)
         middle = self.wish.early
-        found = [even_middle(both.channel(it), empty, middle, most, number) for it, number in enumerate(wanted)]
+        is_shared = self.shared(moved).any(axis=1)
+        found = [
+            (middle, 0.0) if is_shared[it] else even_middle(both.channel(it), empty, middle, most, number)
+            for it, number in enumerate(wanted)
+        ]
         return replace(empty, middles=[it for it, _ in found]), [it for _, it in found]
 
 
@@ -248,9 +263,11 @@ def made(program: Path, plan: Plan, seed: int) -> Fade:
     later, bump, rows = around.after(plan.moved), bumps(wish.length)[0], []
     sound = plan.crossfade.mixed(around.sounds(plan.moved)) + np.array(plan.missing)[:, None] * bump
     moment = wrapped(around.owed(plan.moved) - moments(sound, -wish.early))[1]
-    for channel, row in enumerate(sound):
+    for channel, (row, shared) in enumerate(zip(sound, around.shared(plan.moved))):
         known = around.before[channel], row, later[channel]
-        rows.append(settled(program, around.rate, known, float(moment[channel]), seed + 100 * channel))
+        is_shared = shared.any()
+        made = None if is_shared else settled(program, around.rate, known, float(moment[channel]), seed + 100 * channel)
+        rows.append(shared if is_shared else made)
     sizes = [abs(it) * bump.max() if abs(it) >= EVEN else 0.0 for it in plan.missing]
     return Fade(around.stop, around.start + plan.moved, np.stack(rows), plan.crossfade, sizes)
 

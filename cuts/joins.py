@@ -67,6 +67,7 @@ class Cut:
             for take, it in zip(takes, (self.before, self.after))
         )
         self.bits = [before.bits, after.bits]
+        self.held: dict[int, dict[int, links.Held]] = {}
         self.owed = (
             owing.before(self.before, window.stop, window.stops),
             owing.after(self.after, window.start, window.starts),
@@ -75,6 +76,7 @@ class Cut:
     def channel(self, number: int) -> "Cut":
         """The same of one channel."""
         found, found.other = copy.copy(self), copy.copy(self.other)
+        found.held = {}
         for one, whole in ((found, self), (found.other, self.other)):
             one.before, one.after = whole.before.channel(number), whole.after.channel(number)
         found.owed = tuple(it[number : number + 1] for it in self.owed)
@@ -141,10 +143,12 @@ class Cut:
     def links_at(self, found: np.ndarray, shortest: int, more: np.ndarray | float = 0.0) -> links.Found:
         """The best links of at least so many bits at each of these pairs of places, where `more` is left."""
         window, takes = self.window, [self.before, self.after]
-        middles = [window.stop + window.stops // 2, window.start + window.starts // 2]
-        spans = links.spans_of(takes, self.bits, middles)
+        if shortest not in self.held:
+            middles = [window.stop + window.stops // 2, window.start + window.starts // 2]
+            spans = links.spans_of(takes, self.bits, middles)
+            self.held[shortest] = links.held(self.owing, takes, spans, shortest)
         left = self.left(found) + more
-        return links.best(self.owing, takes, spans, found + (window.stop, window.start), left, shortest)
+        return links.best(self.owing, takes, self.held[shortest], found + (window.stop, window.start), left)
 
     def judged(self, middle: int, start: int, link: Link, moved: float = 0.0) -> Place:
         """The exact click of a cut with a link in its place, and that by another estimate."""

@@ -19,6 +19,7 @@ LENGTHS = range(4, 17)  # bits of a link
 MARGIN = LENGTHS[-1] // 2  # between a pair and the window's ends: so cues stay in the window
 FROM = 4096  # places around the middle of each window from which a link's bits may come
 NEAR = 4  # links of each length that are kept for a pair
+KEPT = 8  # of these, whose peaks are computed: those that are nearest to what is left
 NARROW = 62  # bits that are one number
 
 
@@ -115,28 +116,50 @@ class Found:
         return Found(self.peaks[order], self.rows[order])
 
 
-def of_length(owing: Owing, held: Pieces, stays: np.ndarray, left: np.ndarray, length: int) -> Found:
-    """The links of a length that leave least at each pair of places, of the signs that they stand for and of what is
-    left there: numbers, for each pair a row for each channel."""
-    ways, count = owing.bits(length), left.shape[1]
-    adding = (held.signs.reshape(-1, count, length) @ ways).reshape(-1, count * NUMBERS)
-    wanted = (stays.reshape(-1, count, length) @ ways - left).reshape(-1, count * NUMBERS)
-    near = cKDTree(adding).query(wanted, k=range(1, min(NEAR, len(adding)) + 1))[1]
-    rest = (adding[near] - wanted[:, None]).reshape(-1, count, NUMBERS)
-    pair = np.repeat(np.arange(len(left)), near.shape[1])
-    rows = np.column_stack([pair, held.links[near.ravel()], np.full(len(pair), length)])
-    return Found(pairs.peaks(rest.transpose(1, 0, 2), owing.click), rows)
+@dataclass(frozen=True)
+class Held:
+    """The pieces of a length, and a tree of the numbers that they add."""
+
+    pieces: Pieces
+    tree: cKDTree
 
 
-def best(
-    owing: Owing, takes: list[Errors], spans: list[tuple[int, int]], places: np.ndarray, left: np.ndarray, shortest: int
-) -> Found:
-    """The links of at least so many bits that leave least at each pair of places, of what is left there: numbers, for
-    each channel a row for each pair."""
-    found = [Found(np.empty(0), np.empty((0, 4), np.int64))]
+def held(owing: Owing, takes: list[Errors], spans: list[tuple[int, int]], shortest: int) -> dict[int, Held]:
+    """The pieces of at least so many bits that lie in these spans of the takes, by their lengths."""
+    found, count = {}, len(takes[0].signs)
     for length in range(max(shortest, LENGTHS[0]), LENGTHS[-1] + 1):
-        held = pieces(takes, spans, length)
-        if len(held.signs) and len(places):
-            stays = replaced(takes, places, length)
-            found.append(of_length(owing, held, stays, left.transpose(1, 0, 2), length))
-    return Found(np.concatenate([it.peaks for it in found]), np.concatenate([it.rows for it in found]))
+        some = pieces(takes, spans, length)
+        if len(some.signs):
+            adding = (some.signs.reshape(-1, count, length) @ owing.bits(length)).reshape(-1, count * NUMBERS)
+            found[length] = Held(some, cKDTree(adding))
+    return found
+
+
+def of_length(owing: Owing, some: Held, stays: np.ndarray, left: np.ndarray, length: int) -> tuple:
+    """The links of a length that leave least at each pair of places, of the signs that they stand for and of what is
+    left there (numbers, for each pair a row for each channel): how far off each is, the pair's number, and the number
+    of its piece, in columns for each pair; and what each leaves."""
+    count = left.shape[1]
+    wanted = (stays.reshape(-1, count, length) @ owing.bits(length) - left).reshape(-1, count * NUMBERS)
+    away, near = some.tree.query(wanted, k=range(1, min(NEAR, some.tree.n) + 1))
+    rest = (some.tree.data[near] - wanted[:, None]).reshape(len(left), -1, count, NUMBERS)
+    links = some.pieces.links[near]
+    rows = np.concatenate([links, np.full((*near.shape, 1), length)], axis=2)
+    return away, rows, rest
+
+
+def best(owing: Owing, takes: list[Errors], known: dict[int, Held], places: np.ndarray, left: np.ndarray) -> Found:
+    """The links that leave least at each pair of places, of what is left there: numbers, for each channel a row for
+    each pair."""
+    if not known or not len(places):
+        return Found(np.empty(0), np.empty((0, 4), np.int64))
+    parts = [
+        of_length(owing, some, replaced(takes, places, length), left.transpose(1, 0, 2), length)
+        for length, some in known.items()
+    ]
+    away, rows, rest = (np.concatenate(it, axis=1) for it in zip(*parts))
+    first = np.argsort(away, axis=1, kind="stable")[:, :KEPT]
+    pair = np.arange(len(places))[:, None]
+    rows, rest = rows[pair, first].reshape(-1, 3), rest[pair, first].reshape(-1, *rest.shape[2:])
+    pair = np.repeat(pair.ravel(), first.shape[1])
+    return Found(pairs.peaks(rest.transpose(1, 0, 2), owing.click), np.column_stack([pair, rows]))

@@ -6,6 +6,8 @@ import numpy as np
 import bridges
 import joins
 import links
+import planned
+import titles
 import transitions
 from hearing import hearing_of
 from outputs import Refused
@@ -59,10 +61,10 @@ class Room:
             return None
         return joins.Window(low, high - low + 1, first, last - first + 1, wished, most)
 
-    def inside(self, stop: int, start: int) -> "Room":
-        """The part in which both takes have bits up to a place, and from one on."""
-        stops, starts = (self.stops[0], min(self.stops[1], stop)), (max(self.starts[0], start), self.starts[1])
-        return Room(self.stop, self.start, stops, starts)
+    def inside(self, stops: tuple[int, int], starts: tuple[int, int]) -> "Room":
+        """The part that lies between these places of both takes."""
+        parts = [(max(one[0], it[0]), min(one[1], it[1])) for one, it in ((self.stops, stops), (self.starts, starts))]
+        return Room(self.stop, self.start, *parts)
 
 
 def room_of(project: Project, cut: int, within: int, margin: int) -> Room:
@@ -87,9 +89,11 @@ def window_of(project: Project, cut: int, asked: Asked, margin: int = 0) -> join
     pairs of places."""
     within, most = round(asked.within * project.rate), round(asked.shift * project.rate)
     room = room_of(project, cut, within, margin)
-    before, after = project.take(cut), project.take(cut + 1)
-    safe = room.inside(project.span(cut)[1] - known(before), project.span(cut + 1)[0] + known(after))
-    return safe.window(most) or room.window(most)
+    (first, last), (start, end) = project.span(cut), project.span(cut + 1)
+    before, after = known(project.take(cut)), known(project.take(cut + 1))
+    safe = room.inside((first, last - before), (start + after, end))
+    safest = safe.inside((first + before, last), (start, end - after))
+    return safest.window(most) or safe.window(most) or room.window(most)
 
 
 def meeting(project: Project, cut: int, window: joins.Window | None) -> joins.Cut:
@@ -108,7 +112,7 @@ def place_together(project: Project, cut: int, asked: Asked) -> None:
         places = [(stop + early, start - length + early), *near]
         best = joins.quietest(found.bridged(places, project.weights, length))
     else:
-        is_linking = asked.linking and len(project.cues) < MOST_CUES
+        is_linking = asked.linking and len(project.rows) < MOST_CUES
         best = found.best_linked(project.shortest) if is_linking else found.best()
     project.move(cut, best.stop, best.start)
     if best.link:
@@ -135,7 +139,7 @@ def place_apart(project: Project, cut: int, asked: Asked) -> bool:
         return False
     stop, start, offset = project.cues[cut]["stop"], project.cues[cut + 1]["start"], found.offset
     first, last = found.ends(margin)
-    low, high = min(first, stop), max(last, start - offset)  # the wished place lies inside
+    low, high = with_title(project, cut, (min(first, stop), max(last, start - offset)), offset)
     seams = project.seams_as(asked.take)
     places = [it.stop + it.link.ahead - low for it in found.places]
     middles = [place + it.moved for place, it in zip(places, found.places)]
@@ -149,6 +153,13 @@ def place_apart(project: Project, cut: int, asked: Asked) -> bool:
         project.shift(cut + 1, found.early, asked.shifted_name, reach)
     project.insert_seam(cut, seam, signs)
     return True
+
+
+def with_title(project: Project, cut: int, ends: tuple[int, int], offset: int) -> tuple[int, int]:
+    """The ends of a transition in the first take, with room for a title of what follows at the wished place."""
+    cue, following = project.cues[cut], project.cues[cut + 1]
+    room = cue["start"] + project.least(cut), following["stop"] - project.least(cut + 1) - offset
+    return titles.widened(ends, cue["stop"], room, project.shortest) if "title" in following else ends
 
 
 def link_row(place: joins.Place, middle: int, early: int) -> list[int]:
@@ -168,13 +179,17 @@ def signs_of(project: Project, cut: int, ends: tuple[int, int], place: joins.Pla
 
 
 def place(project: Project, number: int, asked: Asked) -> None:
-    """Moves a cut, whose link or seam is left out before."""
-    with project.undone():
-        spot = project.spots()[number]
-        is_apart = makes_transition(project, number, asked)
+    """Moves a cut, whose link or seam is left out before. If it clicked louder then it is refused."""
+    spot = project.spots()[number]
+
+    def plain() -> None:
         project.leave_out_between(spot)
         project.leave_out_shift(spot.before + 1)
-        if asked.plain:
-            project.leave_out_bridge(spot.before)
-        if not (is_apart and place_apart(project, spot.before, asked)):
-            place_together(project, spot.before, asked)
+
+    with project.undone():
+        is_apart = makes_transition(project, number, asked)
+        with planned.no_louder(project, number, plain):
+            if asked.plain:
+                project.leave_out_bridge(spot.before)
+            if not (is_apart and place_apart(project, spot.before, asked)):
+                place_together(project, spot.before, asked)

@@ -1,6 +1,7 @@
 """The master of a project before it is cut: the bits that `edit` will put there, and what its cuts will click."""
+import contextlib
 import sys
-from collections.abc import Iterable, Iterator
+from collections.abc import Callable, Iterable, Iterator
 
 import numpy as np
 
@@ -8,9 +9,15 @@ import bridges
 import clicks
 from crossfades import SPLIT
 from hearing import Hearing, decibels, hearing_of
+from outputs import Refused
 from owing import known
 from projects import Project, Spot
 from takes import Signals
+from times import clock, lasting
+
+
+NOTHING = -145.0  # dB: below there is nothing but what low-passes leave
+ALIKE = 0.1  # dB that a cut may be louder than before
 
 
 class Planned(Signals):
@@ -36,12 +43,13 @@ class Planned(Signals):
         return found
 
     def bridge(self, spot: Spot) -> np.ndarray:
-        """The signs of a bridge that fades."""
+        """The signs of a bridge."""
         project, more = self.project, self.project.shortest
         stop, start = project.cues[spot.before]["stop"], project.cues[spot.after]["start"]
         before = project.take(spot.before).signs(stop - more, stop + spot.length)
         after = project.take(spot.after).signs(start - spot.length - more, start + more)
-        return bridges.least(project.weights, before, after, spot.length)
+        line = project.cues[spot.before]["line"] if spot.role == "line" else None
+        return bridges.least(project.weights, before, after, spot.length, line)
 
 
 def errors(hearing: Hearing, project: Project, spot: Spot) -> np.ndarray:
@@ -52,6 +60,35 @@ def errors(hearing: Hearing, project: Project, spot: Spot) -> np.ndarray:
         if other.role == "line":
             found[:, max(other.place - first, 0) : max(other.place + other.length - first, 0)] = 0
     return found
+
+
+def loudest(project: Project, number: int, cuts: int) -> float:
+    """The peak of a cut in its loudest channel (dB), as the project has it now. If it hasn't so many cuts any more, as
+    a cue is so short that it is taken for a link, there is no such cut."""
+    spots, hearing = project.spots(), hearing_of(project.rate)
+    if len(spots) != cuts:
+        return -np.inf
+    return max(hearing.peak(it, spots[number].length // 2) for it in errors(hearing, project, spots[number]))
+
+
+def is_louder(new: float, old: float) -> bool:
+    """Whether a peak is louder than another one, as far as there is anything at all."""
+    return new > max(old, NOTHING) + ALIKE
+
+
+@contextlib.contextmanager
+def no_louder(project: Project, number: int, plain: Callable[[], None]) -> Iterator[None]:
+    """Refuses what a block makes of a cut if it clicks louder than before. `plain` leaves out the link or the seam that
+    the cut had: such a cut is compared with what is left then, as it was asked for at first."""
+    cuts, role = len(project.spots()), project.spots()[number].role
+    old = loudest(project, number, cuts)
+    plain()
+    if role in ("link", "seam"):
+        old = loudest(project, number, cuts)
+    yield
+    new = loudest(project, number, cuts)
+    if is_louder(new, old):
+        raise Refused(f"it would click louder, at {new:.1f} dB, and clicks at {old:.1f} dB where it is asked for")
 
 
 def steps(project: Project, spot: Spot) -> list[float]:
@@ -103,7 +140,7 @@ def named(seen: Seen) -> str:
         ramp = f" over {seen.seam.ramp / seen.rate * 1e6:.3g} us" if seen.seam.kind == "butt" else ""
         if seen.seam.slow:
             ramp += f" (above {SPLIT[0] // 1000} kHz over {seen.seam.slow / seen.rate * 1e6:.3g} us)"
-        return f"{seen.seam.kind} of {seen.length} bits{ramp}"
+        return f"{seen.seam.kind} of {seen.length} bits ({lasting(seen.length, seen.rate)}){ramp}"
     return {"plain": "cut plain", "link": f"link of {seen.length} bits"}.get(seen.spot.role, f"bridge of {seen.length}")
 
 
@@ -111,12 +148,28 @@ def told(number: int, old: Seen, new: Seen, more: list[str] | None = None) -> st
     """The line of a cut that was changed; `more` is what else there is to say of each channel."""
     late = ((new.stop + new.length - old.stop - old.length) - (new.start - old.start)) / new.rate * 1e6
     places = f"stop {old.stop} to {new.stop}, start {old.start} to {new.start}, {late + 0.0:+.1f} us"
-    parts = [f"cut {number}: {named(new)}, {places}"]
+    parts = [f"cut {number}: {named(new)} at {clock(new.spot.place, new.rate)}, {places}"]
     for channel, (before, after) in enumerate(zip(old.clicks, new.clicks)):
         step = f"{old.steps[channel]:.1f} dB" + (" faded" if new.is_faded else f" to {new.steps[channel]:.1f}")
         peak = f"peak {before[0]:.1f} to {after[0]:.1f} dB, A {before[1]:.1f} to {after[1]:.1f}"
         parts.append(f"channel {channel}{new.channel(channel)} {peak}, step {step}" + (more[channel] if more else ""))
     return "; ".join(parts)
+
+
+def tell(project: Project, number: int, old: Seen, more: list[str] | None = None) -> None:
+    """Prints the line of a cut that was changed, and warnings about it."""
+    new = Seen(project, number)
+    print(told(number, old, new, more), flush=True)
+    warn(project, number)
+    peaks = [max(peak for peak, _ in it.clicks) for it in (old, new)]
+    if is_louder(peaks[1], peaks[0]):
+        was = f"at {peaks[1]:.1f} dB, and was at {peaks[0]:.1f} dB"
+        print(f"{script()}: cut {number}: it clicks louder than before: {was}", file=sys.stderr)
+
+
+def script() -> str:
+    """The script's name."""
+    return sys.argv[0].rpartition("/")[2]
 
 
 def ends(project: Project, spot: Spot) -> tuple[int, int]:
@@ -134,10 +187,15 @@ def warn(project: Project, number: int) -> None:
     spots = project.spots()
     spot = spots[number]
     first, last = ends(project, spot)
-    after = project.span(spot.before)[1] - project.cues[spot.before]["stop"] - last
-    before = project.cues[spot.after]["start"] - project.span(spot.after)[0] - spot.length + first
-    name = f"{sys.argv[0].rpartition('/')[2]}: cut {number}"
-    for take, bits, end in ((spot.before, after, "end"), (spot.after, before, "start")):
+    stop, start = project.cues[spot.before]["stop"], project.cues[spot.after]["start"]
+    spans = project.span(spot.before), project.span(spot.after)
+    name = f"{script()}: cut {number}"
+    for take, bits, end in (
+        (spot.before, stop - spans[0][0], "start"),
+        (spot.before, spans[0][1] - stop - last, "end"),
+        (spot.after, start - spans[1][0] - spot.length + first, "start"),
+        (spot.after, spans[1][1] - start, "end"),
+    ):
         if bits < known(project.take(take)):
             where = f"the {end} of take {project.cues[take]['take']}, where its sound isn't known"
             print(f"{name}: it lies {max(bits, 0)} bits from {where}: it may click louder", file=sys.stderr)

@@ -11,9 +11,10 @@ import numpy as np
 import tomlkit
 
 import bands
+import titles
 from seams import Seam, Seams, seams_of
 from shifts import Region, Shift, Shifted, regions_of, shift_of, whole_bits
-from takes import Held, Signals, Take, Unread
+from takes import Held, Signals, Take, Unread, unlike
 from outputs import Refused
 from project_texts import MOST_BITS, MOST_CUES, MOST_TAKES, Text, read, shown
 
@@ -75,8 +76,9 @@ def opened(text: Text) -> list[Take]:
             why = getattr(error, "strerror", None) or str(error)
             raise text.fault(words, ("splice", "takes", number), f"take {number}, {shown(name)}: {why}") from None
     for number, take in enumerate(takes):
-        if (take.rate, take.count) != (takes[0].rate, takes[0].count):
-            why = f"take {number}, {shown(take.name)}, has another rate or another number of channels than take 0"
+        differing = unlike(take, takes[0])
+        if differing:
+            why = f"take {number}, {shown(take.name)}, has {differing[0]}, and take 0 has {differing[1]}"
             raise text.fault(f"TakeMismatch {number}", ("splice", "takes", number), why)
     return takes
 
@@ -100,7 +102,6 @@ class Project:
         splice = self.source.data["splice"]
         self.weights = splice["weights"]
         self.cues: list[dict] = copy.deepcopy(splice["cue"])
-        self.origins: list[int | None] = list(range(len(self.cues)))
         self.names = list(splice["takes"])
         self.takes: list[Signals] = [*opened(self.source)]
         self.records = [seams_of(it) for it in self.takes]
@@ -113,8 +114,9 @@ class Project:
                 take.bands = self.takes[self.names.index(shift.take)].bands
         self.seams: Seams | None = None
         self.rate, self.count = self.takes[0].rate, self.takes[0].count
-        self.slot = self.seam_slot()
         self.demand_bits()
+        self.cues, self.origins = titles.joined(self.cues, self.records)
+        self.slot = self.seam_slot()
         self.was_whole = self.length() % 8 == 0
 
     def known_shift(self, take: Signals) -> Shift | None:
@@ -142,6 +144,11 @@ class Project:
             if length and cue["stop"] + length > self.take(number).bits:
                 why = f"behind bit {cue['stop']} of its take there is no room for the bridge"
                 raise self.fault(f"NoRoomAfter {number}", number, "stop", why)
+
+    @property
+    def rows(self) -> list[titles.Row]:
+        """The cues as the text is to have them, and the number that each had in it."""
+        return [row for it in zip(self.cues, self.origins) for row in titles.rows_of(*it)]
 
     def fault(self, words: str, cue: int, key: str, why: str) -> Refused:
         return self.source.fault(words, ("splice", "cue", cue, key), why)
@@ -287,15 +294,21 @@ class Project:
 
     @contextlib.contextmanager
     def undone(self) -> Iterator[None]:
-        """After a fault in a block the cues are as before. It is one too if a cue has become so short that it would be
-        taken for a link."""
+        """After a fault in a block the cues and the takes are as before. It is one too if a cue has become so short
+        that it would be taken for a link."""
         cues, origins, cuts = copy.deepcopy(self.cues), list(self.origins), len(self.spots())
+        takes = [list(it) for it in (self.takes, self.records, self.shifts, self.names)]
+        seams = self.seams
+        held = seams.state() if seams else None
         try:
             yield
             if len(self.spots()) != cuts:
                 raise Refused("a cue would be shorter than 10 us, and so be taken for a link")
         except BaseException:
-            self.cues, self.origins = cues, origins
+            self.cues, self.origins, self.seams = cues, origins, seams
+            self.takes, self.records, self.shifts, self.names = takes
+            if seams:
+                seams.restore(held)
             raise
 
     def leave_out_bridge(self, cut: int) -> None:
@@ -315,6 +328,10 @@ class Project:
         stop, start = self.cues[spot.before]["stop"] + early, self.cues[spot.after]["start"] - late
         if stop > self.span(spot.before)[1] or start < self.span(spot.after)[0]:
             raise Refused(f"its takes have no bits for those of its {spot.role}")
+        kept = [it for cue in self.cues[spot.before + 1 : spot.after + 1] for it in titles.titles_of(cue)]
+        if len(kept) > 1:
+            raise Refused(f"its {spot.role} and the cue after it have {len(kept)} titles, and there is room for one")
+        self.cues[spot.after].update({"title": it for it in kept})
         del self.cues[spot.before + 1], self.origins[spot.before + 1]
         self.move(spot.before, stop, start)
 
@@ -322,9 +339,16 @@ class Project:
         """Refuses if there is no room for a take of seams, if any are made, and for more cues."""
         if seams and self.slot == len(self.takes):
             self.demand_takes(1)
-        if len(self.cues) + cues > MOST_CUES:
-            had = f"the project has {len(self.cues)} cues, and {cues} more are needed"
+        if len(self.rows) + cues > MOST_CUES:
+            had = f"the project has {len(self.rows)} cues, and {cues} more are needed"
             raise Refused(f"{had}: there is room for {MOST_CUES}")
+
+    def added(self, number: int) -> int:
+        """How many more cues the text has once a cut is a seam."""
+        spot = self.spots()[number]
+        between = self.cues[spot.before + 1 : spot.after]
+        has_title = any(titles.titles_of(it) for it in self.cues[spot.before + 1 : spot.after + 1])
+        return max(1 + has_title - sum(len(titles.rows_of(it, None)) for it in between), 0)
 
     def demand_takes(self, more: int) -> None:
         """Refuses if there is no room for more takes."""
@@ -356,8 +380,12 @@ class Project:
         return self.seams
 
     def insert_seam(self, cut: int, seam: Seam, signs: np.ndarray) -> None:
-        """Inserts a seam after a cue, and appends its bits to the take of seams."""
+        """Inserts a seam after a cue, and appends its bits to the take of seams. A title of what follows stays at the
+        position that was asked for."""
+        following = self.cues[cut + 1]
+        self.demand_room(0, 1 + ("title" in following))
         self.insert(cut, self.slot, seam.first, seam.first + seam.length)
+        titles.move_into(self.cues[cut + 1], following, seam.first + seam.before, self.shortest)
         self.seams.add(seam, signs)
 
     def seam_file(self) -> bytes:
@@ -384,7 +412,7 @@ class Project:
     @property
     def data(self) -> dict:
         """What the text is to say."""
-        splice = {"weights": self.weights, "takes": self.names, "cue": self.cues}
+        splice = {"weights": self.weights, "takes": self.names, "cue": [it for it, _ in self.rows]}
         return {**self.source.data, "splice": splice}
 
     def text(self) -> str:
@@ -400,19 +428,19 @@ class Project:
     def changed(self) -> str:
         """The text with what was changed, by tomlkit."""
         document = tomlkit.parse(self.source.text)
-        takes, cues = document["splice"]["takes"], document["splice"]["cue"]
+        takes, cues, rows = document["splice"]["takes"], document["splice"]["cue"], self.rows
         for number, name in enumerate(self.names):
             if number == len(takes):
                 takes.append(name)
             elif takes[number] != name:
                 takes[number] = name
-        for number in sorted(set(range(len(cues))) - set(self.origins), reverse=True):
+        for number in sorted(set(range(len(cues))) - {it for _, it in rows}, reverse=True):
             hand_over(cues[number], cues[number - 1])
             del cues[number]
-        kept = [it for it, origin in zip(self.cues, self.origins) if origin is not None]
+        kept = [it for it, origin in rows if origin is not None]
         for cue, new in zip(list(cues), kept):
             update(cue, new)
-        for number, origin in enumerate(self.origins):
+        for number, (new, origin) in enumerate(rows):
             if origin is None:
-                insert_into(cues, number, self.cues[number])
+                insert_into(cues, number, new)
         return tomlkit.dumps(document)

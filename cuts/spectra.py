@@ -4,10 +4,11 @@ import numpy as np
 RISE = 4_000  # bits at 2,822,400 Hz over which errors are let in, far from where they count
 
 
-def let_in(errors: np.ndarray, rate: int) -> np.ndarray:
-    """Errors with a slow rise at their start. It has no edges: what they would leave in the audio band is next to
-    nothing, but its moment is told from far away."""
-    part = np.clip(np.arange(errors.shape[-1]) / (RISE * rate // 2_822_400), 0, 1)
+def let_in(errors: np.ndarray, rate: int, most: int | None = None) -> np.ndarray:
+    """Errors with a slow rise at their start, of so many bits at most. It has no edges: what they would leave in the
+    audio band is next to nothing, but its moment is told from far away."""
+    rise = RISE * rate // 2_822_400
+    part = np.clip(np.arange(errors.shape[-1]) / (rise if most is None else max(min(rise, most), 1)), 0, 1)
     return errors * part**3 * (10 - 15 * part + 6 * part**2)
 
 

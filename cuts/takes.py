@@ -96,6 +96,14 @@ class Take(Signals):
         return []
 
 
+def unlike(one: Signals, other: Signals) -> tuple[str, str] | None:
+    """What differs of two takes, their rates or numbers of channels: as each has it, or nothing."""
+    rates = f"{one.rate} Hz", f"{other.rate} Hz"
+    counts = ["1 channel" if it.count == 1 else f"{it.count} channels" for it in (one, other)]
+    rows = [(mine, its) for mine, its in (rates, counts) if mine != its]
+    return (" and ".join(it for it, _ in rows), " and ".join(it for _, it in rows)) if rows else None
+
+
 class Held(Signals):
     """A take in memory, of rows of 0 and 1."""
 

@@ -4,6 +4,7 @@ What follows has to come early or late by the same number of bits in all channel
 so the two even numbers (`links`) have to fit in one channel at a time. Where both takes differ, the sum always fits:
 the sound changes some bits earlier or later than in the middle of the link, and each bit adds that difference. For each
 shift of the second take, and in each channel, the places are found that fit best, and the links that leave least there.
+For the shifts whose loudest channel is quietest, many more places are tried.
 The shift is taken whose loudest channel clicks least; of those that are nearly as quiet, the one with the least step of
 the sound."""
 from dataclasses import dataclass, replace
@@ -12,10 +13,13 @@ import numpy as np
 
 import links
 from crossfades import wrapped
+from hearing import decibels
 from joins import Cut, Place, changed
 from links import Link
 
 KEPT = 2  # places of each channel for each shift, for which links are looked for; more where there are few shifts
+FEW = 16  # shifts whose loudest channel is quietest
+MANY = 512  # places of each channel for which links are looked for, for all of these together
 ROUGH = 4  # times as many, of which they are the best when it is computed exactly where the sound changes
 JUDGED = 16  # shifts whose clicks are computed exactly; more where there are few channels
 CLICKS = 64  # that are, of all channels
@@ -63,6 +67,13 @@ class Best:
     def row(self, shift: int) -> tuple[list[int], float]:
         return self.rows[shift].tolist(), float(self.moved[shift])
 
+    def or_better(self, other: "Best") -> "Best":
+        """The better one of both for each shift."""
+        is_better = other.peaks < self.peaks
+        rows = np.where(is_better[:, None], other.rows, self.rows)
+        moved = np.where(is_better, other.moved, self.moved)
+        return Best(np.where(is_better, other.peaks, self.peaks), rows, moved)
+
 
 def shifts_of(cut: Cut) -> range:
     return range(cut.window.wished - cut.window.most, cut.window.wished + cut.window.most + 1)
@@ -78,19 +89,15 @@ def margin(rate: int) -> int:
     return max(links.MARGIN, int(MOVED * rate) + 1)
 
 
-def kept_of(cut: Cut) -> int:
-    """For how many places links are looked for, for each shift."""
-    return max(KEPT, links.PAIRS // len(shifts_of(cut)))
-
-
-def fitting(cut: Cut) -> np.ndarray:
-    """The pairs of places of one channel that fit best, for each shift, with the number of that. The sum of what is
-    left is made up for as far as the sound may change earlier or later."""
+def fitting(cut: Cut, numbers: list[int], kept: int) -> np.ndarray:
+    """The pairs of places of one channel that fit best, so many for each of these shifts, with the number of that. The
+    sum of what is left is made up for as far as the sound may change earlier or later."""
     before, after = (np.ascontiguousarray((owed[0] @ cut.owing.moments).T) for owed in cut.owed)
     sounds, most = cut.sounds(), farthest(cut)
     weights, found = links.parity_weights(cut.owing), []
-    kept = ROUGH * kept_of(cut)
-    for number, shift in enumerate(shifts_of(cut)):
+    shifts = shifts_of(cut)
+    for number in numbers:
+        shift = shifts[number]
         low, high = max(0, -shift), min(cut.window.stops, cut.window.starts - shift)
         if low >= high:
             continue
@@ -124,22 +131,22 @@ def even(cut: Cut, places: np.ndarray) -> tuple[np.ndarray, np.ndarray]:
     return moved, (changed(moved, most) * apart) @ cut.owing.bits(2 * most)
 
 
-def fitting_best(cut: Cut, found: np.ndarray, more: np.ndarray) -> np.ndarray:
-    """Of pairs of places, with these numbers added to what is left there, the numbers of those that fit best for each
-    shift."""
+def fitting_best(cut: Cut, found: np.ndarray, more: np.ndarray, kept: int) -> np.ndarray:
+    """Of pairs of places, with these numbers added to what is left there, the numbers of those that fit best, so many
+    for each shift."""
     left = wrapped((cut.left(found[:, :2])[0] + more) @ cut.owing.moments)
     order = np.lexsort((left**2 @ links.parity_weights(cut.owing), found[:, 2]))
     shift = found[order, 2]
-    return order[np.arange(len(order)) - np.searchsorted(shift, shift) < kept_of(cut)]
+    return order[np.arange(len(order)) - np.searchsorted(shift, shift) < kept]
 
 
-def best_of(cut: Cut) -> Best:
-    """The best link of one channel for each shift."""
-    found = fitting(cut)
+def best_of(cut: Cut, numbers: list[int], kept: int) -> Best:
+    """The best link of one channel for each of these shifts, with links at so many places for each."""
+    found = fitting(cut, numbers, ROUGH * kept)
     number = len(shifts_of(cut))
     made = Best(np.full(number, np.inf), np.zeros((number, 5), np.int64), np.zeros(number))
     moved, more = even(cut, found[:, :2])
-    chosen = fitting_best(cut, found, more)
+    chosen = fitting_best(cut, found, more, kept)
     found, moved, more = found[chosen], moved[chosen], more[chosen]
     at = cut.links_at(found[:, :2], 0, more)
     shift = found[at.rows[:, 0], 2]
@@ -155,11 +162,20 @@ def best_of(cut: Cut) -> Best:
 def best(cut: Cut, between: int = 0) -> Transition | None:
     """The transition whose loudest channel clicks least; nothing where there is no room for one. A channel may come up
     to `between` bits earlier than the others, if that gains enough."""
-    channels = [cut.channel(it) for it in range(cut.count)]
-    found = [best_of(it) for it in channels]
+    channels, shifts = [cut.channel(it) for it in range(cut.count)], range(len(shifts_of(cut)))
+    found = [best_of(it, shifts, max(KEPT, links.PAIRS // len(shifts))) for it in channels]
+    few = promising(found, between)
+    found = [one.or_better(best_of(it, few, MANY // len(few))) for one, it in zip(found, channels)]
     usual = quietest(channels, found, 0)
     apart = quietest(channels, found, between) if usual and between else None
     return apart if apart and apart.loudest < usual.loudest - GAIN else usual
+
+
+def promising(found: list[Best], between: int) -> list[int]:
+    """The shifts whose loudest channel is quietest, and those up to some bits more."""
+    first = np.argsort(np.max([it.peaks for it in found], axis=0), kind="stable")[:FEW]
+    every = np.unique(first[:, None] + np.arange(between + 1))
+    return every[every < len(found[0].peaks)].tolist()
 
 
 def quietest(channels: list[Cut], found: list[Best], between: int) -> Transition | None:
@@ -169,12 +185,14 @@ def quietest(channels: list[Cut], found: list[Best], between: int) -> Transition
     loudest, early = np.max(peaks.min(axis=1), axis=0), peaks.argmin(axis=1)
     window, tried = channels[0].window, []
     shift = window.start - window.stop + shifts_of(channels[0])[0]
+    worth = np.inf  # what is louder can't be chosen
     for it in np.argsort(loudest, kind="stable")[: max(JUDGED, CLICKS // len(channels))].tolist():
-        if np.isfinite(loudest[it]):
+        if np.isfinite(loudest[it]) and decibels(loudest[it]) <= worth:
             rows = [one.row(it + more) for one, more in zip(found, early[:, it].tolist())]
             places = [linked(one, *row) for one, row in zip(channels, rows)]
             least = int(early[:, it].min())
             tried.append(Transition(places, shift + it + least, (early[:, it] - least).tolist()))
+            worth = min(worth, tried[-1].loudest + ALIKE)
     least = min((it.loudest for it in tried), default=0.0)
     alike = [it for it in tried if it.loudest <= least + ALIKE]
     return min(alike, key=lambda it: (round(it.step, 9), it.ends(0)), default=None)

@@ -1,5 +1,5 @@
 #!/usr/bin/python3
-"""Designs the decimation projects of this folder and writes them: design.py [--check] [FOLDER].
+"""Designs the decimation projects of this folder, and writes them and their index: design.py [--check] [FOLDER].
 
 Each run writes the same bytes. With --check nothing is written: it says which files differ from what is designed, and
 ends with status 1 if any do."""
@@ -25,14 +25,20 @@ IMAGES = 155.0  # how far the images of a filter that was made at a lower rate a
 GAP = 100.0  # Hz between two parts of a pass- or a stopband of an equiripple filter
 STEP = 4  # equiripple filters are made at the rate divided by this
 COLUMNS = 110
+INDEX = "index.txt"
+INDEX_SAYS = """\
+# The ready filters of this folder, a line each: the name of the file, the rates of the sound that it is for (Hz, with
+# commas between them), the factor by which it divides that rate, the width of its samples (bits), its gain (dB).
+"""
 
 
 @dataclass(frozen=True)
 class Source:
-    """A stored rate: its name in the files' names, and Hz."""
+    """A stored rate: its name in the files' names, Hz, and other rates that its filters are for, by the ratio alone."""
 
     name: str
     rate: int
+    also: tuple[int, ...] = ()
 
 
 @dataclass(frozen=True)
@@ -60,7 +66,11 @@ class Variant:
     says: str
 
 
-DSD64, DSD128, DSD256 = Source("dsd64", 2_822_400), Source("dsd128", 5_644_800), Source("dsd256", 11_289_600)
+DSD64, DSD128, DSD256 = (
+    Source("dsd64", 2_822_400),
+    Source("dsd128", 5_644_800),
+    Source("dsd256", 11_289_600, (12_288_000,)),
+)
 DSD3072, DSD6144 = Source("dsd3072", 3_072_000), Source("dsd6144", 6_144_000)
 
 DESIGNS = (
@@ -206,9 +216,26 @@ def name_of(design: Design, variant: Variant) -> str:
     return f"{design.source.name}-to-{design.out}-{variant.suffix}.toml"
 
 
+def names() -> list[str]:
+    """The names of all files that are made."""
+    return [INDEX] + [name_of(design, variant) for design in DESIGNS for variant in variants_of(design)]
+
+
+def index() -> str:
+    """The list of all filters, by their names: what each is for."""
+    lines = []
+    for design in DESIGNS:
+        source = design.source
+        rates = ",".join(map(str, (source.rate, *source.also)))
+        for it in variants_of(design):
+            factor = source.rate // design.out
+            lines.append(f"{name_of(design, it)} {rates} {factor} {it.width} {6 * it.louder}\n")
+    return INDEX_SAYS + "".join(sorted(lines))
+
+
 def files() -> dict[str, str]:
     """The text of each file, by its name."""
-    texts = {}
+    texts = {INDEX: index()}
     for design in DESIGNS:
         taps, exponent = rounded(response_of(design))
         for variant in variants_of(design):
@@ -218,11 +245,12 @@ def files() -> dict[str, str]:
 
 def check(folder: Path, texts: dict[str, str]) -> bool:
     """Says which files of the folder are others than those designed."""
-    there = {path.name: path.read_text(encoding="ascii", errors="replace") for path in sorted(folder.glob("*.toml"))}
+    paths = [*sorted(folder.glob("*.toml")), *folder.glob(INDEX)]
+    there = {path.name: path.read_text(encoding="ascii", errors="replace") for path in paths}
     differing = sorted(name for name in texts.keys() | there.keys() if texts.get(name) != there.get(name))
     for name in differing:
         print(f"{name} differs")
-    print(f"{len(texts)} filters designed, {len(differing)} differ")
+    print(f"{len(texts)} files designed, {len(differing)} differ")
     return not differing
 
 
@@ -236,13 +264,12 @@ def main() -> int:
     if asked.check:
         return 0 if check(asked.folder, files()) else 1
     with outputs.Outputs() as made:
-        for design in DESIGNS:
-            for variant in variants_of(design):
-                made.add("FOLDER", asked.folder / name_of(design, variant))
+        for name in names():
+            made.add("FOLDER", asked.folder / name)
         texts = files()
         for name, text in texts.items():
             made.put(asked.folder / name, text)
-    print(f"{len(texts)} filters written")
+    print(f"{len(texts)} files written")
     return 0
 
 

@@ -1,4 +1,5 @@
-/* The calls of dsdarc.h: null pointers and sizes are tested here, and the rest is done by the proved crate dsdarc_c.
+/* The calls of dsdarc.h that a player has: null pointers and sizes are tested here, and the rest is done by the proved
+ * crate dsdarc_c. filters.c and channels.c have the calls that need no player.
  *
  * A pointer of a player is the one that dsdarc_c_new wrote; it is passed on as it is, until dsdarc_c_drop. */
 #include "dsdarc.h"
@@ -35,6 +36,22 @@ static const uint8_t *bytes_of(const void *bytes) {
     return bytes ? bytes : none;
 }
 
+/* Whether this processor has what the proved part was built for: the level of x86-64 that bin/library names. */
+static int runs_here(void) {
+#if defined __x86_64__ && defined DSDARC_LEVEL && DSDARC_LEVEL >= 3
+#if defined __clang__ || __GNUC__ < 12
+    return __builtin_cpu_supports("avx2") && __builtin_cpu_supports("bmi") && __builtin_cpu_supports("bmi2") &&
+           __builtin_cpu_supports("fma");
+#else
+    return __builtin_cpu_supports("x86-64-v3");
+#endif
+#elif defined __x86_64__ && defined DSDARC_LEVEL && DSDARC_LEVEL == 2
+    return __builtin_cpu_supports("ssse3") && __builtin_cpu_supports("sse4.2") && __builtin_cpu_supports("popcnt");
+#else
+    return 1;
+#endif
+}
+
 dsdarc_status dsdarc_player_new(const void *project, size_t size, dsdarc_player **player) {
     uint8_t *made = NULL;
     dsdarc_status status;
@@ -42,6 +59,7 @@ dsdarc_status dsdarc_player_new(const void *project, size_t size, dsdarc_player 
     *player = NULL;
     if (!project && size > 0) return DSDARC_NULL;
     if (size > most) return DSDARC_SIZE;
+    if (!runs_here()) return DSDARC_PROCESSOR;
     status = (dsdarc_status)dsdarc_c_new(bytes_of(project), size, &made);
     if (status == DSDARC_OK) *player = (dsdarc_player *)made;
     return status;
@@ -65,11 +83,11 @@ dsdarc_status dsdarc_player_pull(dsdarc_player *player, void *pcm, size_t frames
     if (!player || !given || (!pcm && frames > 0)) return DSDARC_NULL;
     *given = 0;
     if (format != DSDARC_PACKED && format != DSDARC_S32) return DSDARC_SIZE;
+    if (format == DSDARC_S32 && (uintptr_t)pcm % sizeof(int32_t) != 0) return DSDARC_SIZE;
     if (frames == 0 || dsdarc_c_info(handle_of(player), &info) != DSDARC_OK) return DSDARC_OK;
     sample = format == DSDARC_S32 ? 4 : info.width / 8;
     if (frames > most / (sample * info.channels)) return DSDARC_SIZE;
     if (format == DSDARC_S32) {
-        if ((uintptr_t)pcm % sizeof(int32_t) != 0) return DSDARC_SIZE;
         *given = dsdarc_c_pull_numbers(handle_of(player), pcm, frames * info.channels) / info.channels;
     } else {
         *given = dsdarc_c_pull(handle_of(player), pcm, frames * sample * info.channels) / (sample * info.channels);
@@ -95,9 +113,11 @@ const char *dsdarc_status_text(dsdarc_status status) {
     static const char *const texts[] = {
         "Ok",          "Null",           "Size",      "Memory",       "AfterFault", "NotYet",     "BehindEnd",
         "FileRefused", "RateNotDivided", "TooLong",   "NoDecimation", "NotToml",    "UnknownKey", "MissingKey",
-        "WrongKind",   "OutOfLimit",     "NoTake",    "ShortCue",     "LastBridge",
+        "WrongKind",   "OutOfLimit",     "NoTake",    "ShortCue",     "LastBridge", "Processor",  "TooMuchHeld",
+        "NoFilter",
     };
-    return (unsigned)status < sizeof texts / sizeof *texts ? texts[status] : "Unknown";
+    const char *text = (unsigned)status < sizeof texts / sizeof *texts ? texts[status] : NULL;
+    return text ? text : "Unknown";
 }
 
 const char *dsdarc_version(void) { return DSDARC_VERSION; }

@@ -1,8 +1,10 @@
 /* dsdarc: frames of DSDIFF and DSF files, decimated by the filter of a project text.
  *
  * The caller reads the file and pushes its bytes; the library takes them and gives frames. It opens nothing, prints
- * nothing, starts no thread and never aborts. A player holds the bytes before the sound, at most one piece of 65,536
- * bytes of the sound as frames, and what its filter still reads. It also keeps what a DSDIFF form has after the sound.
+ * nothing, starts no thread and never aborts. A player holds the bytes before the sound, the frames of at most one piece
+ * of 65,536 bytes of the sound, and what its filter still reads. It also keeps what a DSDIFF form has after the sound.
+ * It holds at most 256 MiB (2^28 bytes) of what comes before the sound, and as much of what it keeps after it, which is
+ * far more than real files have. A push with which it would hold more returns DSDARC_TOO_MUCH_HELD.
  *
  *     dsdarc_player *player;
  *     if (dsdarc_player_new(text, text_size, &player) != DSDARC_OK) ...
@@ -17,12 +19,16 @@
  *
  * What was pulled is a prefix of the frames that `dsdarc play` writes, whatever the sizes of pushes and pulls. Once the
  * last byte of the sound was pushed, all frames can be pulled. After a seek this holds of the frames from that one on.
+ * A frame has one sample of each channel, in the order of the file.
  *
  * Ownership. A player is made by dsdarc_player_new and freed by dsdarc_player_drop. All other memory is the caller's,
  * and is read or written during the call alone. Buffers of one call must not overlap each other.
  * Threads. Each player belongs to one call at a time; different players are independent of each other.
- * Statuses. Each call returns one. After a fault (from DSDARC_FILE_REFUSED to DSDARC_TOO_LONG, or DSDARC_MEMORY) of a
- * push, an end or a seek, the frames that wait can be pulled, and all other calls return DSDARC_AFTER_FAULT.
+ * Statuses. Each call that can fail returns one. DSDARC_NULL and DSDARC_SIZE say that the call itself is wrong; the
+ * player stays as it was. After a fault (from DSDARC_FILE_REFUSED to DSDARC_TOO_LONG, DSDARC_TOO_MUCH_HELD or
+ * DSDARC_MEMORY) of a push, an end or a seek, the frames that wait can be pulled, and dsdarc_player_info returns what it
+ * returned before. A push takes nothing while frames wait. All other calls return DSDARC_AFTER_FAULT, also a push of no
+ * bytes.
  */
 #ifndef DSDARC_H
 #define DSDARC_H
@@ -67,7 +73,10 @@ typedef enum dsdarc_status {
     DSDARC_OUT_OF_LIMIT = 15,
     DSDARC_NO_TAKE = 16,
     DSDARC_SHORT_CUE = 17,
-    DSDARC_LAST_BRIDGE = 18
+    DSDARC_LAST_BRIDGE = 18,
+    DSDARC_PROCESSOR = 19,     /* the library was built for processors that can do more than this one */
+    DSDARC_TOO_MUCH_HELD = 20, /* more than 256 MiB come before the sound, or after it in a DSDIFF form */
+    DSDARC_NO_FILTER = 21      /* the index lists no such filter */
 } dsdarc_status;
 
 /* How samples are written. */
@@ -86,33 +95,64 @@ typedef struct dsdarc_info {
 } dsdarc_info;
 
 /* Makes a player by the filter of a project text (`size` bytes of TOML, as the files of filters/), before the first
- * byte of a file. *player is the caller's to drop; after any status but DSDARC_OK it is null. */
+ * byte of a file. *player is the caller's to drop; after any status but DSDARC_OK it is null. DSDARC_PROCESSOR is
+ * returned before the text is read. */
 DSDARC_API dsdarc_status dsdarc_player_new(const void *project, size_t size, dsdarc_player **player);
 
 /* Takes bytes of the file, from the next one on: *taken says how many, at most 65,536 and at most up to where the sound
  * starts or ends. None are taken while frames wait to be pulled; otherwise at least one is, if size isn't 0. Bytes before
- * and after the sound are taken and give no frames. `bytes` may be null if size is 0. */
+ * and after the sound are taken and give no frames. *taken is 0 after any status but DSDARC_OK. `bytes` may be null if
+ * size is 0: then nothing is taken, and nothing changes. */
 DSDARC_API dsdarc_status dsdarc_player_push(dsdarc_player *player, const void *bytes, size_t size, size_t *taken);
 
-/* Reports what is played, once enough bytes were pushed; before that it returns DSDARC_NOT_YET. */
+/* Reports what is played, once enough bytes were pushed, also after a fault. Before that it returns DSDARC_NOT_YET, and
+ * *info is as it was. */
 DSDARC_API dsdarc_status dsdarc_player_info(dsdarc_player *player, dsdarc_info *info);
 
 /* Gives at most `frames` frames that are due, interleaved: *given says how many, 0 if more bytes are needed or all were
- * given. pcm has room for frames * channels samples. It may be null if frames is 0. */
+ * given. pcm has room for frames * channels samples. For DSDARC_S32 it is aligned as an int32_t is; else DSDARC_SIZE is
+ * returned. Any place will do for DSDARC_PACKED. It may be null if frames is 0. */
 DSDARC_API dsdarc_status dsdarc_player_pull(dsdarc_player *player, void *pcm, size_t frames, dsdarc_format format,
                                             size_t *given);
 
 /* Says that the file ends here, and whether it holds a recording, as `dsdarc play` decides it: a DSDIFF form must be
- * whole, and the tag of a DSF file be where its header says. Frames that wait can still be pulled. */
+ * whole, and the tag of a DSF file be where its header says. Frames that wait can still be pulled. DSDARC_OK changes
+ * nothing: the caller may still push and seek. */
 DSDARC_API dsdarc_status dsdarc_player_end(dsdarc_player *player);
 
 /* Goes to a frame, from 0 to the number of frames, once the sound is known: *offset is the byte of the file from which
  * on the caller pushes next. Frames that wait are dropped. After DSDARC_NOT_YET and DSDARC_BEHIND_END nothing has
- * changed. */
+ * changed. *offset is as it was after any status but DSDARC_OK. */
 DSDARC_API dsdarc_status dsdarc_player_seek(dsdarc_player *player, uint64_t frame, uint64_t *offset);
 
 /* Frees a player; null is left alone. */
 DSDARC_API void dsdarc_player_drop(dsdarc_player *player);
+
+/* A ready filter that is wished for. */
+typedef struct dsdarc_wish {
+    uint32_t rate_in; /* hertz: the sample rate of the file */
+    uint32_t rate;    /* hertz: the sample rate of the frames */
+    uint32_t width;   /* bits of a sample: 16 or 24 */
+    uint32_t gain;    /* decibels: 0 or 6 */
+} dsdarc_wish;
+
+/* Finds a ready filter in an index, `size` bytes as those of filters/index.txt. `name` gets the name of its file, with a
+ * zero after it; it has room for `room` bytes, and the status is DSDARC_SIZE if they are too few. DSDARC_NO_FILTER is
+ * returned if there is no such filter. */
+DSDARC_API dsdarc_status dsdarc_filter_find(const void *index, size_t size, const dsdarc_wish *wish, char *name,
+                                            size_t room);
+
+/* Reports the sample rates of the files that a filter of an index is for, in hertz: *count says how many there are, and
+ * `rates` gets the first `room` of them. `name` is the name of the filter's file, without folders. DSDARC_NO_FILTER is
+ * returned if the index doesn't list it. */
+DSDARC_API dsdarc_status dsdarc_filter_rates(const void *index, size_t size, const char *name, uint32_t *rates,
+                                             size_t room, size_t *count);
+
+/* Reports the loudspeakers that the channels of a file belong to, by the bits of a WAVE file's channel mask. `header` has
+ * the first `size` bytes of the file, up to where its sound starts, or more. *mask is 0 if the file doesn't name the
+ * loudspeakers, or has them in another order than that of the bits. Channels that are only numbered (C000, C001) get the
+ * usual mask for how many there are. DSDARC_NOT_YET is returned if the bytes don't have the channels. */
+DSDARC_API dsdarc_status dsdarc_channel_mask(const void *header, size_t size, uint32_t *mask);
 
 /* The name of a status, as "FileRefused"; "Unknown" for any other number. It is never freed. */
 DSDARC_API const char *dsdarc_status_text(dsdarc_status status);

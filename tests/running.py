@@ -16,6 +16,7 @@ sys.path += [os.path.join(ROOT, it) for it in ("cuts", "scripts/common", "modula
 import fades  # noqa: E402
 import placing  # noqa: E402
 import planned  # noqa: E402
+import usual_signals  # noqa: E402
 from material import modulators  # noqa: E402
 
 LOADED = (fades, placing, planned, modulators)  # what scripts need: they find it loaded
@@ -35,7 +36,7 @@ def child(words):
     """Runs a script in this process, and ends it."""
     status = 1
     try:
-        signal.signal(signal.SIGINT, signal.SIG_DFL)
+        usual_signals.begin_child()
         signal.pthread_sigmask(signal.SIG_UNBLOCK, STOPS)
         sys.argv = [os.path.join(ROOT, words[0]), *map(str, words[1:])]
         sys.path.insert(0, os.path.dirname(sys.argv[0]))

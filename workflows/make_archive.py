@@ -38,7 +38,10 @@ def part_of(name, data):
     part = name + ".part"
     os.makedirs(os.path.dirname(name), exist_ok=True)
     try:
-        with open(part, "wb") as file:
+        # What is there may be a link to another file.
+        with contextlib.suppress(FileNotFoundError):
+            os.remove(part)
+        with open(part, "xb") as file:
             file.write(data)
         yield part
     finally:

@@ -6,6 +6,7 @@ import jinja2
 import measured
 from names import shown
 
+TEMPLATE = os.path.join(os.path.dirname(os.path.abspath(__file__)), "page.html.j2")
 LOWEST = {"level": -72.0, "spectrum": -150.0}  # dB, at the lower edge of a picture
 WIDTH, HEIGHT = 60, 32
 TOP = ord("?")  # The letter of the upper edge: none of those after it has a meaning in HTML.
@@ -194,8 +195,8 @@ def summary(rows, lines):
 
 def page(title, rows):
     """The text of the page."""
-    loader = jinja2.FileSystemLoader(os.path.dirname(os.path.abspath(__file__)))
-    template = jinja2.Environment(loader=loader, autoescape=True).get_template("page.html.j2")
+    loader = jinja2.FileSystemLoader(os.path.dirname(TEMPLATE))
+    template = jinja2.Environment(loader=loader, autoescape=True).get_template(os.path.basename(TEMPLATE))
     lines = [line_of(row) for row in rows]
     return template.render(
         title=visible(title),

@@ -3,9 +3,10 @@
 
 For each file that was converted, OUT has all but its sound, as it was: `.head` is what comes before the sound, `.id3`
 or `.tail` what follows it, and `.fill` the last blocks of a DSF file whose fill isn't zero. With the sound of the
-converted file this is the old file, byte for byte. It is written to FOLDER under its old name, once its SHA-256 is the
-old one's. A file that is there already with that SHA-256 stays. The script reads `results.json`, `converted/`, `kept/`
-and `renamed/`, and doesn't need dsdarc.
+converted file this is the old file, byte for byte. Other files are in `beside/` as they were, but for those that
+`not_kept.tsv` lists. All are written to FOLDER under their old names, each once its SHA-256 is the old one's. A file
+that is there already stays: if it has that SHA-256 it is the old one, otherwise the old one is not made. The script
+reads `results.json`, `beside.json`, `converted/`, `kept/`, `renamed/` and `beside/`, and doesn't need dsdarc.
 """
 import os
 import sys
@@ -20,6 +21,7 @@ import hashlib  # noqa: E402
 import struct  # noqa: E402
 import tempfile  # noqa: E402
 
+import besides  # noqa: E402
 import channels  # noqa: E402
 import names  # noqa: E402
 import room  # noqa: E402
@@ -125,17 +127,29 @@ def is_made(path, total):
     return os.path.isfile(path) and not os.path.islink(path) and names.sum_of(path) == total
 
 
+def data_of(out, found):
+    """The bytes of an old file, piece by piece: of one that was converted, or of a copy."""
+    if "copy" in found:
+        with open(os.path.join(out, found["copy"]), "rb") as file:
+            yield from copied(file)
+        return
+    kept = {os.path.splitext(path)[1]: os.path.join(out, path) for path in found["kept"]}
+    if ".head" not in kept:
+        raise channels.Unread("nothing was kept of its header")
+    yield from made_again(os.path.join(out, found["converted"]), kept)
+
+
 def restore(out, name, found, part, folder):
     """Writes one file again; it has its name only where it is the old one."""
     if os.path.isabs(name) or ".." in name.split("/"):
         raise channels.Unread("its name leads out of the folder")
     path = os.path.join(folder, name)
+    demand_apart(out, os.path.dirname(path))
     if is_made(path, found["sha256"]):
         return
-    kept = {os.path.splitext(path)[1]: os.path.join(out, path) for path in found["kept"]}
-    if ".head" not in kept:
-        raise channels.Unread("nothing was kept of its header")
-    write(part, made_again(os.path.join(out, found["converted"]), kept))
+    if os.path.lexists(path):
+        raise channels.Unread("another file has its name: move that away")
+    write(part, data_of(out, found))
     if names.sum_of(part) != found["sha256"]:
         raise channels.Unread("it would have another sum")
     os.makedirs(os.path.dirname(path), exist_ok=True)
@@ -151,21 +165,51 @@ def is_entry(found):
     return found["converted"] is None or is_kept and isinstance(found.get("sha256"), str)
 
 
-def converted(out):
-    """What was converted, by its old name."""
-    listed = os.path.join(out, "results.json")
+def is_copy(found):
+    """Whether an entry of beside.json has what is read of it."""
+    return isinstance(found, dict) and all(isinstance(found.get(it), str) for it in ("copy", "sha256"))
+
+
+def listed(out, name, is_right):
+    """What a list of the workflow has, by the old names of files."""
+    path = os.path.join(out, name)
     try:
-        results = names.load(listed)
+        found = names.load(path)
     except ValueError:
-        results = None
-    if not isinstance(results, dict) or not all(map(is_entry, results.values())):
-        raise outputs.Refused(f"{outputs.shown_name(listed)} isn't as the workflow writes it")
-    return {name: found for name, found in results.items() if found["converted"] is not None}
+        found = None
+    if not isinstance(found, dict) or not all(map(is_right, found.values())):
+        raise outputs.Refused(f"{outputs.shown_name(path)} isn't as the workflow writes it")
+    return found
+
+
+def kept_of(out):
+    """What can be made again, by the old names: what was converted, and the copies of other files."""
+    found = listed(out, "results.json", is_entry)
+    converted = {name: it for name, it in found.items() if it["converted"] is not None}
+    # A run by an earlier version kept no copies.
+    has_copies = os.path.lexists(os.path.join(out, besides.LIST))
+    return converted | (listed(out, besides.LIST, is_copy) if has_copies else {})
+
+
+def not_kept(out):
+    """How many files of the archive are listed as not kept."""
+    try:
+        with open(os.path.join(out, besides.LEFT), encoding="utf-8", errors="surrogateescape") as file:
+            return file.read().count("\n")
+    except FileNotFoundError:
+        return 0
+
+
+def demand_apart(out, folder):
+    """Refuses a folder in which files would be written over those that are read."""
+    if names.inner_of(folder, out) in (".", "archive", *names.WRITTEN):
+        raise outputs.Refused(f"{outputs.shown_name(folder)} is OUT, or a folder of the run, too: name another one")
 
 
 def restore_all(out, folder):
-    """Restores all that was converted: how many files, and how many could not be made again."""
-    results, wrong = converted(out), 0
+    """Restores all that was kept: how many files, and how many could not be made again."""
+    demand_apart(out, folder)
+    results, wrong = kept_of(out), 0
     os.makedirs(folder, exist_ok=True)
     with tempfile.TemporaryDirectory(prefix=".restore-", dir=folder) as parts:
         for name, found in results.items():
@@ -186,6 +230,9 @@ def main():
     with room.told("FOLDER"):
         made, wrong = restore_all(*sys.argv[1:])
     print(f"made again {made}, not {wrong}")
+    left = not_kept(sys.argv[1])
+    if left:
+        print(f"not kept, so not made: {left}, listed in {outputs.shown_name(os.path.join(sys.argv[1], besides.LEFT))}")
     return 1 if wrong else 0
 
 

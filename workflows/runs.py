@@ -9,6 +9,8 @@ import tagging
 from outputs import Refused, shown_name
 from program import PROGRAM
 
+# The lists of play_all.
+SUMS, REFUSED = "SHA256SUMS", "refused.txt"
 # How a line of refused.txt goes on after a name.
 SAID = re.compile(r"(.*): (fault: .*|no (?:filter|tracks:) .*|status \d+|stopped|the program ended .*)", re.DOTALL)
 
@@ -32,8 +34,8 @@ class Row:
 
 
 def plain(shown):
-    """A name as it was before it was written on a line (`names.shown`)."""
-    return re.sub(r"\\([\\nr])", lambda it: {"\\": "\\", "n": "\n", "r": "\r"}[it[1]], shown)
+    """A name as it was before it was written on a line (`names.shown`, `names.listed`)."""
+    return re.sub(r"\\([\\nrt])", lambda it: {"\\": "\\", "n": "\n", "r": "\r", "t": "\t"}[it[1]], shown)
 
 
 def lines_of(path):
@@ -48,6 +50,11 @@ def sums_of(path):
         total, _, shown = line.removeprefix("\\").partition("  ")
         sums[plain(shown)] = total
     return sums
+
+
+def is_of_waves(path):
+    """Whether a list of sums, if it is there, is one of WAVE files alone."""
+    return not os.path.lexists(path) or all(name.endswith(".wav") for name in sums_of(path))
 
 
 def told_of(row, found):
@@ -85,7 +92,7 @@ def of_workflow(out):
     table = names.load(os.path.join(out, names.TABLE))
     results = names.load(os.path.join(out, "results.json"))
     sums = sums_of(os.path.join(out, "SHA256SUMS"))
-    rows = {name: Row(name) for _, name in table["refused"]}
+    rows = {name: Row(name) for _, name, *_ in table["refused"]}
     for key, entry in table["files"].items():
         found = results.get(entry["name"])
         if found is None:
@@ -132,14 +139,14 @@ def asked(archive, row):
     except ValueError:
         return
     if done.returncode == 0:
-        told_of(row, dict(line.split(" ", 1) for line in done.stdout.decode().splitlines()))
+        told_of(row, dict(line.split(" ", 1) for line in done.stdout.decode().split("\n") if line))
         row.samples = None if is_track else row.samples
 
 
 def of_play_all(out, archive, pool):
     """The rows of a run of play_all; what its files hold is asked where the archive is named."""
-    sums = sums_of(os.path.join(out, "SHA256SUMS"))
-    said = refusals_of(os.path.join(out, "refused.txt"))
+    sums = sums_of(os.path.join(out, SUMS))
+    said = refusals_of(os.path.join(out, REFUSED))
     rows = [Row(name.removesuffix(".wav"), pcm=name, sums={"WAVE": total}) for name, total in sums.items()]
     rows += [Row(name, refusals=[("play", fault)]) for name, fault in said.items()]
     if archive is not None:

@@ -1,5 +1,5 @@
 #!/usr/bin/env python3
-"""The steps of the workflow, in OUT: steps.py look|convert|play KEY over one file, steps.py plan|lists over all.
+"""The steps of the workflow, in OUT: steps.py look|convert|play KEY over one file, steps.py plan|beside|lists over all.
 
 `names.py` has the keys, and the names behind them. The notes in `work/` are what Snakemake knows; a step writes its note
 last, and a file that is written has its name only once it is whole.
@@ -13,6 +13,7 @@ import outputs  # noqa: E402
 outputs.begin()
 import tomllib  # noqa: E402
 
+import besides  # noqa: E402
 import channels  # noqa: E402
 import restore  # noqa: E402
 import room  # noqa: E402
@@ -21,6 +22,7 @@ import waves  # noqa: E402
 from explained import lines_of  # noqa: E402
 from names import KINDS, SETTINGS, TABLE, keep, load, remove, result, shown, sum_line, sum_of  # noqa: E402
 from program import PROGRAM, finished  # noqa: E402
+from walks import identity_of  # noqa: E402
 
 ENDINGS = {"dsdiff": "dff", "dsf": "dsf", "dsf8": "dsf"}
 
@@ -64,18 +66,26 @@ def note_of(step, key, form):
 
 
 def look(key):
-    """What the program prints of a file, or the fault that it is refused for, and the sum of its bytes."""
+    """What the program prints of a file, or the fault that it is refused for, the sum of its bytes, and what shows that
+    it is another file later."""
+    identity = identity_of(source_of(key))
     status, text = run("--explain", "info", source_of(key))
     fault, *more = lines_of(text, source_of(key)) or [""]
     if status == 0:
-        lines = [line.split(" ", 1) for line in text.splitlines()]
+        # The text of a mark may have what else ends a line.
+        lines = [line.split(" ", 1) for line in text.split("\n")]
         told = {word: value for word, value in lines if word not in ("mark", "ids")}
         found = {word: value if word == "form" else int(value) for word, value in told.items()}
     elif status in (2, 3) and fault != "fault: Memory":
         found = {"fault": fault.removeprefix("fault: "), "why": more}
     else:
         sys.exit(f"{text or f'status {status}'}: {entry_of(key)['name']!r}")
-    keep(look_of(key), found | {"sha256": sum_of(source_of(key))})
+    try:
+        total = sum_of(source_of(key))
+    except OSError as error:
+        found, total = {"fault": "ReadFailed", "why": [error.strerror]}, None
+    # What can't be read may be read the next time.
+    keep(look_of(key), found | {"sha256": total, "identity": identity if total else None})
 
 
 def placed(parts):
@@ -119,6 +129,7 @@ def convert(key):
         keep(
             note_of("convert", key, form),
             {
+                "form": form,
                 "rate": rate,
                 "channels": [{"bits": bits, "sha256": total} for bits, total in sums],
                 "dropped": int(dropped.split()[-1]),
@@ -136,59 +147,82 @@ def play(key):
     settings, entry, part = load(SETTINGS), entry_of(key), f"work/parts/{key}.wav"
     try:
         chosen, source = settings["filters"][str(load(look_of(key))["rate"])], source_of(key)
+        used = sum_of(chosen)
         must(entry, lambda: room.played_size(source, chosen), "play", chosen, source, part)
         tag = tagging.hand_on(source, part)
         results = placed({result("pcm", entry, ".wav"): part})
-        keep(note_of("play", key, settings["form"]), {"renamed": entry["renamed"], "results": results, "tag": tag})
+        note = {"renamed": entry["renamed"], "results": results, "tag": tag, "filter": used}
+        keep(note_of("play", key, settings["form"]), note)
     finally:
         remove(part)
 
 
 def unconvertible(found, form):
-    """The fault that a conversion of a file would have, or None."""
-    return "NotWholeBytes" if form == "dsdiff" and found["samples"] % 8 else None
+    """The fault that a conversion of a file would have, and what is wrong; or None."""
+    if form != "dsdiff" or found["samples"] % 8 == 0:
+        return None
+    return "NotWholeBytes", f"its channels have {found['samples']} bits each, and DSDIFF holds whole bytes"
 
 
 def unplayable(found, filters):
-    """The fault that the playing of a file would have, or None; `NoFilter` where none was chosen for its rate."""
-    name = filters.get(str(found["rate"]))
+    """The fault that the playing of a file would have, and what is wrong; `NoFilter` where none was chosen for its rate.
+    Or None."""
+    rate, name = found["rate"], filters.get(str(found["rate"]))
     if name is None:
-        return f"NoFilter {found['rate']}"
+        there = ", ".join(sorted(filters, key=lambda it: (len(it), it))) or "none"
+        return f"NoFilter {rate}", f"no filter was chosen for its {rate} Hz; the rates that have one are {there}"
     with open(name, "rb") as file:
         project = tomllib.load(file)["decimate"]
-    if found["rate"] % project["factor"]:
-        return "RateNotDivided"
+    if rate % project["factor"]:
+        return "RateNotDivided", f"its filter divides by {project['factor']}, and its rate is {rate} Hz"
     frames = -(-found["samples"] // project["factor"])
     size = waves.riff_size(found["channels"], project["width"], frames)
-    return "TooLarge" if size >= waves.SIZE_LIMIT else None
+    if size < waves.SIZE_LIMIT:
+        return None
+    return "TooLarge", f"its WAVE file would count {size} bytes, and has to count fewer than {waves.SIZE_LIMIT}"
+
+
+def faults_of(found, settings):
+    """Fault and reasons of each step that is refused of a file."""
+    if "fault" in found:
+        return {"info": (found["fault"], *found.get("why", ()))}
+    faults = {
+        "convert": unconvertible(found, settings["form"]),
+        "play": unplayable(found, settings["filters"]),
+    }
+    return {step: fault for step, fault in faults.items() if fault}
+
+
+def refusal_lines(step, name, fault, *whys):
+    """The lines of a refusal: step, fault and name, and below what is wrong."""
+    return [f"{step}\t{fault}\t{shown(name)}\n", *(f"\t{why}\n" for why in whys)]
 
 
 def plan():
     """What is done with each file, and the list of what is refused."""
-    settings, table, steps = load(SETTINGS), load(TABLE), {}
-    lines = [
-        f"{'folder' if fault == 'FolderUnread' else 'info'}\t{fault}\t{shown(name)}\n"
-        for fault, name in table["refused"]
-    ]
+    settings, table, steps, lines = load(SETTINGS), load(TABLE), {}, []
+    for fault, name, why in table["refused"]:
+        lines += refusal_lines("folder" if fault == "FolderUnread" else "info", name, fault, why)
     for key, entry in by_name(table):
         found = load(look_of(key))
-        faults = (
-            {"info": found["fault"]}
-            if "fault" in found
-            else {
-                "convert": unconvertible(found, settings["form"]),
-                "play": unplayable(found, settings["filters"]),
-            }
-        )
-        lines += [f"{step}\t{fault}\t{shown(entry['name'])}\n" for step, fault in faults.items() if fault]
-        lines += [f"\t{line}\n" for line in found.get("why", ())]
+        faults = faults_of(found, settings)
+        for step, fault in faults.items():
+            lines += refusal_lines(step, entry["name"], *fault)
         steps[key] = {
-            "convert": "info" not in faults and not faults["convert"],
-            "play": "info" not in faults and not faults["play"],
+            "convert": "info" not in faults and "convert" not in faults,
+            "play": "info" not in faults and "play" not in faults,
             "rate": found.get("rate"),
         }
     keep("refused.tsv", "".join(lines))
     keep("work/plan.json", steps)
+
+
+def beside():
+    """Keeps what isn't converted, and lists what isn't kept."""
+    table, steps = load(TABLE), load("work/plan.json")
+    left = [entry["name"] for key, entry in by_name(table) if not steps[key]["convert"]]
+    whys = {name: why for _, name, why in table["refused"]}
+    besides.keep_all([*table["beside"], *left], whys, load(SETTINGS)["beside_mb"])
 
 
 def by_name(table):
@@ -217,7 +251,8 @@ def lists():
     sources, made, sounds, results = [], {}, [], {}
     for key, entry in by_name(table):
         notes, results[entry["name"]] = told(key, steps[key], form)
-        sources.append(sum_line(results[entry["name"]]["sha256"], entry["name"]))
+        if results[entry["name"]]["sha256"]:
+            sources.append(sum_line(results[entry["name"]]["sha256"], entry["name"]))
         for note in notes.values():
             made |= note["results"]
         if "convert" in notes:
@@ -226,6 +261,7 @@ def lists():
                 f"{channel['sha256']}\t{rate}\t{channel['bits']}\t{number}\t{name}\n"
                 for number, channel in enumerate(notes["convert"]["channels"])
             ]
+    made |= besides.copies()
     keep("SOURCES.SHA256SUMS", "".join(sources))
     keep("SHA256SUMS", "".join(sum_line(file["sha256"], path) for path, file in sorted(made.items())))
     keep("channels.tsv", "".join(sounds))
@@ -254,10 +290,11 @@ def report(table, steps, results, sounds):
         f"channels with equal bits {sounds}\n"
         f"results under other names {named}\n"
         f"tags handed on to {tags.count(True)} results, not to {tags.count(False)}\n"
+        f"other files and refused ones kept as they are {len(besides.copies())}, not kept {besides.not_kept()}\n"
     )
 
 
-STEPS = {step.__name__: step for step in (look, convert, play, plan, lists)}
+STEPS = {step.__name__: step for step in (look, convert, play, plan, beside, lists)}
 
 
 def main(step, *key):

@@ -17,6 +17,7 @@ PIECE = 1 << 20
 # A WAVE file has no more bytes after its first 8 than this.
 MOST_WAVE = 2**32 - 1
 HANDED_ON = "handed on"
+NOT_INSTALLED = "python3-mutagen isn't installed"
 
 
 class Untagged(Refused):
@@ -192,7 +193,7 @@ def hand_on(source, name, is_compared=False):
     if not tag or tag_of(name):
         return None
     if not has_mutagen():
-        return "python3-mutagen isn't installed"
+        return NOT_INSTALLED
     with open(name, "rb") as file:
         head, size = file.read(28), os.path.getsize(name)
     try:

@@ -3,24 +3,24 @@
 A name can hold whatever a disk takes, also what a shell would run. So no shell and no Snakemake reads one: inside a
 workflow a file goes by its key, the first digits of its name's SHA-256, and `work/names.json` tells whose key it is.
 """
-import errno
+import functools
 import hashlib
 import json
 import os
 import re
-import stat
 import sys
 import unicodedata
 
 import room
+import walks
 
 KEY_DIGITS = 32
-ENDINGS = (".dff", ".dsf")
 # What the results of one file end with, by the folder that they are in.
 KINDS = {"converted": (".dff", ".dsf"), "pcm": (".wav",), "kept": (".head", ".fill", ".id3", ".tail")}
+# The folders in OUT in which the workflow writes.
+WRITTEN = ("work", "renamed", "beside", *KINDS)
 ADDED = max(len(ending) for endings in KINDS.values() for ending in endings)
-# A file's path from the archive, a result's from OUT, and the path of OUT; the system takes 4095 bytes.
-LONGEST_SOURCE = 4000
+# The path of a result from OUT, and that of OUT; the system takes 4095 bytes.
 LONGEST_RESULT = 3000
 LONGEST_OUT = 1000
 FRONT = 200
@@ -35,14 +35,14 @@ def key_of(name):
     return hashlib.sha256(os.fsencode(name)).hexdigest()[:KEY_DIGITS]
 
 
-def is_text(name):
-    """Whether a name is UTF-8."""
-    return not any("\udc80" <= letter <= "\udcff" for letter in name)
-
-
 def shown(name):
     """A name on one line, as sha256sum writes it."""
     return name.replace("\\", "\\\\").replace("\n", "\\n").replace("\r", "\\r")
+
+
+def listed(name):
+    """A name at the beginning of a line, in a list whose lines that begin with a tab explain the one before them."""
+    return f"\\t{shown(name[1:])}" if name.startswith("\t") else shown(name)
 
 
 def sum_line(total, name):
@@ -54,7 +54,9 @@ def keep(name, data):
     """Writes a text or an object as JSON, whole or not at all."""
     part = name + ".part"
     try:
-        with open(part, "w", encoding="utf-8", errors="surrogateescape") as file:
+        # It may be a link to another file.
+        remove(part)
+        with open(part, "x", encoding="utf-8", errors="surrogateescape") as file:
             if isinstance(data, str):
                 file.write(data)
             else:
@@ -90,62 +92,6 @@ def remove(*names):
     for name in names:
         if os.path.lexists(name):
             os.remove(name)
-
-
-def fault_of(archive, name):
-    """The fault that a file isn't even looked at for, or None."""
-    path = os.path.join(archive, name)
-    if not is_text(name):
-        return "WrongWords"
-    if len(os.fsencode(name)) > LONGEST_SOURCE:
-        return "PathTooLong"
-    try:
-        mode = os.stat(path).st_mode
-    except OSError as error:
-        return "PathTooLong" if error.errno == errno.ENAMETOOLONG else "ReadFailed"
-    if not stat.S_ISREG(mode):
-        return "NotAFile"
-    return None if os.access(path, os.R_OK) else "ReadFailed"
-
-
-def walk(archive, left_out):
-    """The name of each DSD file below a folder with its fault or None, and of each folder that can't be listed.
-
-    Links to files are taken, links to folders are not followed, and the folder that is left out is not entered.
-    """
-    out, folders = os.stat(left_out), [""]
-    while folders:
-        folder = folders.pop()
-        try:
-            with os.scandir(os.path.join(archive, folder)) as found:
-                entries = list(found)
-        except OSError:
-            if not folder:
-                raise
-            yield folder, "FolderUnread"
-            continue
-        for entry in entries:
-            name = os.path.join(folder, entry.name)
-            if entry.is_dir(follow_symlinks=False):
-                if not is_same(entry, out):
-                    folders.append(name)
-            elif entry.name.lower().endswith(ENDINGS) and not is_folder(entry):
-                yield name, fault_of(archive, name)
-
-
-def is_folder(entry):
-    """Whether a link leads to a folder; one that leads nowhere doesn't."""
-    try:
-        return entry.is_dir()
-    except OSError:
-        return False
-
-
-def is_same(entry, folder):
-    try:
-        return os.path.samestat(entry.stat(follow_symlinks=False), folder)
-    except OSError:
-        return False
 
 
 def folders_of(names):
@@ -184,14 +130,14 @@ def result(kind, entry, ending):
 
 
 def table_of(archive, out):
-    """The files that are looked at, by their keys, and what is refused by its name alone."""
-    found = sorted(walk(archive, out))
-    good = [name for name, fault in found if fault is None]
-    folders, longest = folders_of(good), os.pathconf(out, "PC_NAME_MAX")
-    files = {key_of(name): {"name": name, "renamed": renamed(name, folders, longest)} for name in good}
-    if len(files) != len(good):
+    """The files that are looked at, by their keys, what is refused by its name alone and why, and the names of all other
+    files."""
+    found = walks.Walk(archive, out)
+    folders, longest = folders_of(found.good), os.pathconf(out, "PC_NAME_MAX")
+    files = {key_of(name): {"name": name, "renamed": renamed(name, folders, longest)} for name in found.good}
+    if len(files) != len(found.good):
         sys.exit("two names have the same key: rename one of the files")
-    return {"files": files, "refused": [[fault, name] for name, fault in found if fault]}
+    return {"files": files, "refused": found.refused, "others": found.others}
 
 
 def tells_apart(folder, first, second):
@@ -242,6 +188,8 @@ def link_archive(named):
         link(named, "archive")
     if not os.path.isdir("archive"):
         sys.exit("OUT/archive leads to no folder")
+    if os.path.samefile("archive", "."):
+        sys.exit("OUT is the archive itself: take another folder")
 
 
 def link_files(files):
@@ -261,6 +209,33 @@ def link_files(files):
         keep("work/archive.json", target)
 
 
+def identity_or_none(name):
+    try:
+        return walks.identity_of(name)
+    except OSError:
+        return None
+
+
+def is_known(look, identity):
+    """Whether a file is the one that was looked at."""
+    try:
+        return load(look).get("identity") == identity
+    except (OSError, ValueError, AttributeError):
+        return False
+
+
+def forget_changed(files):
+    """Removes the notes of files that are others now, also of those whose time is an older one."""
+    notes = {key: [] for key in files}
+    for kind in ("converted", "played"):
+        for name in os.listdir(f"work/{kind}"):
+            notes.get(name.partition(".")[0], []).append(f"work/{kind}/{name}")
+    for key in files:
+        look = f"work/looks/{key}.json"
+        if not is_known(look, identity_or_none(f"work/links/{key}")):
+            remove(look, *notes[key])
+
+
 def is_there(note, entry):
     """Whether what a note names is where it should be."""
     return note["renamed"] == entry["renamed"] and all(
@@ -268,14 +243,36 @@ def is_there(note, entry):
     )
 
 
-def forget_lost(kind, files):
-    """Removes the notes of what is no longer there, so that it is made again; and what is in another's place."""
+def is_wished(kind, key, note, settings):
+    """Whether what a note names was made as it is wished for now: by this filter, or to this form if it has that
+    ending."""
+    if kind == "converted":
+        forms = str(note.get("form")), settings["form"]
+        return forms[0] == forms[1] or forms[0].startswith("dsf") != forms[1].startswith("dsf")
+    chosen = settings["filters"].get(str(load(f"work/looks/{key}.json").get("rate")))
+    return chosen is None or note.get("filter") == sum_of_filter(chosen)
+
+
+@functools.lru_cache
+def sum_of_filter(path):
+    return sum_of(path)
+
+
+def forget_lost(kind, files, settings):
+    """Removes the notes of what is no longer there, or isn't what is wished for now, so that it is made again; and what
+    is in another's place."""
     for name in os.listdir(f"work/{kind}"):
-        entry, path = files.get(name.partition(".")[0]), f"work/{kind}/{name}"
+        key, path = name.partition(".")[0], f"work/{kind}/{name}"
+        entry = files.get(key)
         if entry and name.endswith(".json"):
             note = load(path)
-            if not is_there(note, entry):
+            if not is_there(note, entry) or not is_wished(kind, key, note, settings):
                 remove(path, *(note["results"] if note["renamed"] != entry["renamed"] else ()))
+
+
+def inner_of(folder, out):
+    """The folder in OUT that a folder is, or is in; `.` of OUT itself, and `..` of what is elsewhere."""
+    return os.path.relpath(os.path.realpath(folder), os.path.realpath(out)).split("/")[0]
 
 
 def settle(archive, settings):
@@ -283,6 +280,8 @@ def settle(archive, settings):
     out = os.getcwd()
     if len(os.fsencode(out)) > LONGEST_OUT:
         sys.exit(f"the path of OUT has more than {LONGEST_OUT} bytes: take another")
+    if inner_of(archive or "archive", ".") in (".", *WRITTEN):
+        sys.exit("the archive is OUT, or a folder in which the run writes: take another OUT")
     link_archive(archive)
     for folder in ("looks", "converted", "played", "parts"):
         os.makedirs(f"work/{folder}", exist_ok=True)
@@ -292,8 +291,11 @@ def settle(archive, settings):
     if clash:
         sys.exit("the disk of OUT takes these two for one name, take another: " + ", ".join(map(repr, clash)))
     link_files(table["files"])
+    forget_changed(table["files"])
     for kind in ("converted", "played"):
-        forget_lost(kind, table["files"])
+        forget_lost(kind, table["files"], settings)
+    besides = [*table.pop("others"), *(name for _, name, _ in table["refused"])]
+    table["beside"] = {name: identity_or_none(f"archive/{name}") for name in besides}
     keep_if_other(TABLE, table)
     keep_if_other(SETTINGS, settings)
 

@@ -89,6 +89,14 @@ def identity(name):
         return found.st_dev, found.st_ino, last
 
 
+def demand_unread(read, written):
+    """Refuses where a file that would be written is there, and is one that is read, by whatever name."""
+    known = {identity(name): name for name in read}
+    for name in written if known else ():
+        if os.path.exists(name) and identity(name) in known:
+            raise Refused(f"{shown_name(name)} would be written, and is {shown_name(known[identity(name)])} too")
+
+
 def disk_of(name):
     """Where the disk of a file is mounted."""
     place = os.path.realpath(name)
@@ -211,6 +219,16 @@ class Outputs:
     def __init__(self, inputs=()):
         self.inputs = [(what, os.fspath(name), identity(name)) for what, name in inputs]
         self.files, self.folders = {}, []
+        self.demand_streams()
+
+    def demand_streams(self):
+        """Refuses where what is printed would be written into a file that is read."""
+        for number, stream in ((1, "standard output"), (2, "standard error")):
+            with contextlib.suppress(OSError):
+                printed = os.fstat(number)
+                for what, name, it in self.inputs:
+                    if stat.S_ISREG(printed.st_mode) and it == (printed.st_dev, printed.st_ino):
+                        raise Refused(f"{stream} is {what} too, {shown_name(name)}: print to another file")
 
     def add(self, what, name):
         """Takes one more file, before anything is written to it. It may be no file that is read, and no other one."""

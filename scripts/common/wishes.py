@@ -4,6 +4,7 @@ import os
 import re
 import struct
 import subprocess
+import typing
 
 import channels
 from explained import lines_of
@@ -11,40 +12,67 @@ from outputs import Refused
 from program import PROGRAM, ROOT
 
 FOLDER = os.path.join(ROOT, "filters")
-# The rate that filters of a name are made for. They go by the ratio of rates: those of DSD256 serve 12,288,000 Hz too.
-MADE_FOR = {
-    "dsd64": 2_822_400,
-    "dsd128": 5_644_800,
-    "dsd256": 11_289_600,
-    "dsd3072": 3_072_000,
-    "dsd6144": 6_144_000,
-}
-SERVED_BY = {rate: name for name, rate in MADE_FOR.items()} | {12_288_000: "dsd256"}
-NAME = re.compile(r"(dsd\d+)-to-([1-9]\d*)-(16|24)(-plus6)?\.toml", re.ASCII)
+INDEX = "index.txt"  # beside the ready filters: what each is for
+# A line of the index.
+LINE = re.compile(r"(\S+\.toml) (\d{1,10}(?:,\d{1,10})*) ([1-9]\d{0,9}) ([1-9]\d?) (-?\d{1,3})", re.ASCII)
 HEAD = 4096  # bytes, in which files have their rate
 WISH = re.compile(r"([1-9]\d{0,9})/([1-9]\d?)", re.ASCII)
 
 
-def ready(folder=FOLDER):
-    """The names of all ready filters, by what they are made for, their ratio, width and loudness."""
-    found = {}
-    for name in os.listdir(folder):
-        parts = NAME.fullmatch(name)
-        made_for = MADE_FOR.get(parts[1], 0) if parts else 0
-        if made_for and made_for % int(parts[2]) == 0:
-            found[parts[1], made_for // int(parts[2]), int(parts[3]), bool(parts[4])] = name
+class Filter(typing.NamedTuple):
+    """A ready filter: its file's name, the stored rates that it is for, the factor that divides them, the width of its
+    samples, and its gain in dB."""
+
+    name: str
+    rates: tuple[int, ...]
+    factor: int
+    width: int
+    gain: int
+
+
+def read_line(line: str) -> Filter | None:
+    """A line of an index, or None where it is none."""
+    parts = LINE.fullmatch(line)
+    if not parts:
+        return None
+    rates = tuple(map(int, parts[2].split(",")))
+    return Filter(parts[1], rates, int(parts[3]), int(parts[4]), int(parts[5]))
+
+
+def ready(folder: str = FOLDER) -> list[Filter]:
+    """All ready filters of a folder, as its index lists them."""
+    path = os.path.join(folder, INDEX)
+    try:
+        with open(path, encoding="ascii", errors="replace") as file:
+            lines = [line for line in file.read().splitlines() if line and not line.startswith("#")]
+    except OSError as error:
+        raise Refused(f"the list of ready filters can't be read: {path}: {error.strerror}") from None
+    found = []
+    for line in lines:
+        row = read_line(line)
+        if not row:
+            raise Refused(f"{path}: a line is no NAME RATES FACTOR WIDTH GAIN: {line!a}")
+        found.append(row)
     return found
 
 
-def for_rate(filters, rate, is_louder):
+def served(filters: list[Filter]) -> list[int]:
+    """The stored rates that have a filter."""
+    return sorted({rate for it in filters for rate in it.rates})
+
+
+def for_rate(filters: list[Filter], rate: int, is_louder: bool) -> dict[tuple[int, int], str]:
     """What can be wished for a stored rate, as numbers, and the name of the filter that plays it."""
-    made_for = SERVED_BY.get(rate)
-    rows = {
-        (rate // ratio, width): name
-        for (source, ratio, width, loud), name in filters.items()
-        if source == made_for and loud == is_louder
-    }
+    rows = {(rate // it.factor, it.width): it.name for it in filters if rate in it.rates and (it.gain > 0) == is_louder}
     return dict(sorted(rows.items()))
+
+
+def made_for(path: str) -> tuple[int, ...]:
+    """The stored rates that a filter is for, by the index beside it; none where no index lists it."""
+    folder, name = os.path.split(os.path.realpath(path))
+    with contextlib.suppress(Refused):
+        return next((it.rates for it in ready(folder) if it.name == name), ())
+    return ()
 
 
 def parsed(text):
@@ -61,8 +89,8 @@ def all_parsed(text):
 
 def path_for(filters, rate, wishes, is_louder=False):
     """The path of the filter that plays a stored rate to the first wish for which there is one."""
-    if rate not in SERVED_BY:
-        raise Refused(f"no filter plays its {rate} Hz; there are some for {', '.join(map(str, sorted(SERVED_BY)))}")
+    if rate not in served(filters):
+        raise Refused(f"no filter plays its {rate} Hz; there are some for {', '.join(map(str, served(filters)))}")
     there = for_rate(filters, rate, is_louder)
     for wish in wishes:
         if wish in there:
@@ -73,15 +101,17 @@ def path_for(filters, rate, wishes, is_louder=False):
 
 
 def by_rates(text, is_louder=False):
-    """The path of the filter for each rate that has one, by wishes."""
+    """The path of the filter for each rate that has one, by wishes, of which each has one for some rate."""
     wishes, there, found = all_parsed(text), ready(), {}
     if wishes is None:
         raise Refused(f"{text!r} is no RATE/BITS, as 88200/24 is")
-    for rate in sorted(SERVED_BY):
+    played = {wish for rate in served(there) for wish in for_rate(there, rate, is_louder)}
+    unserved = ", ".join(f"{out}/{width}" for out, width in wishes if (out, width) not in played)
+    if unserved:
+        raise Refused(f"no filter plays any rate to {unserved}: filters/pick --list prints what there is")
+    for rate in served(there):
         with contextlib.suppress(Refused):
             found[str(rate)] = path_for(there, rate, wishes, is_louder)
-    if not found:
-        raise Refused(f"no filter plays any rate to {text}: filters/pick --list prints what there is")
     return found
 
 

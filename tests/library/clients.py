@@ -7,6 +7,7 @@ import subprocess
 
 from dsdiffs import dsdiff
 from playing import BUILT, PROGRAM, ROOT, compiled, demand, frames_of, get, run
+from stopped import try_stopped
 
 
 def try_clients(folder, *last):
@@ -36,6 +37,10 @@ def try_player(folder, dff, dsf, filter, frames, align):
         demand(status == 0 and get(out) == frames, f"dsdarcplay: other frames: {said}")
         status, said = run(player, "-D", "raw", "-s", second, filter, name)
         demand(status == 0 and get(out) == frames[at * align :], f"dsdarcplay: other frames from {second} s: {said}")
+    for other, is_warned in ((os.path.join(ROOT, "filters", "dsd128-to-88200-24.toml"), True), (filter, False)):
+        status, said = run(player, "-D", "raw", other, dff)
+        is_right = status == 0 and is_warned == ("is for files of 5644800 Hz, and this one has 2822400 Hz" in said)
+        demand(is_right, f"dsdarcplay: the warning of {other}: status {status}, {said}")
     words = [player, "-D", "raw", "-s", second, filter, "/dev/stdin"]
     done = subprocess.run(words, input=get(dff), capture_output=True, check=False)
     is_told = done.returncode == 1 and b"/dev/stdin: Illegal seek" in done.stderr
@@ -85,6 +90,7 @@ def try_element(folder, words, dff, dsf, filter, frames, align):
         status, said = run(seek, "88200/24", name, out, pause, *places)
         part = whole[6 * int(places[-1]) :]
         demand(status == 0 and get(out) == part, f"dsdarcdec: other frames from {places} on, {pause} us: {said}")
+    try_stopped(folder, words, long, out, whole)
     try_keys(folder, long, out, whole)
 
 

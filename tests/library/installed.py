@@ -1,6 +1,7 @@
 """Tries the library as users have it: installed, from the Debian packages, and by pip. The lines of README.md and of
 docs/LIBRARY.md are run as they are there, beside what is installed and a file `in.dsf`."""
 import os
+import re
 import shutil
 import subprocess
 import sys
@@ -122,31 +123,54 @@ def below_local(folder, users, given):
     users.runs_script("Python, below /usr/local", sys.executable, PYTHONPATH=place, LD_LIBRARY_PATH="")
 
 
+def files_of_packages(folder, users, made):
+    """Each file that is installed is in one of the packages, and the library where Debian has libraries."""
+    there = []
+    for number, name in enumerate(made):
+        status, said = users.run("dpkg-deb", "-R", name, f"{folder}/{number}")
+        demand(status == 0, f"{name}: {said}")
+        shutil.copytree(f"{folder}/{number}/usr", f"{folder}/usr", symlinks=True, dirs_exist_ok=True)
+        there.append(
+            {it for it in files_below(f"{folder}/{number}/usr") if not re.match("share/(doc/|man/man1/dsdarc-)", it)}
+        )
+    place = os.path.dirname(next(it for it in sorted(there[1]) if it.endswith("/libdsdarc.so.0")))
+    installed = files_below(users.prefix) - {"share/dsdarc/installed.txt"}
+    wanted = {it.replace("zsh/site-functions", "zsh/vendor-completions") for it in installed}
+    moved = {it: re.sub("^lib/(libdsdarc|pkgconfig)", rf"{place}/\1", it) for it in wanted}
+    library = {it for it in moved if it.startswith("lib/libdsdarc.so.")}
+    split = (wanted - library - set(DEVELOPMENT), library, set(DEVELOPMENT))
+    for name, is_there, rows in zip(made, there, split):
+        rows = {moved[it] for it in rows}
+        demand(is_there == rows, f"{name} differs in {sorted(is_there ^ rows)[:9]}")
+    return place
+
+
 def packages(folder, users, given):
-    """Both packages: each file is in one of them, and from both together a program is built."""
+    """The packages: each file is in one of them, from all together a program is built, and lintian has no errors."""
     if not shutil.which("dpkg-deb"):
         print("left out: the packages, as dpkg-deb isn't here")
         return
     os.mkdir(folder)
     status, said = users.run(f"{ROOT}/tools/package", folder, **given)
     made = said.decode().splitlines()
-    demand(status == 0 and len(made) == 2, f"tools/package: status {status}, {said[-300:]}")
-    there = []
-    for number, name in enumerate(made):
-        status, said = users.run("dpkg-deb", "-x", name, f"{folder}/{number}")
-        demand(status == 0, f"{name}: {said}")
-        there.append(files_below(f"{folder}/{number}/usr"))
-    mine = {it for it in there[-1] if not it.startswith("share/doc/")}
-    demand(mine == set(DEVELOPMENT), f"dsdarc-dev has {sorted(mine)}")
-    wanted = files_below(users.prefix) - set(DEVELOPMENT) - {"share/dsdarc/installed.txt"}
-    wanted = {it.replace("zsh/site-functions", "zsh/vendor-completions") for it in wanted}
-    demand(there[0] - {"share/doc/dsdarc/copyright"} == wanted, f"dsdarc differs in {sorted(there[0] ^ wanted)[:9]}")
-    for number in (0, 1):
-        shutil.copytree(f"{folder}/{number}/usr", f"{folder}/usr", symlinks=True, dirs_exist_ok=True)
+    demand(status == 0 and len(made) == 3, f"tools/package: status {status}, {said[-300:]}")
+    place = f"{folder}/usr/{files_of_packages(folder, users, made)}"
     line = "cc play.c $(pkg-config --cflags --libs dsdarc) -o packaged && ./packaged filters/dsd64-to-88200-24.toml"
-    more = {"PKG_CONFIG_PATH": f"{folder}/usr/lib/pkgconfig", "LD_LIBRARY_PATH": f"{folder}/usr/lib"}
+    # The package's own folders are below the root of the system.
+    status, said = users.run("sed", "-i", f"s|^prefix=.*|prefix={folder}/usr|", f"{place}/pkgconfig/dsdarc.pc")
+    more = {"PKG_CONFIG_PATH": f"{place}/pkgconfig", "LD_LIBRARY_PATH": place}
     status, said = users.run("bash", "-c", f"{line} <in.dsf", **more)
     demand((status, said) == (0, users.frames), f"a program from the packages: status {status}, {said[-300:]}")
+    if shutil.which("dpkg-shlibdeps"):
+        users.put(
+            "debian/control", "Source: packaged\n\nPackage: packaged\nArchitecture: any\nDepends: ${shlibs:Depends}\n"
+        )
+        status, said = users.run("dpkg-shlibdeps", "-O", f"-S{folder}/1", f"-l{place}", "packaged")
+        is_named = status == 0 and b"libdsdarc0 (>= 0.1.0)" in said and b"libc6" in said
+        demand(is_named, f"dpkg-shlibdeps of a program: status {status}, {said[-300:]}")
+    if shutil.which("lintian"):
+        status, said = users.run("lintian", "--no-cfg", "--allow-root", "--fail-on", "error", *made)
+        demand(status == 0, f"lintian: status {status}, {said[-900:]}")
 
 
 def by_pip(folder, users):

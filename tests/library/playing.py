@@ -1,5 +1,6 @@
 """What the trials of the library share: the program, what is built beside it, and how they say what they find."""
 import os
+import random
 import subprocess
 import sys
 
@@ -34,6 +35,20 @@ def frames_of(wave):
 def get(name):
     with open(name, "rb") as file:
         return file.read()
+
+
+def played(folder, name, size):
+    """Files of two channels of random sound, of which each has so many bytes, with a filter, the frames that `play` makes
+    of them, and how many bytes one has."""
+    from dsdiffs import dsdiff
+
+    dff, dsf, wave = (os.path.join(folder, f"{name}.{it}") for it in ("dff", "dsf", "wav"))
+    filter = os.path.join(ROOT, "filters", "dsd64-to-88200-24.toml")
+    with open(dff, "wb") as file:
+        file.write(dsdiff(2822400, 2, random.Random(size).randbytes(2 * size)))
+    run(PROGRAM, "convert", "dsf", dff, dsf)
+    run(PROGRAM, "play", filter, dsf, wave)
+    return dff, dsf, filter, *frames_of(get(wave))
 
 
 def compiled(source, *words):

@@ -176,11 +176,11 @@ ends_after_sound p file s back keeps is (start, pulled, plays, long) =
     let after = subst (IsAtStage p.taps p.header.items p.place) is keeps.stage in
     record { long = long; begins = w.0; in_file = after.after; form = w.2 }
 
-pub not_at_header : (p : Pushing) (file : List ℕ) → IsPushing p → p.stage ≡ stages.Header → IsAtEndOf file p → HoldsSomeRecording file → ⊥
-not_at_header p file keeps is (start, pulled, plays, long) holds =
-    let w = stage_at p file start pulled stages.Header is plays in
+pub not_at_header : (p : Pushing) (file : List ℕ) (walked : ℕ) → IsPushing p → p.stage ≡ stages.Header walked → IsAtEndOf file p → HoldsSomeRecording file → ⊥
+not_at_header p file walked keeps is (start, pulled, plays, long) holds =
+    let w = stage_at p file start pulled (stages.Header walked) is plays in
     let at = subst (IsAtStage p.taps p.header.items p.place) is keeps.stage in
-    header_alone file p.header.items w.0 (long ∙ sym at.0) at.1 holds
+    header_alone file p.header.items w.0 (long ∙ sym at.place_is) at.unstated holds
 
 pub not_in_sound : (p : Pushing) (file : List ℕ) (s : Sound) (q : PausedPart) (left : ℕ) → IsPushing p → p.stage ≡ stages.Sound s q left → IsAtEndOf file p → HoldsSomeRecording file → ⊥
 not_in_sound p file s q left keeps is (start, pulled, plays, long) holds =

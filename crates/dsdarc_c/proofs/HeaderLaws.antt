@@ -1,5 +1,5 @@
 -- Bytes that state no sound yet.
-use Rattle.std.proofs.Common.{◌≡◌, ℕ, ◌+◌, ◌<◌, ◌≤◌, inl, inr, List, ◌++◌, length, take, sym, subst, ap, ◌∙◌, arith, append_assoc}
+use Rattle.std.proofs.Common.{◌≡◌, ℕ, ◌+◌, ◌<◌, ◌≤◌, inl, inr, List, [], ◌++◌, length, take, refl, sym, subst, ap, ◌∙◌, arith, append_assoc}
 use Rattle.std.proofs.lemmas.Bool.{cases_lt}
 use Rattle.std.proofs.lemmas.List.{take-append-le, take_all}
 use Rattle.dsd_bits.specs.declared.interleaving.Interleaving.{Interleaving}
@@ -9,29 +9,43 @@ use Rattle.dsd_bits.specs.declared.sound.SoundAt.{SoundAt}
 use Rattle.dsd_bits.specs.declared.sound.SoundAt.TheVariants.{More, Refused, Found}
 use Rattle.dsd_bits.specs.Sounds.{IfMore}
 use Rattle.dsdiff_core.specs.Headers as dsdiff
+use Rattle.dsdiff_core.specs.Walks.{without_fault}
+use Rattle.dsdiff_core.proofs.SeekLoop.{walked_first}
+use Rattle.dsdiff_core.specs.declared.locating.Located.{Located}
+use Rattle.dsdiff_core.specs.declared.locating.Located.TheVariants as answers
 use Rattle.dsf_core.specs.Headers as dsf
 use Rattle.dsf_core.proofs.HeaderLaws as blocks
 use Rattle.sound_core.specs.Files.{HoldsSomeRecording, IsBeforeSound, IsHeaderOf, IsRefused, LeadsToSound}
 use Rattle.sound_core.proofs.ClosingLaws.{ends_at}
-use Rattle.sound_core.proofs.HeadLaws.{IsFound, dsdiff_more, dsf_more, other_head, stated_found}
-use Rattle.sound_core.proofs.StatedLaws.{dsf_wanted, form_wanted, one_sound, stated_once, states_at}
-use Rattle.dsdarc_c.specs.Pushing.{IsUnstated}
+use Rattle.sound_core.proofs.HeadLaws.{IsFound, dsf_more, other_head, stated_found}
+use Rattle.sound_core.proofs.NamingLaws.{form_before, form_more}
+use Rattle.sound_core.proofs.StatedLaws.{dsf_wanted, one_sound, stated_once, states_at}
+use Rattle.dsdarc_c.specs.Pushing.{IsHeaderSoFar, IsUnstated}
 
 -- ---- by the DSDIFF reading
-pub form_unstated : (prefix : List ℕ) (x : SoundAt) → x ≡ dsdiff.sound_at prefix → IfMore x (dsdiff.HoldsHead prefix → ⊥) → IfMore x (IsUnstated prefix)
-form_unstated prefix x is more = by x is (dsdiff_more prefix x is more) (form_wanted prefix x is more)
+pub form_unstated : (prefix : List ℕ) → More ≡ dsdiff.sound_at prefix → IsUnstated prefix
+form_unstated prefix is = record { none = λ s states. none s s.interleaving (stated_found s.interleaving prefix s states.leads); refused = form_more prefix More is; before = form_before prefix More is }
   where
-    none : (s : Sound) (o : Interleaving) → More ≡ dsdiff.sound_at prefix → IsFound o prefix s → ⊥
-    none s Bytes is found = (let both : More ≡ Found s = is ∙ found in absurd cc)
-    none s (Blocks order) is found =
+    none : (s : Sound) (o : Interleaving) → IsFound o prefix s → ⊥
+    none s Bytes found = (let both : More ≡ Found s = is ∙ found in absurd cc)
+    none s (Blocks order) found =
         let l = blocks.found_leads prefix s found in
         let refused : More ≡ Refused = is ∙ other_head prefix (omega (arith, l.holds.fields)) l.heads.first in
         absurd cc
 
-    by : (x : SoundAt) → x ≡ dsdiff.sound_at prefix → IfMore x (IsRefused prefix) → IfMore x (IsBeforeSound prefix) → IfMore x (IsUnstated prefix)
-    by Refused is refused before = tt
-    by (Found s) is refused before = tt
-    by More is refused before = record { none = λ s states. none s s.interleaving is (stated_found s.interleaving prefix s states.leads); refused = refused; before = before }
+-- an answer that neither has the sound nor wants more bytes
+pub form_refused : (prefix : List ℕ) (x : Located) → without_fault x ≡ dsdiff.sound_at prefix → ((s : Sound) → x ≡ answers.Found s → ⊥) → ((at : ℕ) → x ≡ answers.More at → ⊥) → dsdiff.sound_at prefix ≡ Refused
+form_refused prefix (answers.Found s) is found more = absurd (found s refl)
+form_refused prefix (answers.More at) is found more = absurd (more at refl)
+form_refused prefix x is found more = sym is
+
+-- no bytes at all
+no_bytes : More ≡ dsdiff.sound_at []
+unfolding dsdiff.sound_in dsdiff.sound_head_place
+no_bytes = refl
+
+pub before_first : IsHeaderSoFar [] 0 16
+before_first = record { place_is = refl; few = omega arith; unstated = form_unstated [] no_bytes; so_far = walked_first [] }
 
 -- ---- by the DSF reading, where the DSDIFF reading refuses
 pub blocks_unstated : (prefix : List ℕ) → dsdiff.sound_at prefix ≡ Refused → ((rest : List ℕ) → dsdiff.IsAccepted (prefix ++ rest) → ⊥) → (x : SoundAt) → x ≡ dsf.sound_at prefix → IfMore x (dsf.HoldsHead prefix → ⊥) → IfMore x (IsUnstated prefix)

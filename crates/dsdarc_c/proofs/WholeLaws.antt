@@ -137,7 +137,7 @@ pub prefix_in : (d : Decimator) (file : List ℕ) (start : ℕ) (out header : Li
 prefix_in d file start out header place s q left keeps is = inr (s, header_of file header s is.begins keeps.header, given_first d file start out header place s q left is keeps.place_is)
 
 pub prefix_of : (d : Decimator) (file : List ℕ) (start : ℕ) (out header : List ℕ) (place : ℕ) (stage : Stage) → IsAtStage d header place stage → PlaysStageOf d file start out header place stage → IsPrefixOfFrames d file start out
-prefix_of d file start out header place stages.Header keeps is = inl is.2
+prefix_of d file start out header place (stages.Header walked) keeps is = inl is.2
 prefix_of d file start out header place (stages.Sound s q left) keeps is = prefix_in d file start out header place s q left keeps.0 is
 prefix_of d file start out header place (stages.After s back) keeps is = inr (s, header_of file header s is.0 keeps.header, λ whole. ([], sym (is.1 whole) ∙ sym (append-nil out)))
 prefix_of d file start out header place stages.Failed keeps is = is
@@ -207,9 +207,9 @@ pub stage_is : (p : Pushing) (file : List ℕ) (start : ℕ) (pulled : List ℕ)
 stage_is p file start pulled stage is plays = subst (PlaysStageOf p.taps file start (pulled ++ waiting p) p.header.items p.place) is plays.stage
 
 -- before the sound is known nothing was given
-pub plays_anew : (p new : Pushing) (file : List ℕ) (start : ℕ) (pulled : List ℕ) → p.stage ≡ stages.Header → PlaysPushedFile file start pulled p → PlaysPushedFile file 0 [] new → PlaysPushedFile file start pulled new
-plays_anew p new file start pulled is plays then =
-    let w = stage_is p file start pulled stages.Header is plays in
+pub plays_anew : (p new : Pushing) (file : List ℕ) (start : ℕ) (pulled : List ℕ) (walked : ℕ) → p.stage ≡ stages.Header walked → PlaysPushedFile file start pulled p → PlaysPushedFile file 0 [] new → PlaysPushedFile file start pulled new
+plays_anew p new file start pulled walked is plays then =
+    let w = stage_is p file start pulled (stages.Header walked) is plays in
     subst (λ k. PlaysPushedFile file k pulled new) (sym w.1) (subst (λ xs. PlaysPushedFile file 0 xs new) (sym (no_prefix pulled (waiting p) w.2)) then)
 
 -- a player that failed, and of which nothing waits, gave what it gave before

@@ -1,4 +1,5 @@
 pub mod Ending
+pub mod Headers
 pub mod Making
 pub mod Numbers
 pub mod Playing

@@ -40,6 +40,6 @@ pub record IsNew (d : Decimator) (p : Pushing) : Type 0 where
   pub taps : p.taps ≡ d
   pub place : p.place ≡ 0
   pub header : p.header.items ≡ []
-  pub stage : p.stage ≡ stages.Header
+  pub stage : p.stage ≡ stages.Header 16
   pub stated : p.stated ≡ None
   pub waits : waiting p ≡ []

@@ -3,6 +3,7 @@ use Rattle.std.specs.Prelude.{◌≡◌, ℕ, ◌+◌, ◌%◌, ◌^◌, ◌≤�
 use Rattle.dsd_bits.specs.declared.interleaving.Interleaving.TheVariants.{Bytes}
 use Rattle.dsd_bits.specs.declared.sound.Sound.{Sound}
 use Rattle.dsd_bits.specs.Sounds.{IsSound}
+use Rattle.dsdiff_core.specs.Walks.{IsWalked}
 use Rattle.fir_core.specs.Decimator.{Decimator}
 use Rattle.player_core.specs.PartView.{part_rest}
 use Rattle.player_core.specs.declared.parts.PartPlayer.{PartPlayer}
@@ -19,7 +20,7 @@ pub record IsPushedHeader (header : List ℕ) (s : Sound) : Type 0 where
   pub ends : IsHeaderOf header s
   pub is_sound : IsSound s
   pub whole : s.interleaving ≡ Bytes → s.count % 8 ≡ 0
-  pub start_low : s.start ≤ 2 ^ 61
+  pub start_low : s.start ≤ 2 ^ 28
   pub size_low : s.size ≤ 2 ^ 61
 
 -- these bytes state no sound yet, and are no recording; the sound of each recording that begins with them comes after
@@ -28,6 +29,14 @@ pub record IsUnstated (header : List ℕ) : Type 0 where
   pub none : (s : Sound) → LeadsToSound header s → ⊥
   pub refused : IsRefused header
   pub before : IsBeforeSound header
+
+-- these bytes are a file's up to this place, few enough to be held, and state no sound yet; the chunks before `walked`
+-- were walked
+pub record IsHeaderSoFar (header : List ℕ) (place walked : ℕ) : Type 0 where
+  pub place_is : length header ≡ place
+  pub few : place ≤ 2 ^ 28
+  pub unstated : IsUnstated header
+  pub so_far : IsWalked header walked
 
 -- a player that pauses plays this sound, and `left` bytes of it are to come
 pub record IsPausedIn (d : Decimator) (s : Sound) (q : PausedPart) (left : ℕ) : Type 0 where
@@ -54,16 +63,21 @@ pub record IsWithinSound (d : Decimator) (head : List ℕ) (place : ℕ) (s : So
   pub playing : IsPausedIn d s q left
   pub place_is : place + left ≡ s.start + s.size
 
--- the next byte of the file comes after this sound
-pub record IsAfterSound (head : List ℕ) (place : ℕ) (s : Sound) : Type 0 where
+-- the next byte of the file comes after this sound, and few enough bytes are kept of what follows it
+pub record IsAfterSound (head : List ℕ) (place : ℕ) (s : Sound) (back : List ℕ) : Type 0 where
   pub header : IsPushedHeader head s
   pub after : s.start + s.size ≤ place
+  pub few : length back ≤ 2 ^ 28
+
+-- the file has not come to its sound yet
+abbrev pub IsInHeader : Stage → Type 0
+IsInHeader stage = (walked : ℕ) × (stage ≡ stages.Header walked)
 
 -- what holds in each stage
 abbrev pub IsAtStage : Decimator → List ℕ → ℕ → Stage → Type 0
-IsAtStage d header place stages.Header = (length header ≡ place) × IsUnstated header
+IsAtStage d header place (stages.Header walked) = IsHeaderSoFar header place walked
 IsAtStage d header place (stages.Sound s q left) = IsWithinSound d header place s q left × (1 ≤ left)
-IsAtStage d header place (stages.After s back) = IsAfterSound header place s
+IsAtStage d header place (stages.After s back) = IsAfterSound header place s back.items
 IsAtStage d header place stages.Failed = ⊤
 
 -- what holds of every player whose file is pushed

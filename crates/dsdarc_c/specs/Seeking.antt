@@ -2,7 +2,7 @@
 use Rattle.std.specs.Prelude.{◌≡◌, ◌<◌, ◌≤◌, ◌+◌, ℕ, ⊤}
 use Rattle.dsd_bits.specs.declared.sound.Sound.{Sound}
 use Rattle.player_core.specs.Laws.{total_frames}
-use Rattle.dsdarc_c.specs.Pushing.{IsPushedHeader}
+use Rattle.dsdarc_c.specs.Pushing.{IsInHeader, IsPushedHeader}
 use Rattle.dsdarc_c.specs.declared.fault.PlayFault.{PlayFault}
 use Rattle.dsdarc_c.specs.declared.fault.PlayFault.TheVariants as faults
 use Rattle.dsdarc_c.specs.declared.pushing.Pushing.{Pushing}
@@ -19,7 +19,7 @@ pub record GoesTo (p : Pushing) (frame place : ℕ) : Type 0 where
 -- a seek is refused: before the sound is known, after another refusal, because the sound has no such frame, or for
 -- memory
 abbrev pub RefusesSeek : Pushing → ℕ → PlayFault → Type 0
-RefusesSeek p frame faults.NotYet = p.stage ≡ stages.Header
+RefusesSeek p frame faults.NotYet = IsInHeader p.stage
 RefusesSeek p frame faults.AfterFault = p.stage ≡ stages.Failed
 RefusesSeek p frame faults.BehindEnd = (s : Sound) × IsPushedHeader p.header.items s × (total_frames p.taps s < frame)
 RefusesSeek p frame faults.Memory = ⊤

@@ -1,6 +1,7 @@
 -- A whole file that is pushed piece by piece, and what was pulled of its frames.
-use Rattle.std.specs.Prelude.{◌≡◌, ℕ, ◌+◌, ◌≤◌, ◌⊎◌, List, [], ◌++◌, drop, length, slice_range, take, Option, None, Some}
-use Rattle.dsd_bits.specs.declared.interleaving.Interleaving.TheVariants.{Bytes}
+use Rattle.std.specs.Prelude.{◌≡◌, ℕ, ◌+◌, ◌-◌, ◌≤◌, ◌⊎◌, List, [], ◌++◌, drop, length, slice_range, take, Option, None, Some}
+use Rattle.dsd_bits.specs.declared.interleaving.Interleaving.{Interleaving}
+use Rattle.dsd_bits.specs.declared.interleaving.Interleaving.TheVariants.{Blocks, Bytes}
 use Rattle.dsd_bits.specs.declared.sound.Sound.{Sound}
 use Rattle.dsd_bits.specs.Sounds.{sound_bytes}
 use Rattle.dsdiff_core.specs.Headers.{left_after}
@@ -48,6 +49,15 @@ IsPrefixOfFrames d file start out = (out ≡ []) ⊎ ComeFirstInFile d file star
 abbrev pub AreAllFrames : Decimator → Sound → List ℕ → ℕ → List ℕ → Type 0
 AreAllFrames d s file start out = s.start + s.size ≤ length file → out ≡ frames_from d s file start
 
+-- how many bytes are kept of so many after a sound: all of those of a DSDIFF form, and none of a DSF file
+abbrev pub kept_in : Interleaving → ℕ → ℕ
+kept_in Bytes left = left
+kept_in (Blocks order) left = 0
+
+-- how many more bytes after a sound are kept, where n are kept already
+abbrev pub still_kept : List ℕ → Sound → ℕ → ℕ
+still_kept header s n = kept_in s.interleaving (left_after header s.size - n)
+
 -- the bytes of a file from the end of its sound up to this place, as far as they are in the DSDIFF form
 abbrev pub form_bytes : List ℕ → List ℕ → Sound → ℕ → List ℕ
 form_bytes file header s place = take (left_after header s.size) (slice_range file (s.start + s.size) place)
@@ -83,7 +93,7 @@ PlaysRestOf d file start out header place s (Some q) left = PlaysSoundOf d file 
 -- what each stage says of the file's bytes before this place, and of the bytes of frames that were given since the
 -- frame that was sought
 abbrev pub PlaysStageOf : Decimator → List ℕ → ℕ → List ℕ → List ℕ → ℕ → Stage → Type 0
-PlaysStageOf d file start out header place stages.Header = BeginsWith file header × (start ≡ 0) × (out ≡ [])
+PlaysStageOf d file start out header place (stages.Header walked) = BeginsWith file header × (start ≡ 0) × (out ≡ [])
 PlaysStageOf d file start out header place (stages.Sound s q left) = PlaysSoundOf d file start out header place s q left
 PlaysStageOf d file start out header place (stages.After s back) = PlaysAllOf d file start out header place s back.items
 PlaysStageOf d file start out header place stages.Failed = IsPrefixOfFrames d file start out

@@ -5,7 +5,7 @@ ghost use Rattle.dsdiff_core.specs.Headers.{left_after};
 ghost use Rattle.sound_core.specs.Files.{HoldsSomeRecording, IsHeaderOf};
 ghost use Rattle.dsdarc_c.specs.Ending.{AcceptsEnd, EndsAfterSound, IsAtEndOf, RefusesEnd};
 ghost use Rattle.dsdarc_c.specs.Pushing.{IsPushing};
-ghost use Rattle.dsdarc_c.specs.Whole.{EndsFile, IsBehind, PlaysPushedFile};
+ghost use Rattle.dsdarc_c.specs.Whole.{EndsFile, IsBehind, PlaysPushedFile, still_kept};
 
 use crate::fault::PlayFault;
 use crate::pushing::{Pushing, Stage};
@@ -52,7 +52,7 @@ fn is_closed(alloc: Global, p: &Pushing) -> Result<bool, PlayFault>
             let (header, total) = (p.header.as_slice(), p.place as u64);
             Ok(closes(alloc, sound, header, back.as_slice(), total)?)
         }
-        Stage::Header => Ok(false),
+        Stage::Header(_) => Ok(false),
         Stage::Sound(_, _, _) => Ok(false),
         Stage::Failed => Err(PlayFault::AfterFault),
     }
@@ -96,7 +96,8 @@ pub(crate) fn closes(
 /// How many bytes after a sound are still kept, where so many are: those of a DSDIFF form, and none of a DSF file.
 pub(crate) fn form_bytes_wanted(sound: &Sound, header: &[u8], kept: usize) -> usize
     requires { IsHeaderOf header.now sound.now }
-    ensures { sound.now.interleaving ≡ Interleaving.Bytes → result ≡ left_after header.now sound.now.size - kept }
+    ensures value { result ≡ still_kept header.now sound.now kept }
+    ensures form { sound.now.interleaving ≡ Interleaving.Bytes → result ≡ left_after header.now sound.now.size - kept }
 {
     if sound.interleaving.has_blocks() {
         return 0;

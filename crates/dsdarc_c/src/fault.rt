@@ -16,6 +16,8 @@ pub enum PlayFault {
     TooLong,
     /// A call before this one was refused, and the player is of no further use.
     AfterFault,
+    /// More than `2^28` bytes precede the sound, or follow it in a DSDIFF form.
+    TooMuchHeld,
     /// The sound isn't known yet.
     NotYet,
     /// There is no such frame.

@@ -31,8 +31,8 @@ pub(crate) struct Pushing {
 /// How far a file has come.
 #[derive(Drop)]
 pub(crate) enum Stage {
-    /// Its prefix doesn't state its sound yet.
-    Header,
+    /// Its prefix doesn't state its sound yet. The chunks before this place were walked, and need not be again.
+    Header(usize),
     /// So many bytes of this sound are left to be played.
     Sound(Sound, PausedPart, usize),
     /// This sound is played; these bytes are kept of what stands behind it.
@@ -48,7 +48,7 @@ impl Pushing {
         // Nothing of any file was pushed yet.
         ensures plays { (file : List ℕ) → PlaysPushedFile file 0 [] result }
         ensures place { result.place ≡ 0 }
-        ensures stage { result.stage ≡ Stage.Header }
+        ensures stage { result.stage ≡ Stage.Header 16 }
         ensures header { result.header.items ≡ [] }
         ensures stated { result.stated ≡ None }
         ensures waits { waiting result ≡ [] }
@@ -58,7 +58,7 @@ impl Pushing {
             taps,
             place: 0,
             header: Vec::new(alloc),
-            stage: Stage::Header,
+            stage: Stage::Header(16),
             pending: Vec::new(alloc),
             pulled: 0,
             stated: None,

@@ -50,7 +50,7 @@ fn sound_with_head(p: &Pushing) -> Result<Sound, PlayFault>
     match &p.stage {
         Stage::Sound(sound, _, _) => Ok(*sound),
         Stage::After(sound, _) => Ok(*sound),
-        Stage::Header => Err(PlayFault::NotYet),
+        Stage::Header(_) => Err(PlayFault::NotYet),
         Stage::Failed => Err(PlayFault::AfterFault),
     }
 }

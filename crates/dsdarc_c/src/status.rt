@@ -42,6 +42,8 @@ const SHORT_CUE: u32 = 17;
 
 const LAST_BRIDGE: u32 = 18;
 
+const TOO_MUCH_HELD: u32 = 20;
+
 /// The status of a call that is out of memory.
 pub(crate) fn memory() -> u32
     ensures { result ≡ 3 }
@@ -64,6 +66,7 @@ pub(crate) fn status_of(fault: PlayFault) -> u32
         PlayFault::FileRefused => FILE_REFUSED,
         PlayFault::RateNotDivided => RATE_NOT_DIVIDED,
         PlayFault::TooLong => TOO_LONG,
+        PlayFault::TooMuchHeld => TOO_MUCH_HELD,
         PlayFault::AfterFault => AFTER_FAULT,
         PlayFault::NotYet => NOT_YET,
         PlayFault::BehindEnd => BEHIND_END,

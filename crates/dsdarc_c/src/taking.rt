@@ -2,33 +2,37 @@
 
 ghost use Rattle.std.specs.Prelude.{◌≡◌, ◌≢◌, ◌+◌, ◌<◌, ◌≤◌, ◌^◌, ◌++◌, [], Err, Ok, List, ℕ, IfErr, IfOk, IfSome, length};
 ghost use Rattle.dsd_bits.specs.Sounds.{IsSound};
-ghost use Rattle.dsdarc_c.specs.Pushing.{IsAfterSound, IsPushing, IsUnstated};
-ghost use Rattle.dsdarc_c.specs.Taking.{RefusesHeader, RefusesPush, Takes, TakesHeader};
+ghost use Rattle.dsdarc_c.specs.Pushing.{IsAfterSound, IsHeaderSoFar, IsPushing};
+ghost use Rattle.dsdarc_c.specs.Taking.{RefusesAfter, RefusesHeader, RefusesPush, Takes, TakesAfter, TakesHeader};
 ghost use Rattle.dsdarc_c.specs.Whole.{AreAllFrames, BeginsWith, HasAt, KeepsForm, PlaysPushedFile, waiting};
 
 use crate::ending::form_bytes_wanted;
 use crate::fault::PlayFault;
-use crate::headers::stated_by;
+use crate::headers::{Stated, stated_by};
 use crate::pushing::{Pushing, Stage};
 use crate::seeking::seek_in;
 use crate::within_sound::{Rest, push_sound};
-use dsd_bits::{Sound, SoundAt};
+use dsd_bits::Sound;
 use std::alloc::Global;
 use std::mem;
 
 // How many bytes are taken at once.
 const BLOCK: usize = 65_536;
 
-// So many bytes, and no more of a file; half as many before its sound, or of it.
+// So many bytes, and no more of a file; half as many of its sound.
 const MOST: usize = 1 << 62;
 
 const MOST_HALF: usize = 1 << 61;
+
+// So many bytes, and no more, are held of what precedes the sound, and of what follows it.
+const MOST_HELD: usize = 1 << 28;
 
 /// Takes bytes of the file, from the place on where the next one stands, and returns how many: of the first 65,536 all
 /// of them, but at most those up to where the sound starts or ends. None are taken while frames wait to be pulled.
 ///
 /// Refusals: `AfterFault` after another refusal, `TooLong` after `2^62` bytes, then what the bytes before the sound
-/// say: `FileRefused`, `RateNotDivided`, `TooLong`. `Memory` may come in place of any answer but `AfterFault`.
+/// say: `FileRefused`, `RateNotDivided`, `TooMuchHeld`, `TooLong`; after the sound `TooMuchHeld`. `Memory` may come in
+/// place of any answer but `AfterFault`.
 pub(crate) fn push(alloc: Global, p: &mut Pushing, bytes: &[u8]) -> Result<usize, PlayFault>
     requires { IsPushing p.old }
     ensures keeps { IsPushing p.new }
@@ -55,12 +59,7 @@ pub(crate) fn push(alloc: Global, p: &mut Pushing, bytes: &[u8]) -> Result<usize
     }
     let (piece, _) = bytes.split_at(bytes.len().min(BLOCK));
     match mem::replace(&mut p.stage, Stage::Failed) {
-        Stage::Header => {
-            if p.place > MOST {
-                return Err(PlayFault::TooLong);
-            }
-            push_header(alloc, p, piece)
-        }
+        Stage::Header(walked) => push_header(alloc, p, walked, piece),
         Stage::Sound(sound, paused, left) => {
             let rest = Rest {
                 sound,
@@ -79,14 +78,17 @@ pub(crate) fn push(alloc: Global, p: &mut Pushing, bytes: &[u8]) -> Result<usize
     }
 }
 
-// Takes bytes of the prefix of a file, up to its sound.
-fn push_header(alloc: Global, p: &mut Pushing, piece: &[u8]) -> Result<usize, PlayFault>
+// Takes bytes of the prefix of a file, up to its sound. The chunks before the place `walked` were walked already.
+fn push_header(
+    alloc: Global,
+    p: &mut Pushing,
+    walked: usize,
+    piece: &[u8],
+) -> Result<usize, PlayFault>
     requires pulled { p.old.pulled ≤ length p.old.pending.items }
     requires stated { IfSome p.old.stated IsSound }
     requires failed { p.old.stage ≡ Stage.Failed }
-    requires place { length p.old.header.items ≡ p.old.place }
-    requires low { p.old.place ≤ 2 ^ 62 }
-    requires unstated { IsUnstated p.old.header.items }
+    requires header { IsHeaderSoFar p.old.header.items p.old.place walked }
     requires few { length piece.now ≤ 65536 }
     ensures keeps { IsPushing p.new }
     ensures taken { IfOk result (λ n. n ≤ length piece.now) }
@@ -102,22 +104,25 @@ fn push_header(alloc: Global, p: &mut Pushing, piece: &[u8]) -> Result<usize, Pl
 {
     let before = p.header.len();
     p.header.extend_from_slice(piece)?;
-    match stated_by(alloc, p.header.as_slice())? {
-        SoundAt::More => {
+    match stated_by(alloc, p.header.as_slice(), walked)? {
+        Stated::More(at) => {
+            if p.header.len() > MOST_HELD {
+                return Err(PlayFault::TooMuchHeld);
+            }
             p.place += piece.len();
-            p.stage = Stage::Header;
+            p.stage = Stage::Header(at);
             Ok(piece.len())
         }
-        SoundAt::Refused => Err(PlayFault::FileRefused),
-        SoundAt::Found(sound) => {
+        Stated::Refused => Err(PlayFault::FileRefused),
+        Stated::Found(sound) => {
             if sound.start < before {
                 return Err(PlayFault::FileRefused);
             }
             if !p.taps.rate_fits(sound.rate) {
                 return Err(PlayFault::RateNotDivided);
             }
-            if sound.start > MOST_HALF {
-                return Err(PlayFault::TooLong);
+            if sound.start > MOST_HELD {
+                return Err(PlayFault::TooMuchHeld);
             }
             if sound.size > MOST_HALF {
                 return Err(PlayFault::TooLong);
@@ -140,16 +145,16 @@ fn push_after(
     requires pulled { p.old.pulled ≤ length p.old.pending.items }
     requires stated { IfSome p.old.stated IsSound }
     requires failed { p.old.stage ≡ Stage.Failed }
-    requires after { IsAfterSound p.old.header.items p.old.place sound }
+    requires after { IsAfterSound p.old.header.items p.old.place sound back.items }
     requires low { p.old.place ≤ 2 ^ 62 }
     requires few { length piece.now ≤ 65536 }
     ensures keeps { IsPushing p.new }
-    ensures takes { IfOk result (λ n. n ≡ length piece.now) }
+    ensures takes { IfOk result (TakesAfter p.old.header.items sound back.items piece.now) }
     ensures plays { (file : List ℕ) (start : ℕ) (pulled : List ℕ) → BeginsWith file p.old.header.items
         → AreAllFrames p.old.taps sound file start (pulled ++ waiting p.old)
         → KeepsForm file p.old.header.items sound p.old.place back.items → HasAt file p.old.place piece.now
         → PlaysPushedFile file start pulled p.new }
-    ensures memory { IfErr result (λ fault. fault ≡ PlayFault.Memory) }
+    ensures refused { IfErr result (RefusesAfter p.old.header.items sound back.items piece.now) }
     ensures goes_on { IfOk result (λ _. p.new.stage ≢ Stage.Failed) }
     ensures failed { IfErr result (λ _. p.new.stage ≡ Stage.Failed) }
     ensures place { IfOk result (λ n. p.new.place ≡ p.old.place + n) }
@@ -158,6 +163,9 @@ fn push_after(
     let mut back = back;
     let wanted = form_bytes_wanted(&sound, p.header.as_slice(), back.len());
     let (kept, _) = piece.split_at(piece.len().min(wanted));
+    if kept.len() > MOST_HELD - back.len() {
+        return Err(PlayFault::TooMuchHeld);
+    }
     back.extend_from_slice(kept)?;
     p.place += piece.len();
     p.stage = Stage::After(sound, back);

@@ -124,10 +124,10 @@ pub(crate) fn shape_of<R: Files>(rt: &R, name: &str) -> Option<Shape> {
 
 /// Whether the file of a name begins as a certificate.
 pub(crate) fn is_certificate<R: Files>(rt: &R, name: &str) -> bool {
-    matches!(
-        see(rt, name),
-        Seen::Other([b'D', b'S', b'P', b'C', ..], _, _)
-    )
+    match see(rt, name) {
+        Seen::Other(front, _, _) => id_at(&front, 0) == *b"DSPC",
+        _ => false,
+    }
 }
 
 /// Whether the file of a name begins as a recording.

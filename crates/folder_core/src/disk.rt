@@ -271,8 +271,8 @@ where
         let front = out.front();
         match out.put_in_place(self.rt) {
             Ok(()) => {
-                self.opened.add_kept(self.rt, name);
                 self.front = front;
+                self.opened.add_kept(self.rt, name);
                 self.notes.has_kept = true;
                 Ok(())
             }

@@ -14,8 +14,7 @@ use std::time::Instant;
 /// A folder over another that shows on standard error how far each file is read, and how far work has come. It rewrites
 /// one line, and clears it when the file is dropped or the work is over. For a file it does so at most ten times a
 /// second, for work at most once for each per cent. Nothing is shown in the first second after the folder was made, nor
-/// in the first second of work. It counts what the file gave that was opened last. The same is known of it as of the
-/// other folder.
+/// in the first second of work. The same is known of it as of the other folder.
 #[derive(Drop)]
 pub struct WatchedFolder<'a, F, R> {
     folder: F,

@@ -12,7 +12,7 @@ returns-in_ok-closes-in-After-clause-closed c file at =
     c.in_ok-closes-in-After.ensures file (subst (λ bs. EndsAfterSound file bs s c.as_slice.result.now p.place) (sym c.as_slice-header.ensures.value) by_back)
 
 pub returns-in-Header-clause-closed : goal.returns-in-Header-clause-closed
-returns-in-Header-clause-closed c file at = (never, λ holds. absurd (not_at_header c.args.p.now file c.requires c.in-Header.is at holds))
+returns-in-Header-clause-closed c file at = (never, λ holds. absurd (not_at_header c.args.p.now file c.in-Header.field-0 c.requires c.in-Header.is at holds))
 
 pub returns-in-Sound-clause-closed : goal.returns-in-Sound-clause-closed
 returns-in-Sound-clause-closed c file at = (never, λ holds. absurd (not_in_sound c.args.p.now file c.in-Sound.field-0 c.in-Sound.field-1 c.in-Sound.field-2 c.requires c.in-Sound.is at holds))

@@ -23,6 +23,12 @@ returns-clause-plays c file start pulled begins all keeps at =
     let kept = c.split_at.result.0.now in
     let long : c.len.result ≡ length old = omega (arith, c.len.ensures, c.args.back.ok.0) in
     let cut = λ (order : s.interleaving ≡ Bytes). cut_form piece kept c.min.result c.form_bytes_wanted-wanted.result (left_after p.header.items s.size - length old) c.split_at.ensures.front (omega (arith, c.min.ensures))
-    (c.form_bytes_wanted-wanted.ensures order ∙ ap₂ (λ xs n. left_after xs s.size - n) c.as_slice.ensures.value long) in
+    (c.form_bytes_wanted-wanted.ensures.form order ∙ ap₂ (λ xs n. left_after xs s.size - n) c.as_slice.ensures.value long) in
     let form = keeps_more file p.header.items s p.place old piece kept c.requires.after.after at cut keeps in
     record { stage = (begins, all, subst (λ xs. KeepsForm file p.header.items s (p.place + length piece) xs) (sym c.in_ok-extend_from_slice.ensures.items) form) }
+
+pub returns-then-kept-len-clause-plays : goal.returns-then-kept-len-clause-plays
+returns-then-kept-len-clause-plays c file start pulled begins all keeps at =
+    let p = c.args.p.now in
+    let stage = stages.After c.args.sound c.args.back in
+    record { stage = subst (λ s. PlaysStageOf p.taps file start (pulled ++ waiting p) p.header.items p.place s) (sym c.requires.failed) (prefix_of p.taps file start (pulled ++ waiting p) p.header.items p.place stage c.requires.after (begins, all, keeps)) }

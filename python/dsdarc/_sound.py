@@ -1,0 +1,354 @@
+"""A file that is played: its frames, from any place on."""
+from __future__ import annotations
+
+import operator
+import os
+import threading
+import weakref
+from collections.abc import Iterator
+from types import TracebackType
+from typing import Any, Literal, SupportsIndex
+
+import numpy
+import numpy.typing
+
+from dsdarc import _source
+from dsdarc._filters import Path, path_of, warn_of_rate
+from dsdarc._library import Fault, Info, NotCopied, Player
+from dsdarc._source import File, Source
+
+Numbers = numpy.typing.NDArray[Any]
+
+BLOCK = 65536  # bytes that are pushed at once
+PIECE = 65536  # frames that are turned into other numbers at once
+DTYPES = ("float64", "float32", "int32", "int16", "native")
+NONE: numpy.typing.NDArray[numpy.uint8] = numpy.frombuffer(b"", numpy.uint8)
+
+# A filter that is loaded for nothing but the rate of a file: a tap of 1, a sample for each byte.
+_PLAIN = b"[decimate]\ntaps = [1]\nfactor = 8\ndelay = 0\nshift = 0\nwidth = 16\n"
+
+_sounds: weakref.WeakSet[Sound] = weakref.WeakSet()
+
+
+class Sound(NotCopied):
+    """A file that is played by a filter. Frames are read from the current position; `seek` moves it.
+
+    Whatever interrupts a call, the next one goes on from the frame that `tell` gives: it is moved last, when all else
+    is done, and a player that may be anywhere else (`_stale`) is first sent there."""
+
+    def __init__(self, file: File, filter: Path, closes: bool = True) -> None:
+        self._player: Player | None = None
+        self._source: Source | None = None
+        # Calls in C let other threads run, and a player belongs to one call at a time.
+        self._lock = threading.RLock()
+        self._at, self._stale, self._ended = 0, True, False
+        self._turn = object()  # the call that moves the player now
+        self._rest, self._next = NONE, 0  # bytes to be pushed, and the place of those after them
+        self._owed: Exception | None = None  # what is raised after the frames that were given before it
+        self._is_lost = False  # the player was left in another process
+        try:
+            self._source = Source(file, closes)
+            self.name = self._source.name
+            path = path_of(filter, self._rate)
+            with open(path, "rb") as text:
+                self._text, self._filter = text.read(), f"the filter {os.fsdecode(path)}"
+            self._player = Player(self._text, self._filter)
+            self.info = self._learned(self._player)
+            self._stale = False
+            warn_of_rate(path, self.info.source_rate, self.name)
+        except BaseException:
+            self.close()
+            raise
+        self.samplerate, self.channels, self.frames = self.info.samplerate, self.info.channels, self.info.frames
+        _sounds.add(self)
+
+    def _rate(self) -> int:
+        """The rate in which the file is stored."""
+        player = Player(_PLAIN, "")
+        try:
+            return self._learned(player).source_rate
+        finally:
+            player.drop()
+
+    def _learned(self, player: Player) -> Info:
+        """What is played, once a new player has as much of the file as states it."""
+        source = self._opened()
+        self._rest, self._next, stop = NONE, source.start, source.size()
+        while (info := player.info()) is None and self._push(player, stop):
+            pass
+        if info is None:
+            player.end(self.name)
+            raise Fault("FileRefused", self.name)
+        return info
+
+    def _opened(self) -> Source:
+        if self._source is None:
+            raise ValueError("the sound is closed")
+        return self._source
+
+    def _push(self, player: Player, stop: int | None = None) -> bool:
+        """Pushes what comes next of the file, up to a place of it; whether there was something."""
+        rest = self._rest
+        if len(rest) == 0:
+            size = BLOCK if stop is None else min(BLOCK, stop - self._next)
+            data = self._opened().read(self._next, size) if size > 0 else b""
+            if len(data) == 0:
+                return False
+            rest = numpy.frombuffer(data, numpy.uint8)
+            self._next += len(data)
+        taken = player.push(rest.ctypes.data, len(rest), self.name)
+        self._rest = rest[taken:]
+        return True
+
+    def _begun(self) -> tuple[Player, object]:
+        """The player, where `tell` says, for a call that moves it. It is known as another call's until `_done`."""
+        if self._player is None:
+            raise ValueError("the sound is closed")
+        owed, self._owed = self._owed, None
+        if isinstance(owed, Fault):
+            raise owed
+        turn = self._turn = object()
+        if self._is_lost:
+            self._make_anew()
+        if self._stale:
+            self._place(self._player, self._at)
+        self._stale = True
+        return self._player, turn
+
+    def _done(self, turn: object, frame: int) -> None:
+        """Ends a call that moved the player: it is at this frame now."""
+        self._demand(turn)
+        self._at = frame
+        self._stale = False
+
+    def _demand(self, turn: object) -> None:
+        """A handler of a signal may have called the same sound amid this call."""
+        if self._turn is not turn:
+            raise RuntimeError("another call of the same thread moved the sound meanwhile")
+
+    def _place(self, player: Player, frame: int) -> None:
+        """Has the player go to a frame, and the bytes from there on come next."""
+        self._stale = True
+        offset = player.seek(frame, self.name)
+        self._rest, self._next, self._ended = NONE, self._opened().start + offset, False
+
+    def _make_anew(self) -> None:
+        """Makes the player that was left in another process."""
+        player = Player(self._text, self._filter)
+        if self._learned(player) != self.info:
+            raise Fault("FileRefused", f"{self.name} isn't the file that was opened")
+        self._player, self._stale, self._is_lost = player, True, False
+
+    def read_into(self, out: Numbers) -> int:
+        """Fills an int32 array of frames by channels, as far as there are frames: how many. At the end of the file its
+        end is looked at, as `dsdarc play` does."""
+        with self._lock:
+            self._opened()
+            flags = out.flags if isinstance(out, numpy.ndarray) and out.dtype == numpy.int32 else None
+            if flags is None or out.ndim != 2 or out.shape[1] != self.channels:
+                raise ValueError(f"out is no int32 array of {self.channels} columns")
+            if not flags.c_contiguous or not flags.writeable:
+                raise ValueError("out is not C-contiguous, or can't be written")
+            return self._read(out[: self.frames - self._at], "native")
+
+    def read(self, frames: SupportsIndex | None = -1, dtype: Any = "float64", always_2d: bool = False) -> Numbers:
+        """The next frames, all for -1: an array with a row for each frame, or flat for one channel. As int32 the samples
+        are the numbers of the WAVE file, shifted to 32 bits as soundfile has them; as int16 the same in 16 bits, for
+        filters of that width; as float32 or float64 they go from -1 to 1; as "native" they are the numbers alone.
+
+        Fewer frames are given where the file ends, or where it is refused: the next call raises that fault, or `close`.
+        """
+        kind = self._kind(dtype)
+        wanted = -1 if frames is None else operator.index(frames)
+        with self._lock:
+            self._opened()
+            left = self.frames - self._at
+            numbers = numpy.empty((left if wanted < 0 else min(wanted, left), self.channels), kind)
+            numbers = numbers[: self._read(numbers, dtype)]
+        return numbers if always_2d or self.channels > 1 else numbers[:, 0]
+
+    def _read(self, out: Numbers, dtype: object) -> int:
+        """Fills an array from the current position on, as far as there are frames: how many."""
+        player, turn = self._begun()
+        try:
+            return self._read_on(player, turn, out, dtype)
+        except BaseException:
+            self._stale = True  # also if a handler of a signal called the same sound amid this call
+            raise
+
+    def _read_on(self, player: Player, turn: object, out: Numbers, dtype: object) -> int:
+        at, done = self._at, 0
+        while done < len(out):
+            piece = out[done : done + PIECE]
+            count = self._convert(player, piece, dtype)
+            done += count
+            if count < len(piece):
+                break
+        owed = self._owed
+        if owed is None and not self._ended and (done < len(out) or at + done == self.frames):
+            self._demand(turn)
+            owed = self._ends(player)
+        # Frames come before the fault; and all that were asked for, before what keeps the end from being read.
+        if owed is not None:
+            self._owed = None
+            if done == 0 or (done < len(out) and not isinstance(owed, Fault)):
+                raise owed
+            self._owed = owed.with_traceback(None)
+        self._done(turn, at + done)
+        return done
+
+    def _convert(self, player: Player, out: Numbers, dtype: object) -> int:
+        """Fills a piece of an array with frames as its numbers: how many."""
+        if out.dtype == numpy.int32:
+            count = self._fill(player, out)
+            if not (isinstance(dtype, str) and dtype == "native"):
+                numpy.left_shift(out[:count], 32 - self.info.width, out=out[:count])
+            return count
+        numbers = numpy.empty(out.shape, numpy.int32)
+        count = self._fill(player, numbers)
+        if out.dtype == numpy.int16:
+            out[:count] = numbers[:count]
+        else:
+            # Numbers of 24 bits are exact in both.
+            numpy.multiply(numbers[:count], out.dtype.type(2.0 ** (1 - self.info.width)), out=out[:count])
+        return count
+
+    def _fill(self, player: Player, out: Numbers) -> int:
+        """Fills an array with the player's numbers, as far as it gives some: how many. A fault is owed then."""
+        done, place, step = 0, out.ctypes.data, out.strides[0]
+        while done < len(out):
+            count = player.pull(place + done * step, len(out) - done, self.name)
+            done += count
+            try:
+                if count == 0 and not self._push(player):
+                    break
+            except Fault as fault:
+                self._owed = fault
+                break
+        return done
+
+    def _ends(self, player: Player) -> Exception | None:
+        """Reads the file to where it ends now, and asks whether it holds a recording: what says that it doesn't."""
+        try:
+            stop = self._opened().size()
+            while self._push(player, stop):
+                pass
+            player.end(self.name)
+        except Exception as error:
+            return error
+        self._ended = True
+        return None
+
+    def _kind(self, dtype: Any) -> numpy.dtype[Any]:
+        """The type of the numbers that are asked for."""
+        if isinstance(dtype, str) and dtype == "native":
+            return numpy.dtype(numpy.int32)
+        kind = None
+        try:
+            kind = numpy.dtype(dtype)
+        except TypeError:
+            pass
+        if kind is None or kind.name not in DTYPES or not kind.isnative:
+            raise ValueError(f"dtype is one of {', '.join(DTYPES)}, and not {dtype!r}")
+        if kind == numpy.int16 and self.info.width != 16:
+            raise ValueError(f"the filter plays {self.info.width} bits, which int16 doesn't hold")
+        return kind
+
+    def blocks(
+        self, frames: SupportsIndex = 65536, dtype: Any = "float64", always_2d: bool = False
+    ) -> Iterator[Numbers]:
+        """The frames from here to the end, in arrays of so many; the last may have fewer."""
+        if operator.index(frames) < 1:
+            raise ValueError(f"a block has at least one frame, and not {frames}")
+        self._kind(dtype)
+        return self._blocks(frames, dtype, always_2d)
+
+    def _blocks(self, frames: SupportsIndex, dtype: Any, always_2d: bool) -> Iterator[Numbers]:
+        while self._at < self.frames:
+            yield self.read(frames, dtype, always_2d)
+        if not self._ended:
+            self.read(0)  # nothing has looked at the end yet, or what it found is still to be raised
+
+    def __iter__(self) -> Iterator[Numbers]:
+        return self.blocks()
+
+    def __len__(self) -> int:
+        return self.frames
+
+    def seek(self, frame: SupportsIndex, whence: int = os.SEEK_SET) -> int:
+        """Goes to a frame, counted from the start, from here or from the end; returns its number."""
+        number = operator.index(frame)
+        with self._lock:
+            self._opened()
+            bases = {os.SEEK_SET: 0, os.SEEK_CUR: self._at, os.SEEK_END: self.frames}
+            if whence not in bases:
+                raise ValueError(f"whence is SEEK_SET, SEEK_CUR or SEEK_END, and not {whence!r}")
+            number += bases[whence]
+            if not 0 <= number <= self.frames:
+                raise ValueError(f"there is no frame {number}: there are {self.frames}")
+            player, turn = self._begun()
+            try:
+                self._place(player, number)
+                self._done(turn, number)
+            except BaseException:
+                self._stale = True
+                raise
+        return number
+
+    def tell(self) -> int:
+        """The number of the next frame."""
+        self._opened()
+        return self._at
+
+    @property
+    def closed(self) -> bool:
+        return self._player is None
+
+    def close(self) -> None:
+        """Frees the player, and closes the file if it was opened here. Then it raises what an earlier call found after
+        the frames that it gave, if no other call has raised it."""
+        with self._lock:
+            player, self._player = self._player, None
+            source, self._source = self._source, None
+            owed, self._owed = self._owed, None
+            if player is not None:
+                player.drop()
+            if source is not None:
+                source.close()
+        if owed is not None:
+            raise owed
+
+    def __enter__(self) -> Sound:
+        return self
+
+    def __exit__(
+        self, kind: type[BaseException] | None, why: BaseException | None, trace: TracebackType | None
+    ) -> Literal[False]:
+        if kind is not None:
+            self._owed = None
+        self.close()
+        return False
+
+    def __repr__(self) -> str:
+        return f"<dsdarc.Sound {self.name!r}: {'closed' if self.closed else self.info}>"
+
+    def _is_forked(self) -> None:
+        """Tells the sound that it is in a new process: no thread of the old one is in it, and may have been amid a call."""
+        if self._source is not None:
+            self._source.forked = True
+        if self._lock.acquire(blocking=False):
+            self._lock.release()
+            return
+        self._lock = threading.RLock()
+        if self._player is not None:
+            self._player.forget()
+            self._is_lost = True
+
+
+def _after_fork() -> None:
+    _source.after_fork()
+    for sound in list(_sounds):
+        sound._is_forked()
+
+
+os.register_at_fork(after_in_child=_after_fork)

@@ -1,0 +1,246 @@
+/* Tries the sentences of dsdarc.h, each by calls: sentences PROJECT FILE..
+ *
+ * Each FILE has three channels, of which all bits are 1, all are 0, and every other bit is 1, and enough sound that it is
+ * pushed in several pieces. A line is printed for each sentence that doesn't hold. */
+#include <dsdarc.h>
+#include <malloc.h>
+#include <stdio.h>
+#include <stdlib.h>
+#include <string.h>
+
+enum { CHANNELS = 3, MOST = 65536, FRAMES = 1 << 20 };
+
+static int failed;
+static const char *name;
+
+#define SAYS(sentence, holds) \
+    do { \
+        if (!(holds)) printf("FOUND: %s: \"%s\" (line %d)\n", name, sentence, __LINE__), failed = 1; \
+    } while (0)
+
+static unsigned char *whole(const char *path, size_t *size) {
+    FILE *file = fopen(path, "rb");
+    unsigned char *bytes;
+    if (!file || fseek(file, 0, SEEK_END)) exit(3);
+    *size = (size_t)ftell(file);
+    rewind(file);
+    bytes = malloc(*size + 1);
+    if (!bytes || fread(bytes, 1, *size, file) != *size) exit(3);
+    fclose(file);
+    return bytes;
+}
+
+static unsigned char *text, *bytes;
+static size_t text_size, size;
+static unsigned char pcm[FRAMES * CHANNELS * 4 + 8];
+
+static dsdarc_player *made(void) {
+    dsdarc_player *player = NULL;
+    if (dsdarc_player_new(text, text_size, &player) != DSDARC_OK) exit(3);
+    return player;
+}
+
+/* Pushes the bytes before the sound, and reports where it starts. */
+static size_t to_sound(dsdarc_player *player, dsdarc_info *info) {
+    size_t at = 0, taken;
+    while (dsdarc_player_info(player, info) == DSDARC_NOT_YET) {
+        if (dsdarc_player_push(player, bytes + at, size - at, &taken) != DSDARC_OK) exit(3);
+        at += taken;
+    }
+    return at;
+}
+
+static size_t pulled(dsdarc_player *player) {
+    size_t given = 0;
+    if (dsdarc_player_pull(player, pcm, FRAMES, DSDARC_PACKED, &given) != DSDARC_OK) exit(3);
+    return given;
+}
+
+static void try_new(void) {
+    dsdarc_player *player = (dsdarc_player *)pcm;
+    SAYS("after any status but OK it is null", dsdarc_player_new("[", 1, &player) == DSDARC_NOT_TOML && !player);
+    player = (dsdarc_player *)pcm;
+    SAYS("after any status but OK it is null", dsdarc_player_new(NULL, 1, &player) == DSDARC_NULL && !player);
+    player = (dsdarc_player *)pcm;
+    SAYS("a size that can't be", dsdarc_player_new(text, SIZE_MAX, &player) == DSDARC_SIZE && !player);
+    dsdarc_player_drop(NULL);
+}
+
+static void try_pushes(void) {
+    dsdarc_info info;
+    dsdarc_player *player = made();
+    size_t taken = 9, at = to_sound(player, &info), rest;
+    uint64_t start = 0, last = 0;
+    SAYS("a push takes bytes up to where the sound starts",
+         dsdarc_player_seek(player, 0, &start) == DSDARC_OK && start == at);
+    SAYS("a push of 0 takes nothing", dsdarc_player_push(player, NULL, 0, &taken) == DSDARC_OK && taken == 0);
+    dsdarc_player_push(player, bytes + at, size - at, &taken);
+    SAYS("a push takes 65,536 bytes at most", taken == MOST);
+    rest = taken;
+    taken = 9;
+    SAYS("none are taken while frames wait",
+         dsdarc_player_push(player, bytes + at + rest, 100, &taken) == DSDARC_OK && taken == 0);
+    while (pulled(player) > 0) continue;
+    at += rest;
+    SAYS("a null pointer changes nothing", dsdarc_player_push(player, NULL, 1, &taken) == DSDARC_NULL);
+    SAYS("a size that can't be changes nothing and takes nothing",
+         (taken = 9, dsdarc_player_push(player, bytes, SIZE_MAX, &taken)) == DSDARC_SIZE && taken == 0);
+    SAYS("a push of 0 takes nothing", dsdarc_player_push(player, bytes, 0, &taken) == DSDARC_OK && taken == 0);
+    SAYS("a push of 0 changes nothing", pulled(player) == 0);
+    SAYS("otherwise at least one is taken", dsdarc_player_push(player, bytes + at, 1, &taken) == DSDARC_OK && taken == 1);
+    if (dsdarc_player_seek(player, info.frames, &last) != DSDARC_OK) exit(3);
+    at = (size_t)last;
+    dsdarc_player_push(player, bytes + at, size - at, &taken);
+    SAYS("a push takes bytes up to where the sound ends", at + taken <= size);
+    dsdarc_player_drop(player);
+}
+
+static void try_info(void) {
+    dsdarc_info info = {.frames = 77}, after = {0};
+    dsdarc_player *player = made();
+    size_t taken = 9;
+    SAYS("info is as it was before the sound is known",
+         dsdarc_player_info(player, &info) == DSDARC_NOT_YET && info.frames == 77);
+    SAYS("a file without a recording is refused",
+         dsdarc_player_push(player, "nothing of the kind, and long enough for a header of either form", 64, &taken) ==
+             DSDARC_FILE_REFUSED);
+    SAYS("*taken is 0 after any status but OK", taken == 0);
+    SAYS("after a fault info returns what it returned before", dsdarc_player_info(player, &info) == DSDARC_NOT_YET);
+    SAYS("all other calls return AfterFault", dsdarc_player_push(player, bytes, 1, &taken) == DSDARC_AFTER_FAULT);
+    dsdarc_player_drop(player);
+    player = made();
+    to_sound(player, &info);
+    SAYS("there is no end amid the sound", dsdarc_player_end(player) == DSDARC_FILE_REFUSED);
+    SAYS("after a fault info returns what it returned before",
+         dsdarc_player_info(player, &after) == DSDARC_OK && memcmp(&info, &after, sizeof info) == 0);
+    SAYS("three channels", info.channels == CHANNELS);
+    dsdarc_player_drop(player);
+}
+
+static void try_pulls(void) {
+    dsdarc_info info;
+    dsdarc_player *player = made();
+    size_t at = to_sound(player, &info), taken, given = 9, width = info.width / 8;
+    const int32_t *numbers = (const int32_t *)(void *)(pcm + 4);
+    memset(pcm, 0x5a, sizeof pcm);
+    if (dsdarc_player_push(player, bytes + at, size - at, &taken) != DSDARC_OK) exit(3);
+    SAYS("pcm may be null if frames is 0", dsdarc_player_pull(player, NULL, 0, DSDARC_S32, &given) == DSDARC_OK && !given);
+    SAYS("S32 has to be aligned",
+         (given = 9, dsdarc_player_pull(player, pcm + 2, 4, DSDARC_S32, &given)) == DSDARC_SIZE && given == 0);
+    SAYS("S32 may be anywhere aligned", dsdarc_player_pull(player, pcm + 4, 40, DSDARC_S32, &given) == DSDARC_OK && given == 40);
+    SAYS("channels are in the order of the file, and numbers have the values of samples",
+         numbers[39 * 3] > 1 << (info.width - 3) && numbers[39 * 3 + 1] < -(1 << (info.width - 3)) &&
+             abs(numbers[39 * 3 + 2]) < 1 << (info.width - 3));
+    SAYS("numbers go to 2^(width-1) - 1 at most", numbers[39 * 3] < 1 << (info.width - 1));
+    memcpy(pcm + 400, numbers, 12);
+    SAYS("PACKED may be anywhere", dsdarc_player_pull(player, pcm + 1, 1, DSDARC_PACKED, &given) == DSDARC_OK && given == 1);
+    SAYS("the lowest byte comes first, in the order of the file",
+         pcm[width] < 0x80 && pcm[2 * width] >= 0x80 && pcm[3 * width] != 0x5a && pcm[3 * width + 1] != 0x80);
+    SAYS("a format that can't be", dsdarc_player_pull(player, pcm, 1, (dsdarc_format)7, &given) == DSDARC_SIZE);
+    SAYS("a size that can't be", dsdarc_player_pull(player, pcm, SIZE_MAX / 2, DSDARC_PACKED, &given) == DSDARC_SIZE);
+    SAYS("what is wrong changes nothing", dsdarc_player_pull(player, pcm, 1, DSDARC_PACKED, &given) == DSDARC_OK && given == 1);
+    dsdarc_player_drop(player);
+    player = made();
+    SAYS("S32 has to be aligned, also before the sound is known",
+         dsdarc_player_pull(player, pcm + 2, 4, DSDARC_S32, &given) == DSDARC_SIZE);
+    SAYS("0 are given if more bytes are needed", dsdarc_player_pull(player, pcm, 4, DSDARC_S32, &given) == DSDARC_OK && !given);
+    dsdarc_player_drop(player);
+}
+
+static void try_faults(void) {
+    dsdarc_info info, after;
+    dsdarc_player *player = made();
+    size_t at = to_sound(player, &info), taken, given;
+    uint64_t offset = 5;
+    if (dsdarc_player_push(player, bytes + at, size - at, &taken) != DSDARC_OK) exit(3);
+    if (dsdarc_player_pull(player, pcm, 7, DSDARC_PACKED, &given) != DSDARC_OK || given != 7) exit(3);
+    SAYS("there is no end amid the sound", dsdarc_player_end(player) == DSDARC_FILE_REFUSED);
+    SAYS("a push takes nothing while frames wait",
+         (taken = 9, dsdarc_player_push(player, bytes + at, 10, &taken)) == DSDARC_OK && taken == 0);
+    SAYS("a seek returns AfterFault", dsdarc_player_seek(player, 0, &offset) == DSDARC_AFTER_FAULT && offset == 5);
+    SAYS("an end returns AfterFault", dsdarc_player_end(player) == DSDARC_AFTER_FAULT);
+    SAYS("frames that wait can be pulled", pulled(player) > 100);
+    SAYS("a push returns AfterFault", dsdarc_player_push(player, bytes + at, 10, &taken) == DSDARC_AFTER_FAULT);
+    SAYS("a push of no bytes returns AfterFault", dsdarc_player_push(player, NULL, 0, &taken) == DSDARC_AFTER_FAULT);
+    SAYS("info returns what it returned before",
+         dsdarc_player_info(player, &after) == DSDARC_OK && memcmp(&info, &after, sizeof info) == 0);
+    SAYS("null pointers are refused as before", dsdarc_player_push(player, NULL, 1, &taken) == DSDARC_NULL);
+    dsdarc_player_drop(player);
+}
+
+static void try_seeks(void) {
+    dsdarc_info info;
+    dsdarc_player *player = made();
+    size_t at, taken;
+    uint64_t offset = 5, frames = 0;
+    SAYS("before the sound is known a seek is NotYet", dsdarc_player_seek(player, 0, &offset) == DSDARC_NOT_YET && offset == 5);
+    at = to_sound(player, &info);
+    dsdarc_player_push(player, bytes + at, size - at, &taken);
+    SAYS("behind the end a seek changes nothing",
+         dsdarc_player_seek(player, info.frames + 1, &offset) == DSDARC_BEHIND_END && offset == 5);
+    SAYS("frames that wait are dropped", dsdarc_player_seek(player, 3, &offset) == DSDARC_OK && pulled(player) == 0);
+    SAYS("a seek goes to any frame, and to their number", dsdarc_player_seek(player, info.frames, &offset) == DSDARC_OK);
+    if (dsdarc_player_seek(player, 0, &offset) != DSDARC_OK) exit(3);
+    for (at = (size_t)offset; frames < info.frames;) {
+        size_t more;
+        if (dsdarc_player_push(player, bytes + at, size - at, &taken) != DSDARC_OK || taken == 0) break;
+        at += taken;
+        while ((more = pulled(player)) > 0) frames += more;
+    }
+    SAYS("once the last byte of the sound was pushed, all frames can be pulled", frames == info.frames);
+    while (at < size && dsdarc_player_push(player, bytes + at, size - at, &taken) == DSDARC_OK) at += taken;
+    SAYS("bytes after the sound are taken and give no frames", at == size && pulled(player) == 0);
+    SAYS("an end", dsdarc_player_end(player) == DSDARC_OK);
+    SAYS("DSDARC_OK of an end changes nothing: an end again", dsdarc_player_end(player) == DSDARC_OK);
+    SAYS("DSDARC_OK of an end changes nothing: a seek", dsdarc_player_seek(player, 1, &offset) == DSDARC_OK);
+    dsdarc_player_push(player, bytes + offset, size - (size_t)offset, &taken);
+    SAYS("DSDARC_OK of an end changes nothing: a push", taken > 0 && pulled(player) > 0);
+    dsdarc_player_drop(player);
+}
+
+static size_t held(void) {
+    struct mallinfo2 all = mallinfo2();
+    return all.uordblks + all.hblkhd;
+}
+
+/* The sound is pushed again and again, by seeks to its start: what is held stays the same. */
+static void try_held(void) {
+    dsdarc_info info;
+    size_t before = held(), most = 0, at, taken;
+    dsdarc_player *player = made();
+    size_t header = to_sound(player, &info), frame = (size_t)info.width / 8 * info.channels;
+    size_t factor = info.rate_in / info.rate, piece = MOST * 8 / factor / info.channels * frame;
+    uint64_t offset;
+    for (int turn = 0; turn < 3; turn++) {
+        if (dsdarc_player_seek(player, 0, &offset) != DSDARC_OK) exit(3);
+        for (at = (size_t)offset; at < size; at += taken) {
+            if (dsdarc_player_push(player, bytes + at, size - at, &taken) != DSDARC_OK || taken == 0) exit(3);
+            if (held() > most) most = held();
+            while (pulled(player) > 0) continue;
+        }
+    }
+    /* Rows of the filter, a piece before and after it is spread to channels, and what grows has up to twice its room. */
+    SAYS("a player holds the bytes before the sound, one piece as frames, and what the filter reads",
+         most - before < 2 * (header + MOST + 2 * piece) + (1 << 20));
+    dsdarc_player_drop(player);
+    SAYS("drop frees a player", held() <= before);
+}
+
+int main(int count, char **words) {
+    if (count < 3) return 3;
+    text = whole(words[1], &text_size);
+    for (int word = 2; word < count; word++) {
+        name = words[word];
+        bytes = whole(name, &size);
+        try_new(), try_pushes(), try_info(), try_pulls(), try_faults(), try_seeks(), try_held();
+        free(bytes);
+    }
+    name = "statuses";
+    SAYS("the name of a status", strcmp(dsdarc_status_text(DSDARC_FILE_REFUSED), "FileRefused") == 0 &&
+                                     strcmp(dsdarc_status_text(DSDARC_PROCESSOR), "Processor") == 0 &&
+                                     strcmp(dsdarc_status_text(DSDARC_NO_FILTER), "NoFilter") == 0);
+    SAYS("Unknown for any other number", strcmp(dsdarc_status_text((dsdarc_status)99), "Unknown") == 0 &&
+                                             strcmp(dsdarc_status_text((dsdarc_status)-1), "Unknown") == 0);
+    free(text);
+    return failed;
+}

@@ -1,0 +1,54 @@
+"""Tries what dsdarc.h says: its sentences by calls (sentences.c), the calls that need no player (pure.c), and the status
+on a processor that lacks what the library was built for."""
+import os
+import shutil
+
+from dsdiffs import dsdiff
+from playing import BUILT, PROGRAM, ROOT, compiled, demand, get, run
+
+SOURCES = [os.path.join(ROOT, "library", f"{it}.c") for it in ("dsdarc", "filters", "channels")]
+ARCHIVE = os.path.join(BUILT, "libdsdarc.a")
+
+
+def three_channels(folder):
+    """Files with a channel of ones, one of zeros and one of both in turn."""
+    dff, dsf = (os.path.join(folder, f"three.{it}") for it in ("dff", "dsf"))
+    with open(dff, "wb") as file:
+        file.write(dsdiff(2822400, 3, bytes([0xFF, 0x00, 0x55]) * 120_001, more=b"MORE" + bytes(7) + b"\4" + bytes(4)))
+    demand(run(PROGRAM, "convert", "dsf", dff, dsf)[0] == 0, "no DSF file")
+    return dff, dsf
+
+
+def try_sentences(folder):
+    """All sentences, and the calls that need no player."""
+    made = os.path.join(folder, "sentences")
+    compiled("tests/library/sentences.c", "-O2", "-Wall", "-Wextra", "-Werror", ARCHIVE, "-o", made)
+    files = three_channels(folder)
+    for filter in ("dsd64-to-88200-24", "dsd64-to-44100-16"):
+        status, said = run(made, os.path.join(ROOT, "filters", f"{filter}.toml"), *files)
+        demand(status == 0 and said == "", f"dsdarc.h, by {filter}: status {status}\n{said}")
+    made = os.path.join(folder, "pure")
+    words = ["-g", "-fsanitize=address,undefined", "-fno-sanitize-recover", "-Wall", "-Wextra", "-Werror"]
+    compiled("tests/library/pure.c", *words, *SOURCES[1:], ARCHIVE, "-o", made)
+    status, said = run(made)
+    demand(status == 0 and said == "", f"calls without a player: status {status}\n{said}")
+
+
+def try_processor(folder, filter, name):
+    """A processor that lacks what the library was built for gets a status, and no other ends by a signal."""
+    made, out = os.path.join(folder, "lacking"), os.path.join(folder, "lacking.pcm")
+    for level in ("2", "3"):
+        lacks = ["-D__builtin_cpu_supports(it)=0", f"-DDSDARC_LEVEL={level}", "-DDSDARC_BUILD"]
+        compiled("tests/library/cut.c", *lacks, SOURCES[0], ARCHIVE, "-o", made)
+        status, said = run(made, filter, name, out, "0")
+        demand((status, said) == (1, "new Processor\n"), f"a processor that lacks level {level}: {status}, {said}")
+    marks = [os.path.join(BUILT, it) for it in ("libdsdarc_c.cpu", "dsdarc.cpu")]
+    built_for = get(next(it for it in marks if os.path.exists(it))).decode().strip()
+    compiled("tests/library/cut.c", ARCHIVE, "-o", made)
+    if not shutil.which("qemu-x86_64"):
+        print("left out: other processors, as qemu-user isn't installed")
+        return
+    for processor, levels in (("core2duo", ()), ("Nehalem", ("x86-64-v2",)), ("Haswell", ("x86-64-v2", "x86-64-v3"))):
+        status, said = run("qemu-x86_64", "-cpu", processor, made, filter, name, out, "0")
+        is_able = status == 0 if built_for in levels else (status, said[-14:]) == (1, "new Processor\n")
+        demand(is_able, f"built for {built_for}, run on {processor}: status {status}, {said[-200:]}")

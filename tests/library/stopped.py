@@ -1,0 +1,142 @@
+"""Tries what the GStreamer element does beside playing a file: stops, segments, loudspeakers, warnings, and its names."""
+import os
+import re
+import signal
+import subprocess
+import threading
+
+from dsdiffs import dsdiff
+from playing import PROGRAM, ROOT, compiled, demand, get, run
+
+MOST_SECONDS = 60  # what doesn't come to its end is killed then
+SURROUND = [b"MLFT", b"MRGT", b"C   ", b"LFE ", b"LS  ", b"RS  "]
+
+
+def launched(*words, **how):
+    """Status and words of gst-launch."""
+    done = subprocess.run(["gst-launch-1.0", *words], capture_output=True, check=False, **how)
+    return done.returncode, (done.stdout + done.stderr).decode()
+
+
+def interrupted(words, **how):
+    """Status and words of gst-launch that is interrupted once it plays, and asked to end its stream then (-e)."""
+    child = subprocess.Popen(
+        ["gst-launch-1.0", "-e", *words], stdout=subprocess.PIPE, stderr=subprocess.STDOUT, text=True, **how
+    )
+    killing = threading.Timer(MOST_SECONDS, child.kill)
+    killing.start()
+    said = ""
+    for line in child.stdout:
+        said += line
+        if "New clock" in line:
+            child.send_signal(signal.SIGINT)
+    status = child.wait()
+    killing.cancel()
+    return status, said
+
+
+def is_stopped(status, said):
+    """Whether a stream that the application ended came to its end without an error."""
+    return status == 0 and "ERROR" not in said and "Forcing EOS" in said and "EOS received" in said
+
+
+def ends(long, short):
+    """Stops before the end of a file are no errors; a file that ends early is one."""
+    dec = ["!", "dsdarcdec", "filter=88200/24", "!"]
+    for name in (long, long.replace(".dff", ".dsf")):
+        source = ["filesrc", f"location={name}", *dec]
+        status, said = interrupted([*source, "fakesink", "sync=true"])
+        is_right = is_stopped(status, said)
+        demand(is_right, f"dsdarcdec: stopped by the application: status {status}, {said[-400:]}")
+        with open(name, "rb") as file:
+            status, said = interrupted(["fdsrc", *dec, "fakesink", "sync=true"], stdin=file)
+        demand(is_stopped(status, said), f"dsdarcdec: stopped at a file's number: {status}, {said[-400:]}")
+        with subprocess.Popen(["cat", name], stdout=subprocess.PIPE) as pipe:
+            status, said = interrupted(["fdsrc", *dec, "fakesink", "sync=true"], stdin=pipe.stdout)
+            pipe.stdout.close()
+        demand(is_stopped(status, said), f"dsdarcdec: stopped at a pipe: {status}, {said[-400:]}")
+        for sink in (["fakesink", "num-buffers=3"], ["identity", "eos-after=3", "!", "fakesink"]):
+            status, said = launched(*source, *sink)
+            is_right = status == 0 and "ERROR" not in said
+            demand(is_right, f"dsdarcdec: stopped by {sink[0]}: status {status}, {said[-400:]}")
+    for ways, how in ((["filesrc", f"location={short}"], {}), (["fdsrc"], {"input": get(short)})):
+        status, said = launched(*ways, *dec, "fakesink", **how)
+        is_right = status == 1 and "FileRefused" in said
+        demand(is_right, f"dsdarcdec: a file that ends early, by {ways[0]}: status {status}, {said[-400:]}")
+
+
+def segments(folder, words, long, out, whole):
+    """Segments are answered in time, with and without a flush, and go on without a gap."""
+    made = os.path.join(folder, "segments")
+    compiled("tests/library/segments.c", *words, "-o", made)
+    for name in (long, long.replace(".dff", ".dsf")):
+        for first, stop, times in ((1000, 50_000, 3), (0, 1, 2), (300_000, len(whole) // 6, 2)):
+            status, said = run(made, "88200/24", name, out, str(first), str(stop), str(times))
+            right = whole[6 * first : 6 * stop] * times + whole[6 * stop :]
+            is_right = status == 0 and get(out) == right
+            demand(is_right, f"dsdarcdec: the segment {first} to {stop}, {times} times: status {status}, {said[-300:]}")
+
+
+def caps_of(name):
+    """What the element says of the channels of a file."""
+    ways = ["-v", "filesrc", f"location={name}", "!", "dsdarcdec", "name=dec", "!", "fakesink", "num-buffers=1"]
+    status, said = launched(*ways)
+    caps = re.search(r"dec\.GstPad:src: caps = (.*)", said)
+    mask = re.search(r"channel-mask=\(bitmask\)(0x[0-9a-f]+)", caps[1]) if caps else None
+    return int(mask[1], 16) if mask else None, status, said
+
+
+def loudspeakers(folder):
+    """Masks by the channel types of DSF and the IDs of DSDIFF; those that go to no loudspeakers have none."""
+    name = os.path.join(folder, "channels.dsf")
+    dff = os.path.join(folder, "channels.dff")
+    rows = ((3, 3, 0x7), (4, 4, 0x33), (5, 4, 0xF), (6, 5, 0x37), (7, 6, 0x3F), (2, 2, (None, 3)), (1, 1, (None,)))
+    for kind, count, mask in rows:
+        with open(dff, "wb") as file:
+            file.write(dsdiff(2822400, count, bytes(count * 35280)))
+        run(PROGRAM, "convert", "dsf", dff, name)
+        data = bytearray(get(name))
+        data[48] = kind
+        with open(name, "wb") as file:
+            file.write(data)
+        found, status, said = caps_of(name)
+        is_right = status == 0 and (found in mask if isinstance(mask, tuple) else found == mask)
+        demand(is_right, f"dsdarcdec: channel type {kind}: mask {found}, not {mask}: {said[-300:]}")
+    by_ids = ((SURROUND, 0x3F), ([*SURROUND[:2], *SURROUND[4:], *SURROUND[2:4]], 0), ([b"LS  ", b"RS  "], 0x30))
+    for ids, mask in by_ids:
+        with open(dff, "wb") as file:
+            file.write(dsdiff(2822400, len(ids), bytes(len(ids) * 35280), ids=ids))
+        found, status, said = caps_of(dff)
+        demand(status == 0 and found == mask, f"dsdarcdec: channels {ids}: mask {found}, not {mask}: {said[-300:]}")
+
+
+def names(folder, long):
+    """The element, its type, its debug category and its origin have names of its own."""
+    status, said = run("gst-inspect-1.0", "dsdarcdec")
+    is_right = status == 0 and "+----DsdarcDec\n" in said and "example" not in said
+    demand(is_right, f"dsdarcdec: its names: {said[:900]}")
+    given = os.environ | {"GST_DEBUG": "dsdarcdec:5", "GST_DEBUG_NO_COLOR": "1"}
+    ways = ["filesrc", f"location={long}", "!", "dsdarcdec", "filter=88200/24", "!", "fakesink", "num-buffers=1"]
+    status, said = launched(*ways, env=given)
+    demand(status == 0 and " dsdarcdec " in said, f"dsdarcdec: no debug category: {said[:300]}")
+    other = os.path.join(ROOT, "filters", "dsd128-to-88200-24.toml")
+    for filter, is_warned in (
+        (other, True),
+        ("88200/24", False),
+        (os.path.join(ROOT, "examples/decimate.toml"), False),
+    ):
+        ways[4] = f"filter={filter}"
+        status, said = launched(*ways)
+        is_right = status == 0 and is_warned == ("is for files of 5644800 Hz, and this one has 2822400 Hz" in said)
+        demand(is_right and is_warned == ("WARNING" in said), f"dsdarcdec: the warning of {filter}: {said[-300:]}")
+
+
+def try_stopped(folder, words, long, out, whole):
+    """All of these; `whole` has the frames of the file that is named."""
+    short = os.path.join(folder, "short.dff")
+    with open(short, "wb") as file:
+        file.write(get(long)[:-1000])
+    ends(long, short)
+    segments(folder, words, long, out, whole)
+    loudspeakers(folder)
+    names(folder, long)

@@ -67,7 +67,7 @@ FILES = (
     (
         changed(FILE, 96, ord("X")),
         "Dsdiff Compressed",
-        'its sound is compressed ("DXD "): unpack it with another tool first',
+        'its sound is compressed ("DSX "): unpack it with another tool first',
     ),
     (TWICE, "Dsdiff Twice 46532020", 'it has the chunk "FS  " twice'),
     (

@@ -118,9 +118,9 @@ class Found:
 
 @dataclass(frozen=True)
 class Held:
-    """The pieces of a length, and a tree of the numbers that they add."""
+    """Where the pieces of a length come from, and a tree of the numbers that they add."""
 
-    pieces: Pieces
+    links: np.ndarray
     tree: cKDTree
 
 
@@ -131,7 +131,7 @@ def held(owing: Owing, takes: list[Errors], spans: list[tuple[int, int]], shorte
         some = pieces(takes, spans, length)
         if len(some.signs):
             adding = (some.signs.reshape(-1, count, length) @ owing.bits(length)).reshape(-1, count * NUMBERS)
-            found[length] = Held(some, cKDTree(adding))
+            found[length] = Held(some.links.astype(np.int64), cKDTree(adding, balanced_tree=False))
     return found
 
 
@@ -143,7 +143,7 @@ def of_length(owing: Owing, some: Held, stays: np.ndarray, left: np.ndarray, len
     wanted = (stays.reshape(-1, count, length) @ owing.bits(length) - left).reshape(-1, count * NUMBERS)
     away, near = some.tree.query(wanted, k=range(1, min(NEAR, some.tree.n) + 1))
     rest = (some.tree.data[near] - wanted[:, None]).reshape(len(left), -1, count, NUMBERS)
-    links = some.pieces.links[near]
+    links = some.links[near]
     rows = np.concatenate([links, np.full((*near.shape, 1), length)], axis=2)
     return away, rows, rest
 

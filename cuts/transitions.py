@@ -20,7 +20,8 @@ from links import Link
 KEPT = 2  # places of each channel for each shift, for which links are looked for; more where there are few shifts
 FEW = 16  # shifts whose loudest channel is quietest
 MANY = 512  # places of each channel for which links are looked for, for all of these together
-ROUGH = 4  # times as many, of which they are the best when it is computed exactly where the sound changes
+ROUGH = 4  # times as many (half of that, if there are many), of which they are the best when it is computed exactly
+# where the sound changes
 JUDGED = 16  # shifts whose clicks are computed exactly; more where there are few channels
 CLICKS = 64  # that are, of all channels
 MOVED = 5e-6  # seconds by which the sound may change before or after the middle of a link
@@ -142,7 +143,7 @@ def fitting_best(cut: Cut, found: np.ndarray, more: np.ndarray, kept: int) -> np
 
 def best_of(cut: Cut, numbers: list[int], kept: int) -> Best:
     """The best link of one channel for each of these shifts, with links at so many places for each."""
-    found = fitting(cut, numbers, ROUGH * kept)
+    found = fitting(cut, numbers, ROUGH * max(kept // 2, KEPT))
     number = len(shifts_of(cut))
     made = Best(np.full(number, np.inf), np.zeros((number, 5), np.int64), np.zeros(number))
     moved, more = even(cut, found[:, :2])

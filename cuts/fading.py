@@ -50,7 +50,8 @@ class Wish:
     """A cut in the middle of a fade: the places in both takes, an odd number of bits, and how many bits the second may
     be moved. With `power` the sum of both takes' powers stays, else that of their levels. A butt changes the sound at
     the cut, within `ramp` seconds; if that is None, within the usual time, and if need be it is split: it takes longer
-    for what is above the audio band."""
+    for what is above the audio band. `doubt` is how loud it may be then (dB), as
+    nobody can tell what the takes hold there."""
 
     stop: int
     start: int
@@ -60,6 +61,7 @@ class Wish:
     is_butt: bool = False
     ramp: float | None = None
     is_split: bool = False
+    doubt: float = -np.inf
 
     @property
     def early(self) -> int:
@@ -86,13 +88,15 @@ class Wish:
 @dataclass(frozen=True)
 class Fade:
     """Bits that stand between bit `stop` - 1 of the first take and bit `start` of the second: their signs, a row for
-    each channel. `bumps` is how large the bump is in each channel, of full scale: 0 where there is none."""
+    each channel. `bumps` is how large the bump is in each channel, of full scale: 0 where there is none. `doubt` is how
+    loud it may be (dB), as nobody can tell what the takes hold above the audio band."""
 
     stop: int
     start: int
     signs: np.ndarray
     crossfade: Crossfade
     bumps: list[float]
+    doubt: float
 
 
 def moments(errors: np.ndarray, first: int) -> np.ndarray:
@@ -196,8 +200,11 @@ def ramped(takes: tuple[Signals, Signals], wish: Wish) -> Wish:
     """A wish that says within what time a butt changes the sound."""
     if not wish.is_butt or wish.ramp is not None:
         return wish
-    is_whole = ramps.is_whole(takes, (wish.stop, wish.start), wish.power)
-    return replace(wish, ramp=ramps.RAMP, is_split=not is_whole)
+    places = wish.stop, wish.start
+    if ramps.is_whole(takes, places, wish.power):
+        return replace(wish, ramp=ramps.RAMP)
+    doubt = ramps.doubt(takes, places, wish.power, MOST * wish.length)
+    return replace(wish, ramp=ramps.RAMP, is_split=True, doubt=doubt)
 
 
 def planned(before: Signals, after: Signals, wish: Wish) -> Plan:
@@ -269,7 +276,7 @@ def made(program: Path, plan: Plan, seed: int) -> Fade:
         made = None if is_shared else settled(program, around.rate, known, float(moment[channel]), seed + 100 * channel)
         rows.append(shared if is_shared else made)
     sizes = [abs(it) * bump.max() if abs(it) >= EVEN else 0.0 for it in plan.missing]
-    return Fade(around.stop, around.start + plan.moved, np.stack(rows), plan.crossfade, sizes)
+    return Fade(around.stop, around.start + plan.moved, np.stack(rows), plan.crossfade, sizes, wish.doubt)
 
 
 def settled(program: Path, rate: int, known: tuple, moment: float, seed: int) -> np.ndarray:

@@ -17,7 +17,7 @@ from times import clock, lasting
 
 
 NOTHING = -145.0  # dB: below there is nothing but what low-passes leave
-ALIKE = 0.1  # dB that a cut may be louder than before
+ALIKE = 0.3  # dB that a cut may be louder than before
 
 
 class Planned(Signals):

@@ -4,6 +4,7 @@ import re
 import signal
 import subprocess
 import threading
+import time
 
 from dsdiffs import dsdiff
 from playing import PROGRAM, ROOT, compiled, demand, get, run
@@ -18,6 +19,15 @@ def launched(*words, **how):
     return done.returncode, (done.stdout + done.stderr).decode()
 
 
+def await_handler(child):
+    """Waits until a program catches SIGINT, or has ended."""
+    while child.poll() is None:
+        caught = re.search(rb"^SigCgt:\s*(\w+)", get(f"/proc/{child.pid}/status"), re.MULTILINE)
+        if caught and int(caught[1], 16) >> (signal.SIGINT - 1) & 1:
+            return
+        time.sleep(0.01)
+
+
 def interrupted(words, when="New clock", **how):
     """Status and words of gst-launch that is interrupted once it says this, as it plays, and asked to end its stream
     then (-e)."""
@@ -30,6 +40,7 @@ def interrupted(words, when="New clock", **how):
     for line in child.stdout:
         said += line
         if when in line:
+            await_handler(child)
             child.send_signal(signal.SIGINT)
     status = child.wait()
     killing.cancel()

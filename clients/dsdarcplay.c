@@ -13,7 +13,7 @@
 #include <string.h>
 #include <unistd.h>
 
-enum { BLOCK = 65536, FRAMES = 4096, MOST_TEXT = 1 << 20, MOST_RATES = 16 };
+enum { BLOCK = 65536, FRAMES = 4096, MOST_TEXT = 1 << 20, MOST_RATES = 16, MOST_SECONDS = 1000000000 };
 
 static int told(const char *name, const char *what) {
     fprintf(stderr, "dsdarcplay: %s: %s\n", name, what);
@@ -24,6 +24,7 @@ static char *text_of(const char *name, size_t *size) {
     FILE *file = fopen(name, "rb");
     char *text = file ? malloc(MOST_TEXT) : NULL;
     *size = text ? fread(text, 1, MOST_TEXT, file) : 0;
+    if (text && ferror(file)) free(text), text = NULL;
     if (file) fclose(file);
     return text;
 }
@@ -92,6 +93,7 @@ static int play(const char *device, filter by, double from, const char *name) {
                     if (wrote > 0) done += (size_t)wrote;
                 }
         }
+    if (status == DSDARC_OK && fault >= 0 && ferror(file)) fault = -errno, device = name;
     if (status == DSDARC_OK && fault >= 0) status = dsdarc_player_end(player);
     if (pcm && fault >= 0) snd_pcm_drain(pcm);
     if (pcm) snd_pcm_close(pcm);
@@ -99,6 +101,13 @@ static int play(const char *device, filter by, double from, const char *name) {
     fclose(file);
     if (fault < 0) return told(device, snd_strerror(fault));
     return status == DSDARC_OK ? 0 : told(name, dsdarc_status_text(status));
+}
+
+/* Seconds from 0 on, and nothing else behind them: -1 if the word isn't that. */
+static double seconds_of(const char *word) {
+    char *end;
+    double seconds = strtod(word, &end);
+    return end != word && *end == 0 && seconds >= 0 && seconds < MOST_SECONDS ? seconds : -1;
 }
 
 int main(int count, char **words) {
@@ -109,9 +118,9 @@ int main(int count, char **words) {
     int word, failed = 0;
     while ((word = getopt(count, words, "D:s:")) != -1)
         if (word == 'D') device = optarg;
-        else if (word == 's') from = strtod(optarg, NULL);
+        else if (word == 's') from = seconds_of(optarg);
         else return 2;
-    if (optind + 2 > count) {
+    if (optind + 2 > count || from < 0) {
         fprintf(stderr, "dsdarcplay [-D DEVICE] [-s SECONDS] FILTER FILE..\n");
         return 2;
     }

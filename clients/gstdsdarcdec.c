@@ -254,16 +254,19 @@ static GstFlowReturn chain(GstPad *pad, GstObject *parent, GstBuffer *buffer) {
 /* Whether the stream ends with the file, and neither by the element behind nor by the application. */
 static gboolean is_at_end(DsdarcDec *dec, GstEvent *event) {
     guint64 place = dec->player ? dec->place : dec->front->len;
-    GstEvent *segment;
+    guint32 number = gst_event_get_seqnum(event);
+    GstEvent *known;
     gint64 size;
     gboolean is_own = FALSE;
     if (dec->stopped || (dec->told && dec->frame == dec->last && dec->last < dec->info.frames)) return FALSE;
     if (gst_pad_peer_query_duration(dec->sink, GST_FORMAT_BYTES, &size) && size >= 0) return place >= (guint64)size;
-    /* The element before doesn't know the size: an end of the application has a number of its own. */
-    if ((segment = gst_pad_get_sticky_event(dec->sink, GST_EVENT_SEGMENT, 0))) {
-        is_own = gst_event_get_seqnum(segment) == gst_event_get_seqnum(event);
-        gst_event_unref(segment);
-    }
+    /* The element before doesn't know the size: an end of the application has a number of its own. Before the first byte
+     * there is no segment: then it is a number after that of the start. */
+    if ((known = gst_pad_get_sticky_event(dec->sink, GST_EVENT_SEGMENT, 0)))
+        is_own = gst_event_get_seqnum(known) == number;
+    else if ((known = gst_pad_get_sticky_event(dec->sink, GST_EVENT_STREAM_START, 0)))
+        is_own = gst_util_seqnum_compare(number, gst_event_get_seqnum(known)) < 0;
+    if (known) gst_event_unref(known);
     return is_own;
 }
 

@@ -178,7 +178,8 @@ def in_bytes(tracks, found):
         early = track.start % 8
         if early:
             track.start -= early
-            yield f"track {track.number} starts {early} bits earlier, at bit {track.start}: DSDIFF holds whole bytes"
+            bits = "1 bit" if early == 1 else f"{early} bits"
+            yield f"track {track.number} starts {bits} earlier, at bit {track.start}: DSDIFF holds whole bytes"
 
 
 def whole(tracks, found):

@@ -149,6 +149,13 @@ class Output:
         is_there = os.path.exists(self.target) and os.path.samestat(self.old, os.stat(self.target))
         return stat.S_ISREG(self.old.st_mode) and is_there and not is_stream
 
+    def is_printed(self):
+        """Whether it is standard output, into which lines are printed, and no terminal or other device."""
+        with contextlib.suppress(OSError):
+            printed = os.fstat(1)
+            return bool(self.old) and os.path.samestat(self.old, printed) and not stat.S_ISCHR(printed.st_mode)
+        return False
+
     @contextlib.contextmanager
     def named(self):
         """Faults are of the file that was asked for."""
@@ -237,6 +244,8 @@ class Outputs:
             if it == made.identity:
                 same = "" if known == made.name else f", by the name {shown_name(known)}"
                 raise Refused(f"{what}: {shown_name(made.name)} is {other} too{same}: name another file")
+        if made.name == "-" or made.is_printed():
+            raise Refused(f"{what}: {shown_name(made.name)}: lines are printed to standard output: name a file")
         self.files[made.name] = made
         made.begin()
 

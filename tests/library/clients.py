@@ -45,6 +45,13 @@ def try_player(folder, dff, dsf, filter, frames, align):
     done = subprocess.run(words, input=get(dff), capture_output=True, check=False)
     is_told = done.returncode == 1 and b"/dev/stdin: Illegal seek" in done.stderr
     demand(is_told, f"dsdarcplay: a pipe from {second} s: {done}")
+    for word in ("1:30", "abc", "", "-1", "nan", "inf", "1e300"):
+        status, said = run(player, "-D", "raw", "-s", word, filter, dff)
+        is_right = status == 2 and said == "dsdarcplay [-D DEVICE] [-s SECONDS] FILTER FILE..\n"
+        demand(is_right, f"dsdarcplay: from {word!r}: status {status}, {said}")
+    for given, told in (((filter, folder), "Is a directory"), ((folder, dff), "it can't be read")):
+        status, said = run(player, "-D", "raw", *given)
+        demand(status == 1 and said == f"dsdarcplay: {folder}: {told}\n", f"dsdarcplay: a folder: {status}, {said}")
 
 
 def try_element(folder, words, dff, dsf, filter, frames, align):

@@ -4,6 +4,7 @@ import re
 import signal
 import subprocess
 import threading
+import time
 
 from dsdiffs import dsdiff
 from playing import PROGRAM, ROOT, compiled, demand, get, run
@@ -18,8 +19,18 @@ def launched(*words, **how):
     return done.returncode, (done.stdout + done.stderr).decode()
 
 
-def interrupted(words, **how):
-    """Status and words of gst-launch that is interrupted once it plays, and asked to end its stream then (-e)."""
+def await_handler(child):
+    """Waits until a program catches SIGINT, or has ended."""
+    while child.poll() is None:
+        caught = re.search(rb"^SigCgt:\s*(\w+)", get(f"/proc/{child.pid}/status"), re.MULTILINE)
+        if caught and int(caught[1], 16) >> (signal.SIGINT - 1) & 1:
+            return
+        time.sleep(0.01)
+
+
+def interrupted(words, when="New clock", **how):
+    """Status and words of gst-launch that is interrupted once it says this, as it plays, and asked to end its stream
+    then (-e)."""
     child = subprocess.Popen(
         ["gst-launch-1.0", "-e", *words], stdout=subprocess.PIPE, stderr=subprocess.STDOUT, text=True, **how
     )
@@ -28,7 +39,8 @@ def interrupted(words, **how):
     said = ""
     for line in child.stdout:
         said += line
-        if "New clock" in line:
+        if when in line:
+            await_handler(child)
             child.send_signal(signal.SIGINT)
     status = child.wait()
     killing.cancel()
@@ -55,11 +67,16 @@ def ends(long, short):
             status, said = interrupted(["fdsrc", *dec, "fakesink", "sync=true"], stdin=pipe.stdout)
             pipe.stdout.close()
         demand(is_stopped(status, said), f"dsdarcdec: stopped at a pipe: {status}, {said[-400:]}")
+        with subprocess.Popen(["sleep", "60"], stdout=subprocess.PIPE) as pipe:
+            status, said = interrupted(["fdsrc", *dec, "fakesink"], "Pipeline is PREROLLING", stdin=pipe.stdout)
+            pipe.kill()
+        demand(is_stopped(status, said), f"dsdarcdec: stopped before the first byte: {status}, {said[-400:]}")
         for sink in (["fakesink", "num-buffers=3"], ["identity", "eos-after=3", "!", "fakesink"]):
             status, said = launched(*source, *sink)
             is_right = status == 0 and "ERROR" not in said
             demand(is_right, f"dsdarcdec: stopped by {sink[0]}: status {status}, {said[-400:]}")
-    for ways, how in ((["filesrc", f"location={short}"], {}), (["fdsrc"], {"input": get(short)})):
+    early = [(["filesrc", f"location={short}"], {}), (["fdsrc"], {"input": get(short)})]
+    for ways, how in (*early, (["fdsrc"], {"input": b""}), (["filesrc", "location=/dev/null"], {})):
         status, said = launched(*ways, *dec, "fakesink", **how)
         is_right = status == 1 and "FileRefused" in said
         demand(is_right, f"dsdarcdec: a file that ends early, by {ways[0]}: status {status}, {said[-400:]}")

@@ -131,6 +131,17 @@ no_filter() {
     exit 2
 }
 
+# Says that --plus6 goes with a wish alone, as the program says what is wrong with its words.
+not_louder() {
+    {
+        echo "fault: WrongWords"
+        if [ -t 2 ] || [ -n "$play_explains" ]; then
+            echo "--plus6 goes with a rate and width: usage: dsdarc play --plus6 RATE/BITS IN OUT"
+        fi
+    } >&2 || true
+    exit 3
+}
+
 # The rate in the first bytes of a DSF or DSDIFF file, if it is there.
 rate_in_head() {
     od -An -v -tu1 -N4096 -- "$1" 2>/dev/null | awk '
@@ -215,6 +226,8 @@ run_child() {
             set -- "$@" "$play_word"
             if [ "$play_place" -eq 1 ] && [ -n "$play_explains" ]; then set -- "$@" "$play_explains"; fi
         done
+    elif [ "$play_names" -gt 0 ] && [ -n "$play_louder" ]; then
+        not_louder
     fi
     child_status=0
     # A command writes the files that its last two names name, or one of them; the places of a part may follow them.

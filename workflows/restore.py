@@ -175,6 +175,8 @@ def listed(out, name, is_right):
     path = os.path.join(out, name)
     try:
         found = names.load(path)
+    except FileNotFoundError:
+        raise outputs.Refused(f"{outputs.shown_name(out)} holds no run that ended: there is no {name}") from None
     except ValueError:
         found = None
     if not isinstance(found, dict) or not all(map(is_right, found.values())):
@@ -225,6 +227,9 @@ def restore_all(out, folder):
 
 
 def main():
+    if sys.argv[1:] in (["--help"], ["-h"]):
+        print(__doc__)
+        return 0
     if len(sys.argv) != 3:
         raise outputs.Refused(__doc__.partition("\n")[0])
     with room.told("FOLDER"):

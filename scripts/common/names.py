@@ -20,6 +20,8 @@ KINDS = {"converted": (".dff", ".dsf"), "pcm": (".wav",), "kept": (".head", ".fi
 # The folders in OUT in which the workflow writes.
 WRITTEN = ("work", "renamed", "beside", *KINDS)
 ADDED = max(len(ending) for endings in KINDS.values() for ending in endings)
+# The lists that each run ends with.
+LISTS = ("refused.tsv", "SHA256SUMS", "SOURCES.SHA256SUMS", "channels.tsv", "dropped.tsv", "results.json", "report.txt")
 # The path of a result from OUT, and that of OUT; the system takes 4095 bytes.
 LONGEST_RESULT = 3000
 LONGEST_OUT = 1000
@@ -275,6 +277,13 @@ def inner_of(folder, out):
     return os.path.relpath(os.path.realpath(folder), os.path.realpath(out)).split("/")[0]
 
 
+def demand_own_lists():
+    """Refuses an OUT with lists that no run wrote, so that none is replaced."""
+    there = [name for name in LISTS if os.path.lexists(name)]
+    if there and len(there) < len(LISTS) and not os.path.lexists(TABLE):
+        sys.exit(f"OUT has a {there[0]} that no run wrote, which would be replaced: take another OUT")
+
+
 def settle(archive, settings):
     """What the first process of a workflow does in OUT, its folder: the table of names, the links, the settings."""
     out = os.getcwd()
@@ -282,6 +291,7 @@ def settle(archive, settings):
         sys.exit(f"the path of OUT has more than {LONGEST_OUT} bytes: take another")
     if inner_of(archive or "archive", ".") in (".", *WRITTEN):
         sys.exit("the archive is OUT, or a folder in which the run writes: take another OUT")
+    demand_own_lists()
     link_archive(archive)
     for folder in ("looks", "converted", "played", "parts"):
         os.makedirs(f"work/{folder}", exist_ok=True)

@@ -108,7 +108,7 @@ def by_rates(text, is_louder=False):
     played = {wish for rate in served(there) for wish in for_rate(there, rate, is_louder)}
     unserved = ", ".join(f"{out}/{width}" for out, width in wishes if (out, width) not in played)
     if unserved:
-        raise Refused(f"no filter plays any rate to {unserved}: filters/pick --list prints what there is")
+        raise Refused(f"no filter plays any rate to {unserved}: dsdarc-pick --list prints what there is")
     for rate in served(there):
         with contextlib.suppress(Refused):
             found[str(rate)] = path_for(there, rate, wishes, is_louder)

@@ -7,7 +7,7 @@ from pathlib import Path
 
 import planned
 from outputs import Refused
-from projects import Project
+from projects import Project, Spot
 
 
 def usual(words: argparse.ArgumentParser) -> None:
@@ -31,9 +31,16 @@ def parsed(words: argparse.ArgumentParser) -> argparse.Namespace:
     return asked
 
 
+def goes_on(project: Project, spot: Spot) -> bool:
+    """Whether a take goes on at a cut, as where a cue begins for its title alone."""
+    before, after = project.cues[spot.before], project.cues[spot.after]
+    is_same = project.names[before["take"]] == project.names[after["take"]]
+    return spot.role == "plain" and is_same and before["stop"] == after["start"]
+
+
 def cuts_of(project: Project, wished: list[int] | None, staying: set[str], what: str) -> list[int]:
-    """The cuts that are asked for. Those of some kinds stay: a line always, and what was made before unless it is
-    asked for by its number."""
+    """The cuts that are asked for. Those of some kinds stay: a line and where a take goes on always, and what was made
+    before unless it is asked for by its number."""
     spots = project.spots()
     for it in wished or ():
         if not 0 <= it < len(spots):
@@ -44,6 +51,8 @@ def cuts_of(project: Project, wished: list[int] | None, staying: set[str], what:
         if role == "line" or wished is None and role in staying:
             why = "its bridge goes in a line" if role == "line" else f"it has a {role}; --cut {number} makes it anew"
             print(f"cut {number}: stays, as {why}")
+        elif goes_on(project, spots[number]):
+            print(f"cut {number}: stays, as its take goes on there")
         else:
             found.append(number)
     if not found:

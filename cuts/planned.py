@@ -16,7 +16,7 @@ from takes import Signals
 from times import clock, lasting
 
 
-NOTHING = -145.0  # dB: below there is nothing but what low-passes leave
+NOTHING = -135.0  # dB: below there is nothing but what low-passes leave
 ALIKE = 0.3  # dB that a cut may be louder than before
 
 

@@ -10,12 +10,19 @@ from dsdiffs import dsdiff
 from playing import PROGRAM, ROOT, compiled, demand, get, run
 
 MOST_SECONDS = 60  # what doesn't come to its end is killed then
+SECONDS_AFTER_ERRORS = 20  # what may wait for ever is killed then
 SURROUND = [b"MLFT", b"MRGT", b"C   ", b"LFE ", b"LS  ", b"RS  "]
 
 
 def launched(*words, **how):
-    """Status and words of gst-launch."""
-    done = subprocess.run(["gst-launch-1.0", *words], capture_output=True, check=False, **how)
+    """Status and words of gst-launch. The status is None if it didn't end by itself: after an error before the first
+    buffer its loop may wait for ever, with `wavparse` too."""
+    try:
+        done = subprocess.run(
+            ["gst-launch-1.0", *words], capture_output=True, check=False, timeout=SECONDS_AFTER_ERRORS, **how
+        )
+    except subprocess.TimeoutExpired as late:
+        return None, ((late.stdout or b"") + (late.stderr or b"")).decode()
     return done.returncode, (done.stdout + done.stderr).decode()
 
 
@@ -76,9 +83,11 @@ def ends(long, short):
             is_right = status == 0 and "ERROR" not in said
             demand(is_right, f"dsdarcdec: stopped by {sink[0]}: status {status}, {said[-400:]}")
     early = [(["filesrc", f"location={short}"], {}), (["fdsrc"], {"input": get(short)})]
-    for ways, how in (*early, (["fdsrc"], {"input": b""}), (["filesrc", "location=/dev/null"], {})):
+    empty = [(["fdsrc"], {"input": b""}), (["filesrc", "location=/dev/null"], {})]
+    for ways, how in (*early, *empty):
         status, said = launched(*ways, *dec, "fakesink", **how)
-        is_right = status == 1 and "FileRefused" in said
+        is_ended = status == 1 or (status is None and (ways, how) in empty)
+        is_right = is_ended and "FileRefused" in said
         demand(is_right, f"dsdarcdec: a file that ends early, by {ways[0]}: status {status}, {said[-400:]}")
 
 

@@ -1,6 +1,7 @@
 """Adds to the Python package what the clone has for it: the ready filters and, once it is built, the library."""
 import pathlib
 import shutil
+from typing import Any
 
 import setuptools
 from setuptools.command.build_py import build_py
@@ -12,7 +13,7 @@ LIBRARY = ROOT / "crates" / "dsdarc" / "out" / "libdsdarc.so.0"
 class Adding(build_py):
     """Puts the package together."""
 
-    def run(self):
+    def run(self) -> None:
         super().run()
         package = pathlib.Path(self.build_lib) / "dsdarc"
         (package / "filters").mkdir(parents=True, exist_ok=True)
@@ -27,7 +28,7 @@ class Adding(build_py):
 class Package(setuptools.Distribution):
     """The package, which is one of this kind of processor where the library is in it."""
 
-    def has_ext_modules(self):
+    def has_ext_modules(self) -> Any:
         return LIBRARY.is_file()
 
 

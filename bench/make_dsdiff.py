@@ -7,15 +7,15 @@ import random
 import re
 import sys
 
-sys.path.insert(0, os.path.join(os.path.dirname(os.path.dirname(os.path.abspath(__file__))), "scripts/common"))
-from dsdiffs import dsdiff, numbered  # noqa: E402
-from outputs import Outputs, Refused, ended  # noqa: E402
+sys.path.insert(0, os.path.dirname(os.path.dirname(os.path.realpath(__file__))))
+from dsdarc_scripts.dsdiffs import dsdiff, numbered
+from dsdarc_scripts.outputs import Outputs, Refused, ended
 
 USUAL = ("2", "1", "2822400")  # channels, seed, rate
 MOST = (100_000, 1000, 10**9, 2**32 - 1)
 
 
-def numbers(words):
+def numbers(words: list[str]) -> list[int]:
     """Megabytes, channels, seed and rate."""
     for word, most in zip(words, MOST):
         if not re.fullmatch(r"\d{1,10}", word) or not 1 <= int(word) <= most:
@@ -23,7 +23,7 @@ def numbers(words):
     return [int(word) for word in words]
 
 
-def main():
+def main() -> int:
     if not 3 <= len(sys.argv) <= 6:
         raise Refused(__doc__.partition("\n")[0])
     out, *words = sys.argv[1:]

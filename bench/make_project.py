@@ -11,20 +11,21 @@ the number of weights and the weights, then the number of cues and for each its 
 import os
 import re
 import sys
+from collections.abc import Iterator
 
-sys.path.insert(0, os.path.join(os.path.dirname(os.path.dirname(os.path.abspath(__file__))), "scripts/common"))
-from outputs import Outputs, Refused, ended  # noqa: E402
+sys.path.insert(0, os.path.dirname(os.path.dirname(os.path.realpath(__file__))))
+from dsdarc_scripts.outputs import Outputs, Refused, ended
 
 WEIGHTS = [16, 62, 146, 260, 360, 412, 412, 360, 260, 146, 62, 16]
 
 
-def middle_weights(number):
+def middle_weights(number: int) -> list[int]:
     """So many of the weights, those in the middle."""
     first = (len(WEIGHTS) - number) // 2
     return WEIGHTS[first : first + number]
 
 
-def cues_of(bits, number, bridge):
+def cues_of(bits: int, number: int, bridge: int) -> Iterator[tuple[int, int, int, int]]:
     """The take, start, stop and bridge of each cue."""
     room = 3 + bridge + len(WEIGHTS)
     length = (bits - 2 * room) // number // 8 * 8
@@ -33,7 +34,7 @@ def cues_of(bits, number, bridge):
         yield k % 2, start, start + length, bridge if k < number - 1 else 0
 
 
-def project(takes, weights, cues):
+def project(takes: list[str], weights: list[int], cues: list[tuple[int, int, int, int]]) -> list[str]:
     lines = ["[splice]", f"weights = {weights}", f'takes = ["{takes[0]}", "{takes[1]}"]']
     for take, start, stop, bridge in cues:
         lines += ["[[splice.cue]]", f"take = {take}", f"start = {start}", f"stop = {stop}"]
@@ -42,12 +43,12 @@ def project(takes, weights, cues):
     return lines
 
 
-def plan(takes, weights, cues):
+def plan(takes: list[str], weights: list[int], cues: list[tuple[int, int, int, int]]) -> list[str]:
     numbers = [(len(weights), *weights), (len(cues),), *cues]
     return [*takes, *(" ".join(map(str, it)) for it in numbers)]
 
 
-def numbers(words):
+def numbers(words: list[str]) -> tuple[int, int, int, int]:
     """Bits, cues, the bits of a bridge and how many weights."""
     for word in words:
         if not re.fullmatch(r"\d{1,12}", word):
@@ -58,7 +59,7 @@ def numbers(words):
     return bits, number, bridge, weights
 
 
-def main():
+def main() -> int:
     if not 7 <= len(sys.argv) <= 9:
         raise Refused("make_project.py OUT FIRST SECOND BITS CUES BRIDGE [WEIGHTS [PLAN]]")
     out, *takes = sys.argv[1:4]

@@ -9,18 +9,21 @@ import re
 import subprocess
 import sys
 import tempfile
+from collections.abc import Iterator
+
+Steps = list[tuple[int, str]]  # the places of instructions and their texts
 
 TURNING = re.compile(r"bswap|\bmovbe|pshufb")
 JUMP = re.compile(r"j\w+ +([0-9a-f]+) ")
 
 
-def answer_of(*words):
+def answer_of(*words: str) -> str:
     return subprocess.run(words, check=True, stdout=subprocess.PIPE, stderr=subprocess.DEVNULL, text=True).stdout
 
 
-def functions_of(program):
+def functions_of(program: str) -> dict[str, Steps]:
     """The instructions of each function: their places and texts."""
-    functions, of = {}, []
+    functions, of = dict[str, Steps](), Steps()
     for line in answer_of("objdump", "-d", "--no-show-raw-insn", program).splitlines():
         if head := re.match(r"[0-9a-f]+ <(.*)>:$", line):
             of = functions.setdefault(head[1], [])
@@ -29,7 +32,7 @@ def functions_of(program):
     return functions
 
 
-def turning_loops(steps):
+def turning_loops(steps: Steps) -> Iterator[tuple[int, int]]:
     """The first and last places of the innermost loops with an instruction that turns bytes."""
     jumps = [(int(it[1], 16), place) for place, text in steps if (it := JUMP.match(text))]
     loops = [(to, place) for to, place in jumps if to < place]
@@ -39,7 +42,7 @@ def turning_loops(steps):
             yield first, last
 
 
-def samples_of(program, words):
+def samples_of(program: str, words: list[str]) -> Iterator[tuple[int, str, int]]:
     """Of each sample in the program: how long it stands for, the function and the distance from its start."""
     with tempfile.NamedTemporaryFile() as file:
         record = ("perf", "record", "-q", "-e", "cpu-clock", "-F", "1999", "-o", file.name, "--")
@@ -51,7 +54,7 @@ def samples_of(program, words):
                 yield int(it[1]), it[2], int(it[3], 16)
 
 
-def main():
+def main() -> None:
     program, words = os.path.realpath(sys.argv[1]), sys.argv[2:]
     functions = functions_of(program)
     loops, own, turned = {}, 0, 0

@@ -349,7 +349,7 @@ static dsdarc_status go_to(DsdarcDec *dec, GstEvent *event, guint64 *offset) {
     GstSegment segment;
     guint64 frame;
     dsdarc_status status;
-    if (!sought(dec, event, &segment, &frame)) return DSDARC_BEHIND_END;
+    if (!sought(dec, event, &segment, &frame)) return DSDARC_PAST_END;
     if ((status = dsdarc_player_seek(dec->player, frame, offset)) != DSDARC_OK) return status;
     dec->segment = segment;
     dec->seek_number = gst_event_get_seqnum(event);
@@ -506,5 +506,5 @@ static gboolean init(GstPlugin *plugin) {
     return is_done;
 }
 
-GST_PLUGIN_DEFINE(GST_VERSION_MAJOR, GST_VERSION_MINOR, dsdarc, "decimates DSDIFF and DSF files", init, "0.1.0", "MIT/X11",
+GST_PLUGIN_DEFINE(GST_VERSION_MAJOR, GST_VERSION_MINOR, dsdarc, "decimates DSDIFF and DSF files", init, "0.2.0", "MIT/X11",
                   "dsdarc", ORIGIN)

@@ -7,14 +7,14 @@ import os
 import re
 import struct
 import unicodedata
+from collections.abc import Iterator
+from typing import Any, BinaryIO
 
-import channels
-import explained
-import outputs
-import room
-from outputs import Refused, shown_name
-from program import PROGRAM, finished
-from project_texts import MOST_CUES, MOST_TAKES
+from dsdarc_scripts import channels, explained, outputs, room
+from dsdarc_scripts.explained import shown_name
+from dsdarc_scripts.outputs import Refused
+from dsdarc_scripts.program import PROGRAM, finished
+from dsdarc_scripts.project_texts import MOST_CUES, MOST_TAKES
 
 ENDINGS = {"dsdiff": ".dff", "dsf": ".dsf", "dsf8": ".dsf"}
 START = 0  # the type of a mark at which a track starts
@@ -49,7 +49,7 @@ class Track:
     stop: int = 0
 
 
-def asked(what, name, *words, folder=None):
+def asked(what: str, name: str, *words: str, folder: str | None = None) -> str:
     """What the program prints; a fault is one of that file, and is explained in the same line."""
     program = os.path.abspath(PROGRAM) if "/" in PROGRAM else PROGRAM
     try:
@@ -64,7 +64,7 @@ def asked(what, name, *words, folder=None):
     return out.decode()
 
 
-def recording(what, name):
+def recording(what: str, name: str) -> Recording:
     """What a file holds; it may have any name."""
     if not os.path.isfile(name):
         os.stat(name)
@@ -79,7 +79,7 @@ def recording(what, name):
 # Where tracks begin.
 
 
-def text_of(data):
+def text_of(data: bytes) -> str:
     """A text that says nothing of its encoding."""
     try:
         return data.decode("utf-8-sig")
@@ -87,7 +87,7 @@ def text_of(data):
         return data.decode("cp1252", errors="replace")
 
 
-def form_chunks(file):
+def form_chunks(file: BinaryIO) -> Iterator[tuple[bytes, int]]:
     """ID and size of each chunk of a DSDIFF form; the file stands at its data."""
     size = struct.unpack(">4sQ", channels.take(file, 12))[1]
     at, stop = 16, min(12 + size, os.fstat(file.fileno()).st_size)
@@ -98,7 +98,7 @@ def form_chunks(file):
         at += 12 + size + size % 2
 
 
-def starts_of(found):
+def starts_of(found: Recording) -> list[tuple[int, str]]:
     """Place and text of each mark of a DSDIFF file at which a track starts, in their order."""
     starts = []
     if found.form == "dsdiff":
@@ -113,7 +113,7 @@ def starts_of(found):
     return sorted(it for it in starts if 0 <= it[0] < found.samples)
 
 
-def marked(found):
+def marked(found: Recording) -> list[Track]:
     """The tracks of an album by its marks, without their ends."""
     starts = starts_of(found)
     if not starts:
@@ -121,11 +121,11 @@ def marked(found):
     return [Track(number, title, place) for number, (place, title) in enumerate(starts, 1)]
 
 
-def unquoted(text):
+def unquoted(text: str) -> str:
     return text[1:-1] if len(text) > 1 and text[0] == text[-1] == '"' else text
 
 
-def indexed(name, line, number, track, rest):
+def indexed(name: str, line: str, number: int, track: dict[str, Any] | None, rest: str) -> None:
     """Takes a line INDEX into a track, if it is that of its start."""
     parts = INDEX.fullmatch(rest)
     if track is None or parts is None:
@@ -134,11 +134,11 @@ def indexed(name, line, number, track, rest):
         track["at"] = (int(parts[2]) * 60 + int(parts[3])) * FRAMES + int(parts[4])
 
 
-def sheet(name):
+def sheet(name: str) -> list[dict[str, Any]]:
     """Number, title and start (in 75ths of a second) of each track of a cue sheet."""
     with open(name, "rb") as file:
         lines = text_of(file.read()).splitlines()
-    tracks, files = [], 0
+    tracks, files = list[Any](), 0
     for number, line in enumerate(lines, 1):
         word, _, rest = line.strip().partition(" ")
         word, rest, last = word.upper(), rest.strip(), tracks[-1] if tracks else None
@@ -162,12 +162,12 @@ def sheet(name):
     return tracks
 
 
-def cued(found, name):
+def cued(found: Recording, name: str) -> list[Track]:
     """The tracks of an album by a cue sheet, without their ends."""
     return [Track(it["number"], it["title"], (it["at"] * found.rate + FRAMES // 2) // FRAMES) for it in sheet(name)]
 
 
-def in_bytes(tracks, found):
+def in_bytes(tracks: list[Track], found: Recording) -> Iterator[str]:
     """Lets tracks begin at whole bytes, as DSDIFF files hold them: a line for each that begins earlier for that."""
     if found.samples % 8:
         raise Refused(
@@ -182,7 +182,7 @@ def in_bytes(tracks, found):
             yield f"track {track.number} starts {bits} earlier, at bit {track.start}: DSDIFF holds whole bytes"
 
 
-def whole(tracks, found):
+def whole(tracks: list[Track], found: Recording) -> list[Track]:
     """Tracks with their ends: each goes on to the next, and what comes before the first is a part of its own."""
     if tracks[0].start > 0:
         tracks = [Track(0, None, 0), *tracks]
@@ -197,28 +197,28 @@ def whole(tracks, found):
 # Names.
 
 
-def shortened(text, most):
+def shortened(text: str, most: int) -> str:
     """As much of a text as a number of bytes holds, cut between two letters."""
     return text.encode(errors="replace")[:most].decode(errors="ignore")
 
 
-def is_control(letter):
+def is_control(letter: str) -> bool:
     return unicodedata.category(letter) in ("Cc", "Cs", "Zl", "Zp")
 
 
-def digits_for(tracks):
+def digits_for(tracks: list[Track]) -> int:
     """How many digits the numbers of tracks have in names."""
     return 3 if tracks[-1].number > 99 else 2
 
 
-def file_name(track, ending, digits=2):
+def file_name(track: Track, ending: str, digits: int = 2) -> str:
     """A name that every system takes: the number, and of the title what is no place, no blank at an end and not long."""
     title = "".join("_" if is_control(it) else it for it in UNSAFE.sub("_", track.title or ""))
     title = shortened(title.strip(" "), MOST_NAME).rstrip(" .")
     return f"{track.number:0{digits}}{' - ' if title else ''}{title}{ending}"
 
 
-def named(name):
+def named(name: str) -> tuple[int | None, str]:
     """Number and title that a file's name says."""
     stem = os.fsencode(os.path.splitext(os.path.basename(name))[0]).decode(errors="replace")
     parts = NUMBERED.fullmatch(stem)
@@ -228,12 +228,12 @@ def named(name):
 # Masters.
 
 
-def quoted(text):
+def quoted(text: str) -> str:
     """A text as TOML has it; JSON spells all but one letter so."""
     return json.dumps(text, ensure_ascii=False).replace("\x7f", "\\u007f")
 
 
-def cue(take, track):
+def cue(take: int, track: Track) -> str:
     """A cue of a project, with the title of a track."""
     lines = ["", "[[splice.cue]]", f"take = {take}", f"start = {track.start}", f"stop = {track.stop}"]
     if track.title is not None:
@@ -241,14 +241,14 @@ def cue(take, track):
     return "\n".join(lines) + "\n"
 
 
-def project(count, parts):
+def project(count: int, parts: list[tuple[int, Track]]) -> str:
     """A project of plain cuts: of each part the number of its take and the track."""
     takes = ", ".join(f'"take{number}"' for number in range(count))
     return f"[splice]\nweights = [1, 1]\ntakes = [{takes}]\n" + "".join(cue(take, track) for take, track in parts)
 
 
 @contextlib.contextmanager
-def leaving_nothing(made):
+def leaving_nothing(made: str) -> Iterator[None]:
     """Where a block ends early, removes what the program was writing beside a file."""
     try:
         yield
@@ -261,7 +261,7 @@ def leaving_nothing(made):
         raise
 
 
-def make(form, takes, parts, what, made):
+def make(form: str, takes: list[str], parts: list[tuple[int, Track]], what: tuple[str, str], made: str) -> None:
     """Has the program cut a master and judge it: `takes` are names, `parts` pairs of a take's number and a track.
     `made` is a file beside which the master is written, and which it replaces."""
     assert len(takes) <= MOST_TAKES and len(parts) <= MOST_CUES

@@ -3,13 +3,17 @@
 Bits can't change whether their sum is odd or even. The sound of a crossfade can: if its middle moves, the sum of the
 sound changes by the difference of both takes for each bit that it moves."""
 from collections.abc import Callable
-from dataclasses import dataclass
+from dataclasses import dataclass, replace
+from typing import TypeVar
 
 import numpy as np
 
-import filters
-from bands import BANDS
-from hearing import lowpass
+from cuts import hearing
+from cuts.errors import sounds
+from cuts.hearing import BANDS, decibels, hearing_of, lowpass
+from cuts.takes import Signals
+
+Numbers = TypeVar("Numbers", float, np.ndarray)
 
 SPLIT = BANDS[0]  # Hz: what this low-pass passes may change faster than what is above
 STEPS = 3  # by which a middle between two bits is found
@@ -66,10 +70,10 @@ def above(rate: int, sound: Callable[[int, int], np.ndarray], first: int, stop: 
     taps = lowpass(rate, *SPLIT)
     reach = len(taps) // 2
     wide = sound(first - reach, stop + reach)
-    return wide[:, reach : wide.shape[1] - reach] - filters.convolved(wide, taps)
+    return wide[:, reach : wide.shape[1] - reach] - hearing.convolved(wide, taps)
 
 
-def wrapped(numbers: np.ndarray) -> np.ndarray:
+def wrapped(numbers: Numbers) -> Numbers:
     """Numbers less the nearest even ones."""
     return numbers - 2 * np.rint(numbers / 2)
 
@@ -92,11 +96,12 @@ class Sounds:
         return self.of_each(lambda rows: rows[..., first:stop])
 
     def of_each(self, change: Callable[[np.ndarray], np.ndarray]) -> "Sounds":
-        return Sounds(change(self.before), change(self.after), self.above and tuple(map(change, self.above)))
+        above = self.above and (change(self.above[0]), change(self.above[1]))
+        return Sounds(change(self.before), change(self.after), above)
 
     def layers(self, crossfade: Crossfade) -> list[tuple[float, np.ndarray, np.ndarray]]:
         """What goes over by itself: within how many bits, and from what to what."""
-        if not crossfade.slow:
+        if not crossfade.slow or not self.above:
             return [(crossfade.ramp, self.before, self.after)]
         low, high = self.above
         return [(crossfade.ramp, self.before - low, self.after - high), (crossfade.slow, low, high)]
@@ -108,7 +113,7 @@ class Sounds:
             if crossfade.power:
                 low, high = shares(np.arange(-most, len(before) + most) + 0.5 - middle, ramp, True)
                 # Moved by `t` bits, a place `k` has the share of the place `k - t`: the last sum is the first moved.
-                found += sum(filters.convolved(*it)[::-1] for it in ((low, before[::-1]), (high, after[::-1])))
+                found += sum(hearing.convolved(*it)[::-1] for it in ((low, before[::-1]), (high, after[::-1])))
             else:
                 found += before.sum() + risen(after - before, ramp, middle + np.arange(-most, most + 1))
         return found
@@ -136,3 +141,53 @@ def even_middle(sounds: Sounds, crossfade: Crossfade, middle: float, most: int, 
     for _ in range(STEPS):
         found -= float(np.clip(wrapped(wanted - sounds.sum(crossfade, found)) / slope, -1, 1))
     return found, float(wrapped(wanted - sounds.sum(crossfade, found)))
+
+
+# Whether all of the sound may change at once in a butt, or only what is heard of it.
+#
+# What a take holds about the limit of its sound can't be told from the noise of its modulator (`hearing`). Whatever of
+# it is taken for the wrong one is heard as a click where it changes at once. So what of both takes is about there is
+# changed as fast at several places near the cut: what is heard of that is about what the butt will click.
+
+RAMP = 10e-6  # seconds in which the sound of a butt changes
+NEAR = 1_000  # Hz to each side of a limit, about which nothing is told apart
+ABOVE = 5_000  # Hz above a limit, where takes may hold sound
+LOUDER = 4.0  # dB: what clicks more than what is there
+PLACES = 16  # around the cut
+APART = 50e-6  # seconds between two of them
+QUIET = -115.0  # dB to full scale: what is heard of it at most, on the average
+
+
+def around(take: Signals, first: int, stop: int, ends: tuple[int, int]) -> np.ndarray:
+    """What of a take is between two frequencies (Hz), both told from the limits of its sound: a row for each channel."""
+    low, high = (sounds(take, first, stop, [(one + more, two + more) for one, two in take.bands]) for more in ends)
+    return high - low
+
+
+def heard(
+    takes: tuple[Signals, Signals], places: tuple[int, int], crossfade: Crossfade, ends: tuple[int, int]
+) -> float:
+    """How loud the loudest channel is heard (dB), if what is between two frequencies about the limits changes around a
+    place of each take as a crossfade says, whose middle is moved there."""
+    hearing, rate = hearing_of(takes[0].rate), takes[0].rate
+    size, apart, peaks = hearing.size, round(APART * rate), []
+    reach = (size + PLACES * apart) // 2
+    before, after = (around(take, it - reach, it + reach, ends) for take, it in zip(takes, places))
+    both = Sounds(before, after)
+    moved = replace(crossfade, middles=[size / 2] * takes[0].count)
+    for first in range(0, PLACES * apart, apart):
+        error = moved.mixed(both.part(first, first + size))
+        peaks.append([np.abs(hearing.click(it)).max() for it in error])
+    return decibels(float(np.sqrt(np.mean(np.square(peaks), axis=0)).max()))
+
+
+def is_whole(takes: tuple[Signals, Signals], places: tuple[int, int], power: bool) -> bool:
+    """Whether nothing is heard if all of the sound changes at once, from a place of one take to one of the other."""
+    at_once = Crossfade(RAMP * takes[0].rate, power, [])
+    return heard(takes, places, at_once, (-NEAR, NEAR)) <= QUIET
+
+
+def doubt(takes: tuple[Signals, Signals], places: tuple[int, int], power: bool, slow: float) -> float:
+    """How loud a butt may be (dB) that changes what is above the audio band within so many bits: what is above the
+    limits may be sound, which goes on in the takes."""
+    return heard(takes, places, Crossfade(slow, power, []), (0, ABOVE)) + LOUDER

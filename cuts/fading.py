@@ -16,16 +16,17 @@ from pathlib import Path
 
 import numpy as np
 
-import ramps
-from continuing import Modulated
-from crossfades import SETTLED as EVEN
-from crossfades import Crossfade, Sounds, above, even_middle, wrapped
-from hearing import hearing_of
-from modulation import modulators
-from meeting import LINK, Field
-from owing import sounds
-from spectra import let_in
-from takes import Signals
+from cuts import crossfades, masters, times
+from cuts.continuing import LINK, Field, Modulated
+from cuts.crossfades import Crossfade, Sounds, above, even_middle, wrapped
+from cuts.crossfades import SETTLED as EVEN
+from cuts.errors import sounds
+from cuts.hearing import hearing_of, let_in
+from cuts.projects import Project
+from cuts.seams import Seam
+from cuts.takes import Signals
+from dsdarc_scripts.outputs import Refused
+from modulator import modulators
 
 TRIED = 8  # modulators of each direction, twice as many where there are few places
 PLACES = 8_000  # around the middle at which both may meet
@@ -81,6 +82,7 @@ class Wish:
     def ramps(self, rate: int) -> list[tuple[float, int]]:
         """How long the ramps are that are tried, and how far the middle of each may move."""
         if self.is_butt:
+            assert self.ramp
             return [(self.ramp * rate, int(self.length * it)) for it in MOVES]
         return [(self.length * ramp, int(self.length * it)) for ramp, it in RAMPS]
 
@@ -116,7 +118,7 @@ def above_of(take: Signals, first: int, stop: int) -> np.ndarray:
 class Surroundings:
     """Both takes around a fade: their errors outside of it, let in from afar, and their sounds inside."""
 
-    def __init__(self, before: Signals, after: Signals, wish: Wish, reach: int):
+    def __init__(self, before: Signals, after: Signals, wish: Wish, reach: int) -> None:
         rate = before.rate
         self.wish, self.rate = wish, rate
         self.stop, self.start = wish.ends
@@ -140,8 +142,8 @@ class Surroundings:
         """Those of both takes in the fade."""
         first = self.wish.most + moved
         part = slice(first, first + self.wish.length)
-        both, high = ((it[0], it[1][:, part]) if it else None for it in (self.whole, self.above))
-        return Sounds(*both, high)
+        above = (self.above[0], self.above[1][:, part]) if self.above else None
+        return Sounds(self.whole[0], self.whole[1][:, part], above)
 
     def shared(self, moved: int) -> np.ndarray:
         """The signs that both takes have in the fade, a row for each channel: 0 in those in which they differ."""
@@ -183,7 +185,7 @@ class Plan:
 
     @property
     def worst(self) -> float:
-        return max(map(abs, self.missing))
+        return max(abs(it) for it in self.missing)
 
     @property
     def is_even(self) -> bool:
@@ -201,10 +203,10 @@ def ramped(takes: tuple[Signals, Signals], wish: Wish) -> Wish:
     if not wish.is_butt or wish.ramp is not None:
         return wish
     places = wish.stop, wish.start
-    if ramps.is_whole(takes, places, wish.power):
-        return replace(wish, ramp=ramps.RAMP)
-    doubt = ramps.doubt(takes, places, wish.power, MOST * wish.length)
-    return replace(wish, ramp=ramps.RAMP, is_split=True, doubt=doubt)
+    if crossfades.is_whole(takes, places, wish.power):
+        return replace(wish, ramp=crossfades.RAMP)
+    doubt = crossfades.doubt(takes, places, wish.power, MOST * wish.length)
+    return replace(wish, ramp=crossfades.RAMP, is_split=True, doubt=doubt)
 
 
 def planned(before: Signals, after: Signals, wish: Wish) -> Plan:
@@ -264,7 +266,7 @@ def kinds_for(rate: int) -> list[modulators.Modulator]:
     return [usual, *(modulators.Modulator(order, gain, usual.dither) for order, gain in dict.fromkeys(louder))]
 
 
-def made(program: Path, plan: Plan, seed: int) -> Fade:
+def made_by(program: Path, plan: Plan, seed: int) -> Fade:
     """The fade of a plan."""
     around, wish = plan.around, plan.around.wish
     later, bump, rows = around.after(plan.moved), bumps(wish.length)[0], []
@@ -302,3 +304,126 @@ def stable(program: Path, rate: int, known: tuple, seed: int) -> Joint:
         except modulators.Unstable:
             continue
     raise NotStable("no modulator is stable for the sound of this fade: it is too loud")
+
+
+# Fades and butts of the cuts of a project.
+
+SHORTEST = 0.5e-3  # seconds: in less, what leads up to a take doesn't come apart from what goes on
+LONGER = (2, 4, 8, 16)  # times as long: what is tried if takes are too alike
+LONGEST = 0.04  # seconds
+LITTLE = 3e-6  # seconds that what follows may move before there is a bump
+
+
+@dataclass(frozen=True)
+class FadeAsked:
+    """What is asked for: the name of the take of seams; how long the new bits are, how far what follows may move, and
+    within what time a butt changes all of the sound, in seconds: at once what is heard of it if that is None."""
+
+    take: str = ""
+    time: float = 10e-3
+    shift: float = 0.0
+    power: bool = False
+    is_butt: bool = False
+    ramp: float | None = None
+
+
+def odd(bits: float) -> int:
+    """The odd number of bits that is nearest to one."""
+    return round(bits) // 2 * 2 + 1
+
+
+def wish_of(project: Project, cut: int, asked: FadeAsked) -> Wish:
+    """The fade that is asked for at the plain cut after a cue."""
+    stop, start = project.cues[cut]["stop"], project.cues[cut + 1]["start"]
+    length, most = odd(asked.time * project.rate), round(asked.shift * project.rate)
+    wish = Wish(stop, start, length, most, asked.power, asked.is_butt, asked.ramp)
+    demand_room(project, cut, wish)
+    return ramped((project.take(cut), project.take(cut + 1)), wish)
+
+
+def demand_room(project: Project, cut: int, wish: Wish) -> None:
+    """Refuses a fade for which there is no room in both cues and both takes, and says how long one may be."""
+    cue, following = project.cues[cut], project.cues[cut + 1]
+    # How many bits of the fade may lie before the cut. One more lies after it.
+    rooms = (
+        (wish.stop - cue["start"] - project.least(cut), short(project, cut)),
+        (following["stop"] - project.least(cut + 1) - wish.start - wish.most - 1, short(project, cut + 1)),
+        (project.span(cut)[1] - wish.stop - 1, f"take {cue['take']} ends too soon after the cut"),
+        (wish.start - wish.most - project.span(cut + 1)[0], f"take {following['take']} starts too late before the cut"),
+    )
+    room, why = min(rooms, key=lambda it: it[0])
+    if wish.early > room:
+        most = 2 * room + 1
+        is_long = most >= odd(SHORTEST * project.rate)
+        longest_time = f"the longest --time is {times.longest(most, project.rate)}" if is_long else "no --time fits"
+        raise Refused(f"{why} for a fade of {times.lasting(wish.length, project.rate)}: {longest_time}")
+
+
+def short(project: Project, cue: int) -> str:
+    """That a cue, by its number in the text that was read, is too short, and how long it is."""
+    bits = project.cues[cue]["stop"] - project.cues[cue]["start"]
+    return f"cue {project.origins[cue]} is too short, with {bits} bits ({times.lasting(bits, project.rate)}),"
+
+
+def longest(project: Project, cut: int) -> int:
+    """How many bits a fade may have that is longer than asked for. Half of a cue is left to the cut at its other end,
+    if that isn't made yet."""
+    roles, rooms = project.roles(), []
+    for number, other in ((cut, cut - 1), (cut + 1, cut + 2)):
+        room = project.cues[number]["stop"] - project.cues[number]["start"] - project.least(number)
+        rooms.append(room // 2 if 0 <= other < len(roles) and roles[other] == "cue" else room)
+    return min(2 * min(rooms) - 1, odd(LONGEST * project.rate))
+
+
+def longer(project: Project, cut: int, wish: Wish, time: float) -> list[Wish]:
+    """The fade that is wished and longer ones, then the same if what follows may move by a little, and at last the
+    longest there is room for."""
+    most, little = longest(project, cut), max(round(LITTLE * project.rate), wish.most)
+    lengths = [it for it in (odd(time * more * project.rate) for more in LONGER) if it <= most]
+    found = [wish, *(replace(wish, length=it) for it in lengths)]
+    found += [replace(it, most=little) for it in found]
+    if most > found[-1].length:
+        found += [replace(wish, length=most), replace(wish, length=most, most=little)]
+    return list(dict.fromkeys(found))
+
+
+def plan_of(project: Project, cut: int, asked: FadeAsked) -> Plan:
+    """The first plan of a fade without a bump, or the one with the smallest bump: of the fade that is asked for, or of
+    others where that isn't enough."""
+    takes, plans, wished = (project.take(cut), project.take(cut + 1)), [], wish_of(project, cut, asked)
+    for wish in longer(project, cut, wished, asked.time):
+        try:
+            demand_room(project, cut, wish)
+        except Refused:
+            continue
+        plans.append(planned(*takes, wish))
+        if plans[-1].is_even:
+            return plans[-1]
+    return min(plans, key=lambda it: it.bump)
+
+
+def fade(project: Project, program: Path, number: int, asked: FadeAsked) -> Fade:
+    """Makes a seam of a cut, in the place of a bridge that fades, a link or a seam that it had. If it clicked louder then
+    it is refused."""
+    spot = project.spots()[number]
+
+    def plain() -> None:
+        project.leave_out_between(spot)
+        project.leave_out_shift(spot.before + 1)
+
+    with project.undone(), masters.no_louder(project, number, plain):
+        project.leave_out_bridge(spot.before)
+        stop, start = project.cues[spot.before]["stop"], project.cues[spot.before + 1]["start"]
+        try:
+            made = made_by(program, plan_of(project, spot.before, asked), 1000 * number + 1)
+        except NotStable as error:
+            raise Refused(str(error)) from None
+        project.move(spot.before, made.stop, made.start)
+        kind, crossfade = "butt" if asked.is_butt else "fade", made.crossfade
+        first, length = project.seams_as(asked.take).take.bits, made.signs.shape[1]
+        places = stop - made.stop, made.start - start
+        seam = Seam(
+            first, length, kind, *places, crossfade.ramp, crossfade.power, crossfade.middles, slow=crossfade.slow
+        )
+        project.insert_seam(spot.before, seam, made.signs)
+    return made

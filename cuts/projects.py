@@ -6,17 +6,16 @@ import tomllib
 from collections.abc import Callable, Iterator
 from dataclasses import dataclass
 from pathlib import Path
+from typing import Any
 
 import numpy as np
 import tomlkit
 
-import bands
-import titles
-from seams import Seam, Seams, seams_of
-from shifts import Region, Shift, Shifted, regions_of, shift_of, whole_bits
-from takes import Held, Signals, Take, Unread, unlike
-from outputs import Refused
-from project_texts import MOST_BITS, MOST_CUES, MOST_TAKES, Text, read, shown
+from cuts import hearing, titles
+from cuts.seams import Seam, Seams, seams_of
+from cuts.takes import Held, Region, Shift, Shifted, Signals, Take, Unread, regions_of, shift_of, unlike, whole_bits
+from dsdarc_scripts.outputs import Refused
+from dsdarc_scripts.project_texts import MOST_BITS, MOST_CUES, MOST_TAKES, Text, read, shown
 
 LINK = 1e-5  # seconds: a shorter cue between two plain cuts is a link, which has no sound of its own
 APART = 40e-3  # seconds at least between cues of one take whose channels are shifted otherwise
@@ -40,14 +39,14 @@ def hand_over(one: tomlkit.items.Item, other: tomlkit.items.Item) -> bool:
     if not isinstance(one, tomlkit.items.Table) or not isinstance(other, tomlkit.items.Table):
         return False
     for table in (other, one):
-        tail, body = [], table.value.body
+        tail, body = list[tuple[tomlkit.items.Key | None, tomlkit.items.Item]](), table.value.body
         while body and isinstance(body[-1][1], (tomlkit.items.Comment, tomlkit.items.Whitespace)):
             tail.insert(0, body.pop())
     other.value.body.extend(tail)
     return bool(tail)
 
 
-def update(cue: tomlkit.items.Item, new: dict) -> None:
+def update(cue: tomlkit.items.Table | tomlkit.items.InlineTable, new: dict) -> None:
     """Sets what is new in a cue."""
     for key in set(cue) - set(new):
         del cue[key]
@@ -56,7 +55,7 @@ def update(cue: tomlkit.items.Item, new: dict) -> None:
             cue[key] = value
 
 
-def insert_into(cues: tomlkit.items.Item, number: int, new: dict) -> None:
+def insert_into(cues: tomlkit.items.AoT | tomlkit.items.Array, number: int, new: dict) -> None:
     """Puts a new cue into an array of tables, or of inline ones."""
     cue = tomlkit.table() if isinstance(cues, tomlkit.items.AoT) else tomlkit.inline_table()
     cue.update(new)
@@ -95,7 +94,7 @@ def written(make: Callable[[], str], data: dict) -> str | None:
 class Project:
     """A project and its takes. Its cues are changed as plain tables; `origins` says which of the text each was."""
 
-    def __init__(self, path: Path):
+    def __init__(self, path: Path) -> None:
         self.source = read(path)
         if "splice" not in self.source.data:
             raise self.source.fault("NoSplice", (), "it has no table `splice`")
@@ -107,7 +106,7 @@ class Project:
         self.records = [seams_of(it) for it in self.takes]
         for take, record in zip(self.takes, self.records):
             if record:
-                take.bands = [bands.USUAL] * take.count
+                take.bands = [hearing.USUAL] * take.count
         self.shifts = [self.known_shift(it) for it in self.takes]
         for take, shift in zip(self.takes, self.shifts):
             if shift:
@@ -206,7 +205,7 @@ class Project:
         """The bits of its take that a cue, and the cuts at both of its ends, need: so many more before its start."""
         first, stop = self.cues[cue]["start"] - reach, self.cues[cue]["stop"]
         for spot in (it for it in self.spots() if cue in (it.before, it.after)):
-            seam = self.record(spot.before + 1) if spot.role == "seam" else None
+            seam = self.seam(spot.before + 1) if spot.role == "seam" else None
             links = [it for it in seam.links if it[0] == (spot.after == cue)] if seam else []
             first = min([first - spot.length * (spot.after == cue), *(it[1] for it in links)])
             stop = max([stop + spot.length * (spot.before == cue), *(it[1] + it[2] for it in links)])
@@ -234,7 +233,8 @@ class Project:
         """Makes a take whose channels are shifted, and lets a cue be of it."""
         shift = Shift(self.names[source], regions)
         take = Shifted(name(number), self.takes[source], shift)
-        for rows, new in ((self.takes, take), (self.records, {}), (self.shifts, shift), (self.names, take.name)):
+        row: tuple[Any, ...] = take, {}, shift, take.name
+        for rows, new in zip(self.lists(), row):
             rows[number : number + 1] = [new]
         self.cues[cue]["take"] = number
 
@@ -252,10 +252,20 @@ class Project:
         """Whether a cue lies between two plain cuts."""
         return 0 < cue < len(self.cues) - 1 and not self.bridge(cue - 1) and not self.bridge(cue)
 
+    def lists(self) -> list[list[Any]]:
+        """What is known of each take."""
+        return [self.takes, self.records, self.shifts, self.names]
+
     def record(self, cue: int) -> Seam | None:
         """The seam whose bits a cue holds."""
         one = self.cues[cue]
         return self.records[one["take"]].get((one["start"], one["stop"]))
+
+    def seam(self, cue: int) -> Seam:
+        """The same of a cue that holds bits of one."""
+        found = self.record(cue)
+        assert found
+        return found
 
     def roles(self) -> list[str]:
         """What each cue is: "cue", "link" or "seam". The first half of a link replaces bits of the cue before, and the
@@ -297,9 +307,9 @@ class Project:
         """After a fault in a block the cues and the takes are as before. It is one too if a cue has become so short
         that it would be taken for a link."""
         cues, origins, cuts = copy.deepcopy(self.cues), list(self.origins), len(self.spots())
-        takes = [list(it) for it in (self.takes, self.records, self.shifts, self.names)]
+        takes = [list(it) for it in self.lists()]
         seams = self.seams
-        held = seams.state() if seams else None
+        held = seams.state() if seams else ()
         try:
             yield
             if len(self.spots()) != cuts:
@@ -323,7 +333,7 @@ class Project:
         """Makes a plain cut of one that has a link, in the middle of it, or a seam, at the place that was wished."""
         if spot.after - spot.before == 1:
             return
-        seam = self.record(spot.before + 1) if spot.role == "seam" else None
+        seam = self.seam(spot.before + 1) if spot.role == "seam" else None
         early, late = (seam.before, seam.after) if seam else (spot.length // 2, spot.length - spot.length // 2)
         stop, start = self.cues[spot.before]["stop"] + early, self.cues[spot.after]["start"] - late
         if stop > self.span(spot.before)[1] or start < self.span(spot.after)[0]:
@@ -369,14 +379,9 @@ class Project:
             self.demand_room(1, 0)
             old = self.takes[slot] if slot < len(self.takes) else Held(name, self.rate, np.empty((self.count, 0)))
             self.seams = Seams(name, old, self.records[slot] if slot < len(self.takes) else {})
-            rows = (
-                (self.takes, self.seams.take),
-                (self.records, self.seams.seams),
-                (self.shifts, None),
-                (self.names, name),
-            )
-            for row, new in rows:
-                row[slot : slot + 1] = [new]
+            row: tuple[Any, ...] = self.seams.take, self.seams.seams, None, name
+            for rows, new in zip(self.lists(), row):
+                rows[slot : slot + 1] = [new]
         return self.seams
 
     def insert_seam(self, cut: int, seam: Seam, signs: np.ndarray) -> None:
@@ -386,13 +391,15 @@ class Project:
         self.demand_room(0, 1 + ("title" in following))
         self.insert(cut, self.slot, seam.first, seam.first + seam.length)
         titles.move_into(self.cues[cut + 1], following, seam.first + seam.before, self.shortest)
+        assert self.seams
         self.seams.add(seam, signs)
 
     def seam_file(self) -> bytes:
         """The file of the take of seams."""
         roles = enumerate(self.roles())
         held = [it for it, role in roles if role == "seam" and self.cues[it]["take"] == self.slot]
-        return self.seams.stored([self.record(it) for it in held])
+        assert self.seams
+        return self.seams.stored([self.seam(it) for it in held])
 
     def insert(self, cut: int, take: int, start: int, stop: int) -> None:
         """Puts a cue behind another."""
@@ -427,7 +434,7 @@ class Project:
 
     def changed(self) -> str:
         """The text with what was changed, by tomlkit."""
-        document = tomlkit.parse(self.source.text)
+        document: Any = tomlkit.parse(self.source.text)
         takes, cues, rows = document["splice"]["takes"], document["splice"]["cue"], self.rows
         for number, name in enumerate(self.names):
             if number == len(takes):

@@ -13,12 +13,13 @@ import re
 import tomllib
 from collections.abc import Iterator
 from dataclasses import asdict, dataclass, field, replace
+from typing import Any
 
 import numpy as np
 import tomlkit
 
-from crossfades import Crossfade
-from takes import Held, Signals, Take
+from cuts.crossfades import Crossfade
+from cuts.takes import Held, Signals, Take
 
 HEAD = b"# What the cues of this take are, for dsdarc's cuts/\n"
 KINDS = ("fade", "butt", "transition")
@@ -109,17 +110,18 @@ def is_seam(row: object, count: int) -> bool:
     )
 
 
-def is_link(values: object) -> bool:
+def is_link(values: Any) -> bool:
     return are_numbers(values, (int,)) and len(values) in (3, 4) and values[0] in (0, 1) and min(values) >= 0
 
 
 def seam_of(row: dict) -> Seam:
     """The seam that a row says. A link without a middle of its own has that of its channel."""
     links = [[*it, *([int(middle)] if len(it) == 3 else [])] for it, middle in zip(row["links"], row["middles"])]
-    return Seam(**{**row, "links": links})
+    named: dict[str, Any] = {**row, "links": links}
+    return Seam(**named)
 
 
-def told_of(take: Signals) -> Iterator[object]:
+def told_of(take: Signals) -> Iterator[Any]:
     """What a take says of each of its seams; nothing for a comment that can't be read."""
     for comment in take.comments() if isinstance(take, Take) else ():
         if comment.startswith(HEAD):
@@ -144,7 +146,7 @@ def is_unread(take: Signals) -> bool:
 class Seams:
     """The take of seams as it is made: the seams that a project has, and those that are added."""
 
-    def __init__(self, name: str, old: Signals, seams: dict[tuple[int, int], Seam]):
+    def __init__(self, name: str, old: Signals, seams: dict[tuple[int, int], Seam]) -> None:
         self.take = Held(name, old.rate, old.stored(0, old.bits).astype(np.uint8))
         self.seams = dict(seams)
 

@@ -11,12 +11,12 @@ from pathlib import Path
 
 os.environ.setdefault("OMP_NUM_THREADS", "1")
 
-sys.path.insert(0, str(Path(__file__).resolve().parent.parent / "scripts/common"))
-import outputs  # noqa: E402
+sys.path.insert(0, str(Path(__file__).resolve().parents[1]))
+from dsdarc_scripts import outputs
 
 outputs.begin()
-import numpy as np  # noqa: E402
-from scipy import signal  # noqa: E402
+import numpy as np
+from scipy import signal
 
 MOST_TAPS = 4095  # odd, so that one tap is the middle; a project has room for 4096
 MOST_SUM = 2**30  # of the taps' absolute values

@@ -14,14 +14,15 @@ from pathlib import Path
 
 os.environ.setdefault("OMP_NUM_THREADS", "1")
 
-sys.path.insert(0, str(Path(__file__).resolve().parent.parent / "scripts/common"))
-import outputs  # noqa: E402
+sys.path.insert(0, str(Path(__file__).resolve().parents[1]))
+from dsdarc_scripts import outputs
 
 outputs.begin()
-import numpy as np  # noqa: E402
+import numpy as np
 
-import project_texts  # noqa: E402
-from outputs import Refused, shown_name  # noqa: E402
+from dsdarc_scripts import project_texts
+from dsdarc_scripts.explained import shown_name
+from dsdarc_scripts.outputs import Refused
 
 POINTS = 2**20  # of the Fourier transform: 256 for each tap or more
 LOWEST = 1e-12  # below this, magnitudes are drawn and printed as this

@@ -17,19 +17,18 @@ from pathlib import Path
 os.environ.setdefault("OMP_NUM_THREADS", "1")
 
 FOLDER = Path(__file__).resolve().parent
-sys.path[:0] = [str(FOLDER.parent / name) for name in ("scripts/common", "modulator")]
-import outputs  # noqa: E402
+sys.path.insert(0, str(Path(__file__).resolve().parents[1]))
+from dsdarc_scripts import outputs
 
 outputs.begin()
-import numpy as np  # noqa: E402
-from scipy import signal  # noqa: E402
+import numpy as np
+from scipy import signal
 
-import modulators  # noqa: E402
-import project_texts  # noqa: E402
-import waves  # noqa: E402
-from dsdiffs import dsdiff  # noqa: E402
-from outputs import Refused  # noqa: E402
-from program import PROGRAM, must  # noqa: E402
+from dsdarc_scripts import project_texts, waves
+from dsdarc_scripts.dsdiffs import dsdiff
+from dsdarc_scripts.outputs import Refused
+from dsdarc_scripts.program import PROGRAM, must
+from modulator import modulators
 
 HERTZ = 1000
 DECIBELS = -6.0
@@ -136,7 +135,18 @@ def play(program: str, project: Path, tone: Path, out: Path) -> None:
 
 
 def decode(tone: Path, out: Path, rate: int, width: int, options: str) -> None:
-    words = ["ffmpeg", "-v", "error", "-y", "-threads", "1", "-i", tone, "-af", f"aresample={rate}{options}"]
+    words: list[str | Path] = [
+        "ffmpeg",
+        "-v",
+        "error",
+        "-y",
+        "-threads",
+        "1",
+        "-i",
+        tone,
+        "-af",
+        f"aresample={rate}{options}",
+    ]
     must(*words, "-c:a", f"pcm_s{width}le", out)
 
 

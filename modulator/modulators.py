@@ -2,17 +2,17 @@
 import os
 import signal
 import subprocess
-import sys
 from dataclasses import dataclass
 from functools import lru_cache
 from pathlib import Path
+from typing import Any
 
 import numpy as np
 from numpy.polynomial import legendre
 
+from dsdarc_scripts.outputs import Refused
+
 FOLDER = Path(__file__).resolve().parent
-sys.path.insert(0, str(FOLDER.parent / "scripts/common"))
-from outputs import Refused  # noqa: E402
 
 AUDIO = 20_000  # Hz: the zeros of the noise transfer lie below
 SEED = 88172645463325252
@@ -96,8 +96,12 @@ def compiled(folder: Path) -> Path:
     """The modulator's program, made in a folder, in which the compiler has its own files too."""
     program = folder / "modulate"
     compiler = os.environ.get("CC", "cc")
-    words = [compiler, "-O1", "-o", program, FOLDER / "modulate.c", "-lm"]
-    how = {"stdout": subprocess.DEVNULL, "stderr": subprocess.PIPE, "env": os.environ | {"TMPDIR": str(folder)}}
+    words: list[str | Path] = [compiler, "-O1", "-o", program, FOLDER / "modulate.c", "-lm"]
+    how: dict[str, Any] = {
+        "stdout": subprocess.DEVNULL,
+        "stderr": subprocess.PIPE,
+        "env": os.environ | {"TMPDIR": str(folder)},
+    }
     try:
         running = subprocess.Popen(words, start_new_session=True, **how)
     except (OSError, ValueError) as error:
@@ -119,7 +123,7 @@ def run(program: Path, modulator: Modulator, rate: int, words: list, samples: by
     and by what step of the seed, or a sine."""
     zeros, poles = noise_transfer(modulator, rate)
     numbers = [*(repr(float(it)) for it in [*poles[1:], *zeros[1:]]), str(modulator.dither)]
-    line = [program, str(modulator.order), *numbers, *(str(it) for it in words)]
+    line: list[str | Path] = [program, str(modulator.order), *numbers, *(str(it) for it in words)]
     done = subprocess.run(line, input=samples, capture_output=True, check=False)
     if done.returncode:
         raise Refused(f"the modulator ended with status {done.returncode}")

@@ -7,9 +7,7 @@ import os
 import stat
 from collections.abc import Iterable
 
-import names
-import room
-import walks
+from dsdarc_scripts import names, room, walks
 
 FOLDER, LIST, LEFT = "beside", "beside.json", "not_kept.tsv"
 # What shows that a copy is still that of its source. Snakemake removes the lists before it has them made anew.
@@ -66,7 +64,7 @@ def cached() -> dict:
 
 def keep_all(files: Iterable[str], whys: dict[str, str], most_mb: int) -> None:
     """Copies all that is kept of these files, and writes both lists; `whys` says of some what is wrong with them."""
-    before, copies, left, taken = cached(), {}, [], set()
+    before, copies, left, taken = cached(), {}, [], set[tuple[int, int]]()
     try:
         for name in sorted(files):
             try:

@@ -3,13 +3,11 @@ import dataclasses
 import functools
 import os
 import struct
-import sys
 import tomllib
+from typing import Any
 
-import outputs
-
-sys.path.insert(0, os.path.join(os.path.dirname(os.path.dirname(os.path.realpath(__file__))), "cuts"))
-import albums  # noqa: E402
+from cuts import albums
+from dsdarc_scripts import outputs
 
 # What a chunk of a DSDIFF form has that isn't whole, or a file that ends too early.
 BROKEN = (outputs.Refused, struct.error, OSError)
@@ -28,11 +26,11 @@ class Job:
     stop: int | None = None
 
     @property
-    def name(self):
+    def name(self) -> str:
         return self.source if self.track is None else f"{self.source}, track {self.track}"
 
 
-def has_marks(path):
+def has_marks(path: str) -> bool:
     """Whether a file may have marks, without the program."""
     try:
         with open(path, "rb") as file:
@@ -43,13 +41,13 @@ def has_marks(path):
         return False
 
 
-def sheet_of(path):
+def sheet_of(path: str) -> str | None:
     """The cue sheet beside a file, or None."""
     front = os.path.splitext(path)[0]
     return next((it for it in (f"{front}.cue", f"{front}.CUE") if os.path.isfile(it)), None)
 
 
-def playable(tracks, found):
+def playable(tracks: list[albums.Track], found: albums.Recording) -> list[albums.Track]:
     """Tracks of an album with their ends. What comes before the first one is played with it if it is shorter than a
     millisecond, as it may have no frame."""
     tracks = albums.whole(tracks, found)
@@ -59,7 +57,7 @@ def playable(tracks, found):
     return tracks
 
 
-def tracks_of(path):
+def tracks_of(path: str) -> list[albums.Track]:
     """The tracks of a file by its marks, else by the cue sheet beside it; none where it has neither, or is refused."""
     sheet = sheet_of(path)
     if sheet is None and not has_marks(path):
@@ -73,12 +71,12 @@ def tracks_of(path):
     return playable(albums.cued(found, sheet), found) if sheet else []
 
 
-def whole(entry):
+def whole(entry: dict[str, Any]) -> Job:
     """The job that plays a file whole."""
     return Job(entry["name"], (entry["renamed"] or entry["name"]) + ".wav")
 
 
-def of_tracks(entry, tracks):
+def of_tracks(entry: dict[str, Any], tracks: list[albums.Track]) -> dict[int, Job]:
     """The jobs that play the tracks of an album, by the numbers of these."""
     folder, digits = entry["renamed"] or entry["name"], albums.digits_for(tracks)
     stops = [*(track.start for track in tracks[1:]), None]
@@ -94,10 +92,10 @@ def of_tracks(entry, tracks):
     }
 
 
-def by_tracks(archive, files):
+def by_tracks(archive: str, files: dict[str, dict[str, Any]]) -> tuple[dict[str, Job], list[tuple[str, str]]]:
     """The jobs of an archive whose albums are played by tracks, by their keys, and the names of albums whose tracks
     can't be told, with the reason."""
-    jobs, refused = {}, []
+    jobs, refused = dict[str, Job](), []
     for key, entry in files.items():
         try:
             tracks = tracks_of(os.path.join(archive, entry["name"]))
@@ -112,13 +110,13 @@ def by_tracks(archive, files):
 
 
 @functools.lru_cache
-def factor_of(path):
+def factor_of(path: str) -> int:
     """How many bits of a file make a frame, by a filter."""
     with open(path, "rb") as file:
         return tomllib.load(file)["decimate"]["factor"]
 
 
-def words_of(job, filter_path):
+def words_of(job: Job, filter_path: str) -> str:
     """The words by which the program plays just what a job says. A track's first frame is the last that begins at its
     mark or before it, as `play --from '#3'` has it."""
     places = [("--from", job.start or None), ("--to", job.stop)]

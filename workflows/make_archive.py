@@ -6,20 +6,21 @@ that is refused, two of a rate that the usual filters don't have, and two end in
 """
 import os
 import sys
+from collections.abc import Iterator
 
-sys.path.insert(0, os.path.join(os.path.dirname(os.path.dirname(os.path.realpath(__file__))), "scripts/common"))
-import outputs  # noqa: E402
+sys.path.insert(0, os.path.dirname(os.path.dirname(os.path.realpath(__file__))))
+from dsdarc_scripts import outputs
 
 outputs.begin()
-import argparse  # noqa: E402
-import contextlib  # noqa: E402
-import random  # noqa: E402
-import struct  # noqa: E402
-import subprocess  # noqa: E402
+import argparse
+import contextlib
+import random
+import struct
+import subprocess
 
-import room  # noqa: E402
-from dsdiffs import chunk, dsdiff, mark  # noqa: E402
-from program import PROGRAM  # noqa: E402
+from dsdarc_scripts import room
+from dsdarc_scripts.dsdiffs import chunk, dsdiff, mark
+from dsdarc_scripts.program import PROGRAM
 
 RATES = [2_822_400, 2_822_400, 5_644_800, 3_072_000, 11_289_600, 6_144_000]
 NAMES = [
@@ -33,7 +34,7 @@ NAMES = [
 
 
 @contextlib.contextmanager
-def part_of(name, data):
+def part_of(name: str, data: bytes) -> Iterator[str]:
     """A file of the data beside a name, while it is needed."""
     part = name + ".part"
     os.makedirs(os.path.dirname(name), exist_ok=True)
@@ -49,13 +50,13 @@ def part_of(name, data):
             os.remove(part)
 
 
-def write(name, data):
+def write(name: str, data: bytes) -> None:
     """Writes a file, whole or not at all."""
     with part_of(name, data) as part:
         os.replace(part, name)
 
 
-def write_dsf(name, form, data):
+def write_dsf(name: str, form: str, data: bytes) -> None:
     """Writes the DSF file of a DSDIFF file's data."""
     with part_of(name, data) as part:
         try:
@@ -68,7 +69,7 @@ def write_dsf(name, form, data):
             raise outputs.Refused(f"{line or f'status {done.returncode}'}: {outputs.shown_name(name)}")
 
 
-def good(folder, number, chance):
+def good(folder: str, number: int, chance: random.Random) -> None:
     """A whole file: its form, rate, channels and length go by its number."""
     rate = RATES[number % len(RATES)]
     channels = [2, 2, 1, 6, 5, 2, 3, 4][number % 8]
@@ -83,11 +84,11 @@ def good(folder, number, chance):
         write(name, data)
 
 
-def patched(data, at, new):
+def patched(data: bytes, at: int, new: bytes) -> bytes:
     return data[:at] + new + data[at + len(new) :]
 
 
-def broken(folder, chance):
+def broken(folder: str, chance: random.Random) -> None:
     """Files that are refused, each for its own reason."""
     stereo = chance.randbytes(40_000)
     whole = dsdiff(2_822_400, 2, stereo)
@@ -119,7 +120,7 @@ def broken(folder, chance):
         write(os.path.join(folder, "odd", name), dsdiff(rate, 2, stereo))
 
 
-def main():
+def main() -> int:
     parser = argparse.ArgumentParser(description=__doc__.partition(": ")[0] + ".")
     parser.add_argument("folder", help="the folder to make, or to add to")
     folder, chance = parser.parse_args().folder, random.Random(1)

@@ -1,13 +1,15 @@
 """Measures WAVE files of linear PCM, piece by piece: peak, clipped samples, offset, silence at both ends, the course of
 the level, and the spectrum. Levels are in dB relative to full scale."""
 import dataclasses
+from collections.abc import Callable
+from typing import Any, BinaryIO
 
 import numpy as np
 
-import tagging
-import waves
-from channels import take
-from outputs import Refused
+from dsdarc_scripts import waves
+from dsdarc_scripts.channels import take
+from dsdarc_scripts.outputs import Refused
+from workflows import tagging
 
 COLUMNS = 60  # of a level picture
 BANDS = 60  # of a spectrum
@@ -30,7 +32,7 @@ class Wave:
     frames: int
 
 
-def wave_of(file):
+def wave_of(file: BinaryIO) -> Wave:
     """What a WAVE file holds whose samples are 16 or 24 bits of PCM."""
     form = data = None
     if tagging.form_of(file) != b"RIFF":
@@ -49,7 +51,7 @@ def wave_of(file):
     return Wave(rate, channels, width, data[0], data[1] // block)
 
 
-def samples(file, wave, first, count):
+def samples(file: BinaryIO, wave: Wave, first: int, count: int) -> np.ndarray:
     """Frames as whole numbers of 32 bits, the lowest 8 or 16 of them zero."""
     # Of the file that the run made: the library takes four times as long to play the source anew as this to read it.
     size = wave.width // 8
@@ -60,12 +62,12 @@ def samples(file, wave, first, count):
     return wide.reshape(count, wave.channels)
 
 
-def level(value):
+def level(value: float) -> float:
     """An amplitude in dB."""
     return float(20 * np.log10(value)) if value > 0 else FLOOR
 
 
-def heard(piece):
+def heard(piece: np.ndarray) -> np.ndarray:
     """The frames of a piece that aren't silent."""
     limit = 2**31 * 10 ** (SILENCE / 20)
     return np.flatnonzero(((piece > limit) | (piece < -limit)).any(axis=1))
@@ -74,16 +76,17 @@ def heard(piece):
 class Course:
     """What is gathered from the pieces of a file."""
 
-    def __init__(self, wave):
+    def __init__(self, wave: Wave) -> None:
         self.wave = wave
         self.sums, self.clipped = np.zeros(wave.channels), 0
         # The first frame that isn't silent, and where the last piece begins that has such a one.
-        self.first = self.last_piece = None
+        self.first: int | None = None
+        self.last_piece = 0
         # A column of the picture is as many frames long, but the last.
         self.step = max(-(-wave.frames // COLUMNS), 1)
         self.highs, self.squares = np.zeros(COLUMNS), np.zeros(COLUMNS)
 
-    def add(self, at, piece):
+    def add(self, at: int, piece: np.ndarray) -> None:
         """Takes the frames from a place on."""
         high, low = int(piece.max()), int(piece.min())
         edge = 1 << (32 - self.wave.width)
@@ -103,7 +106,7 @@ class Course:
             self.squares[column] += float(np.dot(plain, plain)) / 2.0**62 / self.wave.channels
             column += 1
 
-    def silence(self, file):
+    def silence(self, file: BinaryIO) -> list[float] | None:
         """Seconds of silence at the start and the end, or None where all is silent."""
         if self.first is None:
             return None
@@ -111,7 +114,7 @@ class Course:
         last = self.last_piece + int(heard(samples(file, self.wave, self.last_piece, count))[-1])
         return [self.first / self.wave.rate, (self.wave.frames - 1 - last) / self.wave.rate]
 
-    def figures(self, file):
+    def figures(self, file: BinaryIO) -> dict[str, Any]:
         wave, frames = self.wave, max(self.wave.frames, 1)
         counts = np.clip(frames - self.step * np.arange(COLUMNS), 1, self.step)
         return {
@@ -128,7 +131,7 @@ class Course:
         }
 
 
-def spectrum(file, wave):
+def spectrum(file: BinaryIO, wave: Wave) -> list[float]:
     """The mean of some spectra, evenly over the file, in bands as wide as their pitch: a full-scale sine is 0 dB."""
     length = min(LENGTH, wave.frames)
     if length < 64:
@@ -148,7 +151,7 @@ def spectrum(file, wave):
     return bands
 
 
-def measure(name, go_on):
+def measure(name: str, go_on: Callable[[], None]) -> dict[str, Any]:
     """The figures of a file. `go_on` is called before each piece, and may raise what ends this."""
     with open(name, "rb") as file:
         wave = wave_of(file)

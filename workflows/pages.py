@@ -1,10 +1,12 @@
 """Makes the page of a run: one HTML file that needs no other, with small pictures as SVG."""
 import dataclasses
 import os
+from workflows.runs import Row
+from typing import Any
 
 import jinja2
-import measured
-from names import shown
+from dsdarc_scripts.explained import shown_letter
+from workflows import measured
 
 TEMPLATE = os.path.join(os.path.dirname(os.path.abspath(__file__)), "page.html.j2")
 LOWEST = {"level": -72.0, "spectrum": -150.0}  # dB, at the lower edge of a picture
@@ -59,19 +61,19 @@ class Line:
     refusals: bool
 
 
-def visible(text):
+def visible(text: str) -> str:
     """A text on one line, of letters that a page can show."""
-    return "".join(it if it.isprintable() else ascii(it)[1:-1] for it in shown(text))
+    return "".join(map(shown_letter, text))
 
 
-def number(value, spelled="{}", unit=""):
+def number(value: float | None, spelled: str = "{}", unit: str = "") -> Cell:
     """A cell with a number, or an empty one."""
     if value is None:
         return Cell("", "n", {"v": ""})
     return Cell(spelled.format(value) + unit, "n", {"v": round(value, 4)})
 
 
-def decibels(value, spelled):
+def decibels(value: float, spelled: str) -> Cell:
     """A cell with a level; that of nothing is minus infinity."""
     cell = number(value, spelled, " dB")
     if value <= measured.FLOOR:
@@ -79,7 +81,7 @@ def decibels(value, spelled):
     return cell
 
 
-def duration(seconds):
+def duration(seconds: float | None) -> Cell:
     if seconds is None:
         return number(None)
     if seconds < 1:
@@ -88,25 +90,25 @@ def duration(seconds):
     return Cell(f"{int(minutes)}:{rest:04.1f}", "n", {"v": round(seconds, 4)})
 
 
-def height(value, kind):
+def height(value: float, kind: str) -> int:
     """How far a level is from the upper edge of a picture."""
     return round(min(max(value / LOWEST[kind], 0), 1) * HEIGHT)
 
 
-def heights(levels, kind):
+def heights(levels: list[float], kind: str) -> str:
     """How far each level of a picture is from its upper edge, a letter each: the page draws it once it is seen."""
     return "".join(chr(TOP + height(value, kind)) for value in levels)
 
 
-def level_cell(figures):
+def level_cell(figures: dict[str, Any]) -> Cell:
     return Cell("", "p", {"h": heights(figures["highs"], "level"), "m": heights(figures["means"], "level")})
 
 
-def spectrum_cell(figures):
+def spectrum_cell(figures: dict[str, Any]) -> Cell:
     return Cell("", "p", {"s": heights(figures["spectrum"], "spectrum")} if figures["spectrum"] else {})
 
 
-def figure_cells(figures):
+def figure_cells(figures: dict[str, Any] | None) -> list[Cell]:
     """The cells of what was measured."""
     if figures is None or "fault" in figures:
         return [
@@ -130,7 +132,7 @@ def figure_cells(figures):
     ]
 
 
-def sums_cell(sums):
+def sums_cell(sums: dict[str, str]) -> Cell:
     """The sums, of which the first digits are seen until they are asked for."""
     if not sums:
         return Cell("")
@@ -139,14 +141,14 @@ def sums_cell(sums):
     )
 
 
-def seconds_of(row):
+def seconds_of(row: Row) -> float | None:
     """How long a file is: by its samples, or else by what was played of it."""
     if row.samples is not None and row.rate:
         return row.samples / row.rate
     return (row.figures or {}).get("seconds")
 
 
-def line_of(row):
+def line_of(row: Row) -> Line:
     """The row of a file."""
     figures, has_figures = row.figures, row.figures is not None and "fault" not in row.figures
     said = "\n".join(f"{step}: {fault}" for step, fault in row.refusals)
@@ -164,14 +166,14 @@ def line_of(row):
     ]
     is_kind = {
         "refused": bool(row.refusals),
-        "clipped": has_figures and figures["clipped"] > 0,
+        "clipped": figures is not None and has_figures and figures["clipped"] > 0,
         "dropped": (row.dropped or 0) > 0,
         "unplayed": row.pcm is None,
     }
     return Line(cells, " ".join(kind for kind, holds in is_kind.items() if holds), bool(row.refusals))
 
 
-def widths(lines):
+def widths(lines: list[Line]) -> list[int]:
     """The widths of the columns, in digits. Rows of fixed columns are laid out alone, and only once they are seen."""
     longest = [len(column) + 2 for column in COLUMNS]
     for line in lines:
@@ -182,7 +184,7 @@ def widths(lines):
     return [min(it, WIDEST) + 1 for it in longest]
 
 
-def summary(rows, lines):
+def summary(rows: list[Row], lines: list[Line]) -> str:
     """The counts of all, in a sentence."""
     counts = {kind: sum(kind in line.kinds.split() for line in lines) for kind, _ in KINDS}
     seconds = sum(seconds_of(row) or 0 for row in rows)
@@ -193,7 +195,7 @@ def summary(rows, lines):
     )
 
 
-def page(title, rows):
+def page(title: str, rows: list[Row]) -> str:
     """The text of the page."""
     loader = jinja2.FileSystemLoader(os.path.dirname(TEMPLATE))
     template = jinja2.Environment(loader=loader, autoescape=True).get_template(os.path.basename(TEMPLATE))

@@ -8,8 +8,8 @@ import json
 import os
 import threading
 
-import names
-import tagging
+from dsdarc_scripts import names
+from workflows import tagging
 
 NOTES = ".played"
 # WAVE files of earlier runs that are still there, and are not what was asked for.

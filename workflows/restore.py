@@ -10,136 +10,36 @@ reads `results.json`, `beside.json`, `converted/`, `kept/`, `renamed/` and `besi
 """
 import os
 import sys
+from collections.abc import Callable, Iterator
+from typing import Any
 
-sys.path.insert(0, os.path.join(os.path.dirname(os.path.dirname(os.path.realpath(__file__))), "scripts/common"))
-import outputs  # noqa: E402
+sys.path.insert(0, os.path.dirname(os.path.dirname(os.path.realpath(__file__))))
+from dsdarc_scripts import outputs
 
-if __name__ == "__main__":
-    outputs.begin()
-import dataclasses  # noqa: E402
-import hashlib  # noqa: E402
-import struct  # noqa: E402
-import tempfile  # noqa: E402
+outputs.begin()
+import tempfile
 
-import besides  # noqa: E402
-import channels  # noqa: E402
-import names  # noqa: E402
-import room  # noqa: E402
-
-PIECE = 1 << 20
-# Where the head of a DSF file has its bits per sample.
-WIDTH_AT = 60
+from dsdarc_scripts import channels, names, room
+from workflows import besides, kept
 
 
-def copied(file, count=None):
-    """The next bytes of a file, piece by piece."""
-    while count is None or count > 0:
-        data = file.read(PIECE if count is None else min(PIECE, count))
-        if not data:
-            return
-        if count is not None:
-            count -= len(data)
-        yield data
-
-
-def laced(piece, width):
-    """A piece of all channels as a DSF file of this width has it, or a DSDIFF file."""
-    if width is None:
-        data = bytearray(len(piece) * len(piece[0]))
-        for channel, part in enumerate(piece):
-            data[channel :: len(piece)] = part
-        return bytes(data)
-    turned = (part.translate(channels.TURNED) if width == 1 else part for part in piece)
-    return b"".join(part.ljust(channels.BLOCK, b"\0") for part in turned)
-
-
-def width_of(head):
-    """Bits per sample of the file that a head is of, or None of a DSDIFF file."""
-    with open(head, "rb") as file:
-        data = channels.take(file, WIDTH_AT + 4)
-    return None if data[:4] == b"FRM8" else struct.unpack_from("<I", data, WIDTH_AT)[0]
-
-
-def made_again(converted, kept):
-    """The bytes of an old file, piece by piece; `kept` has the names of what was kept of it by their endings."""
-    width = width_of(kept[".head"])
-    with open(kept[".head"], "rb") as file:
-        yield from copied(file)
-    with open(converted, "rb") as file:
-        sound, last = channels.sound_of(file), None
-        for piece in channels.pieces(file, sound):
-            if last is not None:
-                yield last
-            last = laced(piece, width)
-    for ending, other in ((".fill", last), (".id3", None), (".tail", None)):
-        if ending in kept:
-            with open(kept[ending], "rb") as file:
-                yield from copied(file)
-        elif other is not None:
-            yield other
-
-
-def write(name, data):
-    with open(name, "wb") as file:
-        for piece in data:
-            file.write(piece)
-    return name
-
-
-def last_of(file, sound):
-    """The last blocks of a DSF file, where their fill isn't zero; else None."""
-    if sound.width is None or sound.bits == 0:
-        return None
-    size = sound.count * channels.BLOCK
-    group = dataclasses.replace(sound, start=sound.stop - size, bits=(sound.bits - 1) % (8 * channels.BLOCK) + 1)
-    last = next(channels.pieces(file, group))
-    file.seek(group.start)
-    data = file.read(size)
-    return None if data == laced(last, sound.width) else data
-
-
-def keep_all_but_sound(source, front):
-    """Writes what a file has besides its sound, by the endings of what was written."""
-    with open(source, "rb") as file:
-        sound = channels.sound_of(file)
-        file.seek(0)
-        kept = {".head": write(front + ".head", copied(file, sound.start))}
-        last = last_of(file, sound)
-        if last is not None:
-            kept[".fill"] = write(front + ".fill", [last])
-        file.seek(sound.stop)
-        start = file.read(3)
-        if start:
-            ending = ".id3" if start == b"ID3" else ".tail"
-            file.seek(sound.stop)
-            kept[ending] = write(front + ending, copied(file))
-    return kept
-
-
-def sum_of_pieces(data):
-    total = hashlib.sha256()
-    for piece in data:
-        total.update(piece)
-    return total.hexdigest()
-
-
-def is_made(path, total):
+def is_made(path: str, total: str) -> bool:
     return os.path.isfile(path) and not os.path.islink(path) and names.sum_of(path) == total
 
 
-def data_of(out, found):
+def data_of(out: str, found: dict[str, Any]) -> Iterator[bytes]:
     """The bytes of an old file, piece by piece: of one that was converted, or of a copy."""
     if "copy" in found:
         with open(os.path.join(out, found["copy"]), "rb") as file:
-            yield from copied(file)
+            yield from kept.copied(file)
         return
-    kept = {os.path.splitext(path)[1]: os.path.join(out, path) for path in found["kept"]}
-    if ".head" not in kept:
+    parts = {os.path.splitext(path)[1]: os.path.join(out, path) for path in found["kept"]}
+    if ".head" not in parts:
         raise channels.Unread("nothing was kept of its header")
-    yield from made_again(os.path.join(out, found["converted"]), kept)
+    yield from kept.made_again(os.path.join(out, found["converted"]), parts)
 
 
-def restore(out, name, found, part, folder):
+def restore(out: str, name: str, found: dict[str, Any], part: str, folder: str) -> None:
     """Writes one file again; it has its name only where it is the old one."""
     if os.path.isabs(name) or ".." in name.split("/"):
         raise channels.Unread("its name leads out of the folder")
@@ -149,28 +49,28 @@ def restore(out, name, found, part, folder):
         return
     if os.path.lexists(path):
         raise channels.Unread("another file has its name: move that away")
-    write(part, data_of(out, found))
+    kept.write(part, data_of(out, found))
     if names.sum_of(part) != found["sha256"]:
         raise channels.Unread("it would have another sum")
     os.makedirs(os.path.dirname(path), exist_ok=True)
     os.replace(part, path)
 
 
-def is_entry(found):
+def is_entry(found: dict[str, Any]) -> bool:
     """Whether an entry of results.json has what is read of it."""
     if not isinstance(found, dict) or not isinstance(found.get("converted", 0), str | None):
         return False
-    kept = found.get("kept")
-    is_kept = isinstance(kept, list) and all(isinstance(it, str) for it in kept)
+    parts = found.get("kept")
+    is_kept = isinstance(parts, list) and all(isinstance(it, str) for it in parts)
     return found["converted"] is None or is_kept and isinstance(found.get("sha256"), str)
 
 
-def is_copy(found):
+def is_copy(found: dict[str, Any]) -> bool:
     """Whether an entry of beside.json has what is read of it."""
     return isinstance(found, dict) and all(isinstance(found.get(it), str) for it in ("copy", "sha256"))
 
 
-def listed(out, name, is_right):
+def listed(out: str, name: str, is_right: Callable[[dict[str, Any]], bool]) -> dict[str, dict[str, Any]]:
     """What a list of the workflow has, by the old names of files."""
     path = os.path.join(out, name)
     try:
@@ -184,7 +84,7 @@ def listed(out, name, is_right):
     return found
 
 
-def kept_of(out):
+def kept_of(out: str) -> dict[str, dict[str, Any]]:
     """What can be made again, by the old names: what was converted, and the copies of other files."""
     found = listed(out, "results.json", is_entry)
     converted = {name: it for name, it in found.items() if it["converted"] is not None}
@@ -193,7 +93,7 @@ def kept_of(out):
     return converted | (listed(out, besides.LIST, is_copy) if has_copies else {})
 
 
-def not_kept(out):
+def not_kept(out: str) -> int:
     """How many files of the archive are listed as not kept."""
     try:
         with open(os.path.join(out, besides.LEFT), encoding="utf-8", errors="surrogateescape") as file:
@@ -202,13 +102,13 @@ def not_kept(out):
         return 0
 
 
-def demand_apart(out, folder):
+def demand_apart(out: str, folder: str) -> None:
     """Refuses a folder in which files would be written over those that are read."""
     if names.inner_of(folder, out) in (".", "archive", *names.WRITTEN):
         raise outputs.Refused(f"{outputs.shown_name(folder)} is OUT, or a folder of the run, too: name another one")
 
 
-def restore_all(out, folder):
+def restore_all(out: str, folder: str) -> tuple[int, int]:
     """Restores all that was kept: how many files, and how many could not be made again."""
     demand_apart(out, folder)
     results, wrong = kept_of(out), 0
@@ -226,7 +126,7 @@ def restore_all(out, folder):
     return len(results) - wrong, wrong
 
 
-def main():
+def main() -> int:
     if sys.argv[1:] in (["--help"], ["-h"]):
         print(__doc__)
         return 0

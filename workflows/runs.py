@@ -1,13 +1,17 @@
 """What a run over an archive left in OUT, a row for each file: of the workflow (`Snakefile`) or of `play_all`."""
+import concurrent.futures
 import dataclasses
+import functools
 import os
 import re
 import subprocess
+from typing import Any
 
-import names
-import tagging
-from outputs import Refused, shown_name
-from program import PROGRAM
+from dsdarc_scripts import names
+from dsdarc_scripts.explained import shown_name
+from dsdarc_scripts.outputs import Refused
+from dsdarc_scripts.program import PROGRAM
+from workflows import tagging
 
 # The lists of play_all.
 SUMS, REFUSED = "SHA256SUMS", "refused.txt"
@@ -33,17 +37,17 @@ class Row:
     figures: dict | None = None
 
 
-def plain(shown):
+def plain(shown: str) -> str:
     """A name as it was before it was written on a line (`names.shown`, `names.listed`)."""
     return re.sub(r"\\([\\nrt])", lambda it: {"\\": "\\", "n": "\n", "r": "\r", "t": "\t"}[it[1]], shown)
 
 
-def lines_of(path):
+def lines_of(path: str) -> list[str]:
     with open(path, encoding="utf-8", errors="surrogateescape") as file:
         return file.read().split("\n")[:-1]
 
 
-def sums_of(path):
+def sums_of(path: str) -> dict[str, str]:
     """The sums of a list as sha256sum writes it, by names."""
     sums = {}
     for line in lines_of(path):
@@ -52,12 +56,12 @@ def sums_of(path):
     return sums
 
 
-def is_of_waves(path):
+def is_of_waves(path: str) -> bool:
     """Whether a list of sums, if it is there, is one of WAVE files alone."""
     return not os.path.lexists(path) or all(name.endswith(".wav") for name in sums_of(path))
 
 
-def told_of(row, found):
+def told_of(row: Row, found: dict[str, Any]) -> None:
     """Takes what the program reports of a file."""
     row.form, row.rate, row.channels, row.samples = (
         found.get("form", ""),
@@ -68,16 +72,16 @@ def told_of(row, found):
 # A run of the workflow.
 
 
-def kept_beside(found):
+def kept_beside(found: dict[str, Any]) -> list[str]:
     """What of a file isn't in its converted one, and is kept beside it; and what became of its tag."""
     kept = [os.path.splitext(path)[1] for path in found["kept"]]
     tags = {"handed on" if tag == tagging.HANDED_ON else f"left out: {tag}" for tag in found.get("tags", {}).values()}
     return [*kept, *(f"tag {tag}" for tag in sorted(tags))]
 
 
-def refused_steps(path):
+def refused_steps(path: str) -> list[list[str]]:
     """Step, fault and name of each line of refused.tsv; a line that begins with a tab goes on with the fault before."""
-    found = []
+    found: list[list[str]] = []
     for line in lines_of(path):
         if line.startswith("\t") and found:
             found[-1][1] += "\n" + line[1:]
@@ -87,7 +91,7 @@ def refused_steps(path):
     return found
 
 
-def of_workflow(out):
+def of_workflow(out: str) -> list[Row]:
     """The rows of a run of the workflow."""
     table = names.load(os.path.join(out, names.TABLE))
     results = names.load(os.path.join(out, "results.json"))
@@ -111,7 +115,7 @@ def of_workflow(out):
 # A run of play_all.
 
 
-def refusals_of(path):
+def refusals_of(path: str) -> dict[str, str]:
     """What refused.txt says of each name; a line that begins with a tab goes on with the one before it."""
     found = {}
     name = None
@@ -125,7 +129,7 @@ def refusals_of(path):
     return found
 
 
-def asked(archive, row):
+def asked(archive: str, row: Row) -> None:
     """Asks the program what a file of the archive holds. A track, which is in a folder of the album's name, has
     what the album has, but for its length."""
     path = os.path.abspath(os.path.join(archive, row.name))
@@ -143,7 +147,7 @@ def asked(archive, row):
         row.samples = None if is_track else row.samples
 
 
-def of_play_all(out, archive, pool):
+def of_play_all(out: str, archive: str | None, pool: concurrent.futures.Executor) -> list[Row]:
     """The rows of a run of play_all; what its files hold is asked where the archive is named."""
     sums = sums_of(os.path.join(out, SUMS))
     said = refusals_of(os.path.join(out, REFUSED))
@@ -152,11 +156,11 @@ def of_play_all(out, archive, pool):
     if archive is not None:
         if not os.path.isdir(archive):
             raise Refused(f"{shown_name(archive)} is no folder: name the archive that was played")
-        list(pool.map(lambda row: asked(archive, row), rows))
+        list(pool.map(functools.partial(asked, archive), rows))
     return rows
 
 
-def rows_of(out, archive, pool):
+def rows_of(out: str, archive: str | None, pool: concurrent.futures.Executor) -> list[Row]:
     """The rows of a run, by their names."""
     try:
         if os.path.isfile(os.path.join(out, "results.json")):

@@ -6,66 +6,65 @@ last, and a file that is written has its name only once it is whole.
 """
 import os
 import sys
+from collections.abc import Callable
+from typing import Any
 
-sys.path.insert(0, os.path.join(os.path.dirname(os.path.dirname(os.path.realpath(__file__))), "scripts/common"))
-import outputs  # noqa: E402
+sys.path.insert(0, os.path.dirname(os.path.dirname(os.path.realpath(__file__))))
+from dsdarc_scripts import outputs
 
 outputs.begin()
-import tomllib  # noqa: E402
+import tomllib
 
-import besides  # noqa: E402
-import channels  # noqa: E402
-import restore  # noqa: E402
-import room  # noqa: E402
-import tagging  # noqa: E402
-import waves  # noqa: E402
-from explained import lines_of  # noqa: E402
-from names import KINDS, SETTINGS, TABLE, keep, load, remove, result, shown, sum_line, sum_of  # noqa: E402
-from program import PROGRAM, finished  # noqa: E402
-from walks import identity_of  # noqa: E402
+from dsdarc_scripts import channels, room, waves
+from dsdarc_scripts.explained import lines_of, shown_name
+from dsdarc_scripts.names import KINDS, SETTINGS, TABLE, keep, load, remove, result, shown, sum_line, sum_of
+from dsdarc_scripts.program import PROGRAM, finished
+from dsdarc_scripts.walks import identity_of
+from workflows import besides, tagging
+from workflows import kept as kept_of
 
 ENDINGS = {"dsdiff": "dff", "dsf": "dsf", "dsf8": "dsf"}
 
 
-def run(*words):
+def run(*words: str) -> tuple[int, str]:
     """Status and line of a command."""
     status, out, err = finished([PROGRAM, *words])
     return status, (err if status else out).decode(errors="replace").strip()
 
 
-def must(entry, size, *words):
+def must(entry: dict[str, Any], size: Callable[[], int], *words: str) -> str:
     """The line of a command that has to be done; `size` reckons that of the file that it makes."""
     status, line = run(*words)
     if status != 0:
         room.check(line, "work/parts", size)
-        sys.exit(f"{line or f'status {status}'}: {entry['name']!r}")
+        sys.exit(f"{line or f'status {status}'}: {shown_name(entry['name'])}")
     return line
 
 
-def sums_in(entry, path):
+def sums_in(entry: dict[str, Any], path: str) -> tuple[int, list[tuple[int, str]]]:
     """Rate of a file, and for each channel its number of bits and their SHA-256, as the program prints them."""
     rate, bits, *sums = must(entry, lambda: 0, "sum", path).partition("  ")[0].split()
     return int(rate), [(int(bits), total) for total in sums]
 
 
-def entry_of(key):
+def entry_of(key: str) -> dict[str, Any]:
     return load(TABLE)["files"][key]
 
 
-def source_of(key):
+def source_of(key: str) -> str:
     return f"work/links/{key}"
 
 
-def look_of(key):
+def look_of(key: str) -> str:
     return f"work/looks/{key}.json"
 
 
-def note_of(step, key, form):
+def note_of(step: str, key: str, form: str) -> str:
     """The note of what was converted or played."""
     return f"work/played/{key}.json" if step == "play" else f"work/converted/{key}.{ENDINGS[form]}.json"
 
 
-def look(key):
+def look(key: str) -> None:
     """What the program prints of a file, or the fault that it is refused for, the sum of its bytes, and what shows that
     it is another file later."""
     identity = identity_of(source_of(key))
@@ -79,7 +78,7 @@ def look(key):
     elif status in (2, 3) and fault != "fault: Memory":
         found = {"fault": fault.removeprefix("fault: "), "why": more}
     else:
-        sys.exit(f"{text or f'status {status}'}: {entry_of(key)['name']!r}")
+        sys.exit(f"{text or f'status {status}'}: {shown_name(entry_of(key)['name'])}")
     try:
         total = sum_of(source_of(key))
     except OSError as error:
@@ -88,7 +87,7 @@ def look(key):
     keep(look_of(key), found | {"sha256": total, "identity": identity if total else None})
 
 
-def placed(parts):
+def placed(parts: dict[str, str]) -> dict[str, dict[str, Any]]:
     """Puts files that are whole in their places; the size and sum of each."""
     results = {}
     for path, part in parts.items():
@@ -98,19 +97,21 @@ def placed(parts):
     return results
 
 
-def compare(entry, source, sum_before, part, back, kept):
+def compare(
+    entry: dict[str, Any], source: str, sum_before: str, part: str, back: str, kept: dict[str, str]
+) -> tuple[int, list[tuple[int, str]]]:
     """Rate and sums of a file's channels, once those of the converted ones are equal and it can be made again. The
     converted file is read without the program."""
     first = sums_in(entry, source)
     for word, sums in (("converted", channels.read(part)), ("back", sums_in(entry, back))):
         if sums != first:
-            sys.exit(f"the {word} file has other bits: {entry['name']!r}")
-    if restore.sum_of_pieces(restore.made_again(part, kept)) != sum_before:
-        sys.exit(f"what is kept doesn't make the file again: {entry['name']!r}")
+            sys.exit(f"the {word} file has other bits: {shown_name(entry['name'])}")
+    if kept_of.sum_of_pieces(kept_of.made_again(part, kept)) != sum_before:
+        sys.exit(f"what is kept doesn't make the file again: {shown_name(entry['name'])}")
     return first
 
 
-def convert(key):
+def convert(key: str) -> None:
     """Converts a file and back to its own form, keeps all but its sound, and compares what comes of both."""
     form, entry, source, looked = load(SETTINGS)["form"], entry_of(key), source_of(key), load(look_of(key))
     front = f"work/parts/{key}"
@@ -118,7 +119,7 @@ def convert(key):
     try:
         dropped = must(entry, lambda: room.copied_size(source), "convert", form, source, part)
         must(entry, lambda: room.copied_size(source), "convert", looked["form"], part, back)
-        kept = restore.keep_all_but_sound(source, front)
+        kept = kept_of.keep_all_but_sound(source, front)
         # Before the bits are compared, so that they are those of the file with its tag.
         tag = tagging.hand_on(source, part, is_compared=True)
         rate, sums = compare(entry, source, looked["sha256"], part, back, kept)
@@ -142,7 +143,7 @@ def convert(key):
         remove(part, back, *(front + ending for ending in KINDS["kept"]))
 
 
-def play(key):
+def play(key: str) -> None:
     """Plays a file to a WAVE file, by the filter for its rate."""
     settings, entry, part = load(SETTINGS), entry_of(key), f"work/parts/{key}.wav"
     try:
@@ -157,14 +158,14 @@ def play(key):
         remove(part)
 
 
-def unconvertible(found, form):
+def unconvertible(found: dict[str, Any], form: str) -> tuple[str, str] | None:
     """The fault that a conversion of a file would have, and what is wrong; or None."""
     if form != "dsdiff" or found["samples"] % 8 == 0:
         return None
     return "NotWholeBytes", f"its channels have {found['samples']} bits each, and DSDIFF holds whole bytes"
 
 
-def unplayable(found, filters):
+def unplayable(found: dict[str, Any], filters: dict[str, str]) -> tuple[str, str] | None:
     """The fault that the playing of a file would have, and what is wrong; `NoFilter` where none was chosen for its rate.
     Or None."""
     rate, name = found["rate"], filters.get(str(found["rate"]))
@@ -182,7 +183,7 @@ def unplayable(found, filters):
     return "TooLarge", f"its WAVE file would count {size} bytes, and has to count fewer than {waves.SIZE_LIMIT}"
 
 
-def faults_of(found, settings):
+def faults_of(found: dict[str, Any], settings: dict[str, Any]) -> dict[str, tuple[str, ...]]:
     """Fault and reasons of each step that is refused of a file."""
     if "fault" in found:
         return {"info": (found["fault"], *found.get("why", ()))}
@@ -193,12 +194,12 @@ def faults_of(found, settings):
     return {step: fault for step, fault in faults.items() if fault}
 
 
-def refusal_lines(step, name, fault, *whys):
+def refusal_lines(step: str, name: str, fault: str, *whys: str) -> list[str]:
     """The lines of a refusal: step, fault and name, and below what is wrong."""
     return [f"{step}\t{fault}\t{shown(name)}\n", *(f"\t{why}\n" for why in whys)]
 
 
-def plan():
+def plan() -> None:
     """What is done with each file, and the list of what is refused."""
     settings, table, steps, lines = load(SETTINGS), load(TABLE), {}, []
     for fault, name, why in table["refused"]:
@@ -217,7 +218,7 @@ def plan():
     keep("work/plan.json", steps)
 
 
-def beside():
+def beside() -> None:
     """Keeps what isn't converted, and lists what isn't kept."""
     table, steps = load(TABLE), load("work/plan.json")
     left = [entry["name"] for key, entry in by_name(table) if not steps[key]["convert"]]
@@ -225,12 +226,12 @@ def beside():
     besides.keep_all([*table["beside"], *left], whys, load(SETTINGS)["beside_mb"])
 
 
-def by_name(table):
+def by_name(table: dict[str, Any]) -> list[tuple[str, dict[str, Any]]]:
     """The keys and entries of a table in the order of the names."""
     return sorted(table["files"].items(), key=lambda item: item[1]["name"])
 
 
-def told(key, todo, form):
+def told(key: str, todo: dict[str, Any], form: str) -> tuple[dict[str, dict[str, Any]], dict[str, Any]]:
     """The notes of what was made of a file, and what `results.json` says of it."""
     notes = {step: load(note_of(step, key, form)) for step in ("convert", "play") if todo[step]}
     results = {step: sorted(note["results"]) for step, note in notes.items()}
@@ -245,10 +246,10 @@ def told(key, todo, form):
     }
 
 
-def lists():
+def lists() -> None:
     """The lists of sums of the sources and of what was made, of the channels, and the counts of all."""
     table, steps, form = load(TABLE), load("work/plan.json"), load(SETTINGS)["form"]
-    sources, made, sounds, results = [], {}, [], {}
+    sources, made, sounds, results = [], dict[str, dict[str, Any]](), [], {}
     for key, entry in by_name(table):
         notes, results[entry["name"]] = told(key, steps[key], form)
         if results[entry["name"]]["sha256"]:
@@ -273,7 +274,9 @@ def lists():
     keep("report.txt", report(table, steps, results, len(sounds)))
 
 
-def report(table, steps, results, sounds):
+def report(
+    table: dict[str, Any], steps: dict[str, dict[str, Any]], results: dict[str, dict[str, Any]], sounds: int
+) -> str:
     """The counts of all."""
     with open("refused.tsv", encoding="utf-8", errors="surrogateescape") as file:
         kinds = [line.split("\t")[0] for line in file]
@@ -294,10 +297,12 @@ def report(table, steps, results, sounds):
     )
 
 
-STEPS = {step.__name__: step for step in (look, convert, play, plan, beside, lists)}
+STEPS: dict[str, Callable[..., None]] = dict(
+    look=look, convert=convert, play=play, plan=plan, beside=beside, lists=lists
+)
 
 
-def main(step, *key):
+def main(step: str, *key: str) -> int:
     """Takes a step; the mark shows a full disk, and Snakemake says the line for all steps."""
     try:
         STEPS[step](*key)

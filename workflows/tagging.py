@@ -6,10 +6,12 @@ import hashlib
 import io
 import os
 import struct
+from collections.abc import Iterator
 from importlib.util import find_spec
+from typing import Any, BinaryIO
 
-import channels
-from outputs import Refused
+from dsdarc_scripts import channels
+from dsdarc_scripts.outputs import Refused
 
 # How chunks are laid out, by the first bytes of a file: ID and size, where they begin, and the tag's.
 FORMS = {b"FRM8": (struct.Struct(">4sQ"), 16, (b"ID3 ",)), b"RIFF": (struct.Struct("<4sI"), 12, (b"id3 ", b"ID3 "))}
@@ -24,11 +26,11 @@ class Untagged(Refused):
     """The tag isn't handed on, and why."""
 
 
-def has_mutagen():
+def has_mutagen() -> bool:
     return find_spec("mutagen") is not None
 
 
-def broken():
+def broken() -> tuple[type[Exception], ...]:
     """What mutagen raises for a broken file or tag."""
     from mutagen import MutagenError
 
@@ -36,7 +38,7 @@ def broken():
     return MutagenError, *more
 
 
-def chunks(file, form):
+def chunks(file: BinaryIO, form: bytes) -> Iterator[tuple[bytes, int, int]]:
     """ID, first byte and size of each chunk of a DSDIFF or WAVE file."""
     head, at, _ = FORMS[form]
     stop = os.fstat(file.fileno()).st_size
@@ -47,12 +49,12 @@ def chunks(file, form):
         at += head.size + size + size % 2
 
 
-def form_of(file):
+def form_of(file: BinaryIO) -> bytes:
     file.seek(0)
     return file.read(4)
 
 
-def tag_of(name):
+def tag_of(name: str) -> bytes:
     """The bytes of a file's tag, empty where it has none."""
     with open(name, "rb") as file:
         form = form_of(file)
@@ -70,7 +72,7 @@ def tag_of(name):
     return b""
 
 
-def sound_range(file):
+def sound_range(file: BinaryIO) -> tuple[int, int]:
     """The first byte of a file's sound, and the one after it."""
     form = form_of(file)
     if form == b"RIFF":
@@ -83,7 +85,7 @@ def sound_range(file):
     return sound.start, sound.stop
 
 
-def sound_sum(name):
+def sound_sum(name: str) -> bytes:
     """The SHA-256 of a file's sound, as its bytes."""
     total = hashlib.sha256()
     with open(name, "rb") as file:
@@ -96,12 +98,12 @@ def sound_sum(name):
     return total.digest()
 
 
-def frames(tags):
+def frames(tags: Any) -> list[str]:
     """What a tag says, to be compared; nothing where there is none."""
     return sorted(map(repr, tags.values())) if tags else []
 
 
-def read(tag):
+def read(tag: bytes) -> list[str]:
     """What the bytes of a tag say."""
     from mutagen.id3 import ID3
 
@@ -111,7 +113,7 @@ def read(tag):
         raise Untagged("its tag is no ID3 tag that mutagen reads") from None
 
 
-def read_back(name):
+def read_back(name: str) -> list[str]:
     """What the tag of a file says that mutagen opens by its form."""
     from mutagen.dsdiff import DSDIFF
     from mutagen.dsf import DSF
@@ -122,7 +124,7 @@ def read_back(name):
     return frames({b"DSD ": DSF, b"FRM8": DSDIFF, b"RIFF": WAVE}[form](name).tags)
 
 
-def remove(name):
+def remove(name: str) -> None:
     """Removes the tag of a file."""
     from mutagen import dsdiff, dsf, wave
 
@@ -131,7 +133,7 @@ def remove(name):
     {b"DSD ": dsf, b"FRM8": dsdiff, b"RIFF": wave}[form].delete(name)
 
 
-def remove_all(name):
+def remove_all(name: str) -> None:
     """Removes the tags of a file, as some programs leave two; mutagen removes the first."""
     size = None
     while tag_of(name) and os.path.getsize(name) != size:
@@ -139,7 +141,7 @@ def remove_all(name):
         remove(name)
 
 
-def write(name, tag):
+def write(name: str, tag: bytes) -> None:
     """Writes a tag into a file that has none, in its place."""
     from mutagen._riff import RiffFile
     from mutagen.dsdiff import DSDIFFFile
@@ -151,7 +153,7 @@ def write(name, tag):
         if form == b"DSD ":
             file.write(tag)
             file.seek(0)
-            head = DSFFile(file).dsd_chunk
+            head: Any = DSFFile(file).dsd_chunk
             head.offset_metdata_chunk, head.total_size = end, end + len(tag)
             head.write()
         elif form == b"FRM8":
@@ -169,7 +171,7 @@ def write(name, tag):
         os.fsync(file.fileno())
 
 
-def put(name, tag, is_compared=False):
+def put(name: str, tag: bytes, is_compared: bool = False) -> None:
     """Puts a tag into a file that no one else reads yet, in the place of the one that it has. Its sound has to be the
     same before and behind, unless that is compared elsewhere, and mutagen has to read the tag back. Where this fails
     the file isn't to be used."""
@@ -186,7 +188,7 @@ def put(name, tag, is_compared=False):
         raise Untagged("the tag is read back as another one")
 
 
-def hand_on(source, name, is_compared=False):
+def hand_on(source: str, name: str, is_compared: bool = False) -> str | None:
     """Gives a file that was just made the tag of its source, where it has none. Returns nothing where there is none to
     hand on, else whether it was, or why not; then the file is as it was."""
     tag = tag_of(source)

@@ -7,8 +7,10 @@ import logging
 import os
 import sys
 import threading
+from collections.abc import Iterator
+from typing import Any
 
-import room
+from dsdarc_scripts import room
 
 # What Snakemake is quiet about once the line is said.
 HUSHED = frozenset({"all"})
@@ -17,24 +19,24 @@ HUSHED = frozenset({"all"})
 class Log(logging.FileHandler):
     """Snakemake's log: what the disk doesn't take is left out of it, and no word is said of that."""
 
-    def handleError(self, record):
+    def handleError(self, record: logging.LogRecord) -> None:
         pass
 
-    def flush(self):
+    def flush(self) -> None:
         with contextlib.suppress(OSError):
             super().flush()
 
-    def close(self):
+    def close(self) -> None:
         with contextlib.suppress(OSError):
             super().close()
 
 
-def hush(logger):
+def hush(logger: Any) -> None:
     """As `--quiet all` does."""
     logger.quiet = HUSHED
 
 
-def tolerate(logger):
+def tolerate(logger: Any) -> None:
     """Puts a log in the place of Snakemake's, whose errors take some fifty lines each."""
     old = logger.logfile_handler
     if old is not None:
@@ -45,7 +47,7 @@ def tolerate(logger):
         logger.logger.addHandler(logger.logfile_handler)
 
 
-def tells_full(message, has_jobs):
+def tells_full(message: dict[str, Any], has_jobs: bool) -> bool:
     """Whether Snakemake has to say that the disk is full, or that a job failed where one met a full disk."""
     said = str(message.get("msg"))
     return any(f"[Errno {number}]" in said for number in room.FULL) or (
@@ -53,12 +55,12 @@ def tells_full(message, has_jobs):
     )
 
 
-def watch(workflow, logger):
+def watch(workflow: Any, logger: Any) -> None:
     """Where the disk is full, has Snakemake start no more jobs, also with `--keep-going`, and says one line in place of
     what it would say."""
     lock = threading.Lock()
 
-    def heed(message):
+    def heed(message: dict[str, Any]) -> None:
         with lock:
             has_jobs = workflow.scheduler is not None
             if logger.quiet is HUSHED or not tells_full(message, has_jobs):
@@ -73,7 +75,7 @@ def watch(workflow, logger):
 
 
 @contextlib.contextmanager
-def one_line(logger):
+def one_line(logger: Any) -> Iterator[None]:
     """Ends Snakemake before it starts with the line that stops it, without where in the Snakefile that was."""
     try:
         with room.told("OUT"):

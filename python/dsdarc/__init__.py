@@ -29,7 +29,7 @@ from dsdarc._library import Fault, Info, version
 from dsdarc._sound import Numbers, Sound
 from dsdarc._source import File
 
-__version__ = "0.1.0"
+__version__ = "0.2.0"
 __all__ = ["Fault", "FilterWarning", "Info", "Sound", "filter_for", "open", "read", "version"]
 
 

@@ -105,7 +105,7 @@ _library = _load()
 
 
 def version() -> str:
-    """The version of the library, as "0.1.0"."""
+    """The version of the library, such as "0.2.0"."""
     text: bytes = _library.dsdarc_version()
     return text.decode()
 

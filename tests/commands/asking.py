@@ -8,13 +8,16 @@ import subprocess
 import sys
 import tempfile
 from collections import namedtuple
+from collections.abc import Iterable, Iterator
+from typing import Any
 from concurrent.futures import ThreadPoolExecutor
 
-ROOT = os.path.dirname(os.path.dirname(os.path.dirname(os.path.abspath(__file__))))
+from tests.helpers.trials import ROOT, files_in
+
 PROGRAM = os.path.abspath(os.environ.get("DSDARC") or os.path.join(ROOT, "crates", "dsdarc", "out", "dsdarc"))
 
 # No file.
-NONE = {}
+NONE: dict[str, bytes] = {}
 
 # The usual names of what a master is cut by and of what is cut.
 EDIT = "edit dsdiff e.toml m.dff c.cert"
@@ -30,40 +33,29 @@ Step = namedtuple("Step", "words status line made why before", defaults=(NONE, "
 Case = namedtuple("Case", "files steps")
 
 
-def done(words, line, made=NONE):
+def done(words: str, line: str, made: dict[str, bytes] = NONE) -> Step:
     return Step(words.split(), 0, line, made)
 
 
-def refused(words, line, made=NONE):
+def refused(words: str, line: str, made: dict[str, bytes] = NONE) -> Step:
     return Step(words.split(), 2, f"fault: {line}", made)
 
 
-def rejected(words, line):
+def rejected(words: str, line: str) -> Step:
     return Step(words.split(), 1, f"rejected {line}")
 
 
-def unread(words, line):
+def unread(words: list[str] | list[str | bytes] | None, line: str) -> Step:
     return Step(words, 3, f"fault: {line}")
 
 
-def demand(holds, text):
+def demand(holds: object, text: str) -> None:
     """Ends all where what is written in a table doesn't fit itself."""
     if not holds:
         sys.exit(f"{os.path.basename(sys.argv[0])}: {text}")
 
 
-def files_in(folder):
-    """The bytes of each file of a folder, and None of what is no file."""
-    found = {}
-    for entry in os.scandir(folder):
-        found[entry.name] = None
-        if entry.is_file(follow_symlinks=False):
-            with open(entry.path, "rb") as file:
-                found[entry.name] = file.read()
-    return found
-
-
-def differences(found, stands):
+def differences(found: dict[str, Any], stands: dict[str, bytes]) -> Iterator[str]:
     """In what the files of a folder differ from those that have to stand there."""
     for name in sorted(found.keys() | stands.keys()):
         if name not in stands:
@@ -74,7 +66,7 @@ def differences(found, stands):
             yield f"{name} has other bytes, {found[name][:200].hex()}.. of {len(found[name])}"
 
 
-def wrong_in(step, folder, stands):
+def wrong_in(step: Step, folder: str, stands: dict[str, bytes]) -> Iterator[str]:
     """What is wrong where a command line is run in a folder, and these files have to stand behind it."""
     words = [] if step.words is None else ["dsdarc", *step.words]
     ran = subprocess.run(
@@ -92,7 +84,7 @@ def wrong_in(step, folder, stands):
     yield from differences(files_in(folder), stands)
 
 
-def try_case(case):
+def try_case(case: Case) -> list[list[str]]:
     """Runs the command lines of a case: what is wrong with each."""
     found, stands = [], dict(case.files)
     with tempfile.TemporaryDirectory() as folder:
@@ -105,7 +97,7 @@ def try_case(case):
     return found
 
 
-def tell(case, found):
+def tell(case: Case, found: list[list[str]]) -> int:
     """Prints what is wrong with the command lines of a case, and over which files: how many were answered as they must
     be."""
     for step, wrong in zip(case.steps, found):
@@ -117,7 +109,7 @@ def tell(case, found):
     return sum(not wrong for wrong in found)
 
 
-def ask(title, cases):
+def ask(title: str, cases: Iterable[Case]) -> int:
     """Runs all cases, some side by side, and prints how they were answered: 0, or 1 where one failed."""
     if not os.path.exists(PROGRAM):
         sys.exit(f"{os.path.basename(sys.argv[0])}: run bin/dsdarc first")

@@ -1,11 +1,10 @@
 """Masters and certificates that `check` accepts or rejects."""
 import itertools
+from collections.abc import Iterator
 
-from asking import CHECK, Case, Step, demand, done, refused, rejected
-from bases import Cue
-from bridging import verdict
-from dsdiffs import dsdiff
-from small_files import (
+from dsdarc_scripts.dsdiffs import dsdiff
+from tests.commands.asking import CHECK, Case, Step, demand, done, refused, rejected
+from tests.commands.small_files import (
     BACK,
     BOTH,
     BOTH_FREE,
@@ -29,6 +28,8 @@ from small_files import (
     to_cut,
     to_cut_both,
 )
+from tests.fuzz.bases import Cue
+from tests.fuzz.bridging import verdict
 
 # Bytes of the certificate of the first version: the head has the version at 4 to 5; the entry has its cue at 12 to 13, its
 # length at 16 to 17, the row of level 0 from 18 on, that of level 1 from 34 on, and the cost at 50 to 57. The bound of state
@@ -118,7 +119,7 @@ FREE_BYTES = (
 )
 
 
-def cut_certs():
+def cut_certs() -> Iterator[tuple[bytes, str]]:
     """Certificates of both versions, cut off at each byte, in the head's 12 bytes first, and with one byte more."""
     for cert in (WIDE, CERT):
         for length in range(len(cert)):
@@ -126,7 +127,7 @@ def cut_certs():
         yield cert + b"\0", "CertExtra"
 
 
-def turned_certs(files, places, channels, total):
+def turned_certs(files: dict[str, bytes], places: tuple[int, ...], channels: int, total: int) -> Iterator[Case]:
     """The certificates that differ in one bit: just those are accepted with one of some bits turned over at some places."""
     takes = [[[bit] * 16] * channels for bit in (1, 0)]
     cues, master = [Cue(*cue) for cue in CUES], [[1] * 8 + [0] * 8] * channels
@@ -140,7 +141,7 @@ def turned_certs(files, places, channels, total):
         yield Case(files | {"c.cert": turned}, [Step(CHECK.split(), int(line[0] == "r"), line[:-1])])
 
 
-def check_cases():
+def check_cases() -> Iterator[Case]:
     """The tables of masters and certificates that are accepted or rejected."""
     for cert in (FIRST, WIDE):
         yield Case(to_check(MASTER, cert), [done(CHECK, "accepted total 4")])

@@ -3,10 +3,12 @@
 Each is asked twice: with `--explain`, and without, where the answer, the status and the files are the same and no line
 follows. What needs more than small files is in tests/try_explained."""
 import struct
+from collections.abc import Iterator
+from typing import Any
 
-from asking import CHECK, EDIT, Case, Step
-from dsdiffs import chunk, dsdiff, mark_data
-from small_files import (
+from dsdarc_scripts.dsdiffs import chunk, dsdiff, mark_data
+from tests.commands.asking import CHECK, EDIT, Case, Step
+from tests.commands.small_files import (
     CERT,
     DECIMATE,
     FILE,
@@ -29,8 +31,8 @@ from small_files import (
     to_check,
     to_cut,
 )
-from sums import CHECK as JUDGE
-from sums import NOT_UTF_8, ONE
+from tests.commands.sums import NOT_UTF_8, ONE
+from tests.commands.sums import CHECK as JUDGE
 
 # More than two megabytes of sound, of which the end is missing.
 LONG_CUT = mono(bytes(2_153_286))[:2_000_000]
@@ -56,7 +58,7 @@ FILES = (
     (
         changed(FILE, 125, 100),
         "Dsdiff Chunk DataCut 114",
-        'the chunk "DSD " at byte 114 lacks 98 bytes, for what holds it ends at byte 128: fetch it again',
+        'the chunk "DSD " at byte 114 has 100 bytes by its size, past the end of what holds it: fetch it again',
     ),
     (
         changed(FILE, 96, ord("T")),
@@ -104,7 +106,7 @@ FILES = (
     (
         dsf(1, 32_768, b"\x0f", size=4000),
         "Dsf DataCut",
-        "the file ends 96 bytes early, at byte 4,092: fetch it again",
+        'its chunk "data" says that it holds 4,000 bytes, and its bits need 4,096 bytes',
     ),
     (
         LEAST[:20] + struct.pack("<Q", 5000) + LEAST[28:],
@@ -277,7 +279,7 @@ SLIPS = (
 )
 
 # Folders, command lines, faults, and the lines that explain them.
-OTHERS = (
+OTHERS: tuple[Any, ...] = (
     ({}, "info nope.dff", "ReadFailed", "nope.dff (FILE): No such file or directory"),
     ({}, "info none/nope", "ReadFailed", "none/nope (FILE): No such file or directory; there is no folder none"),
     ({}, "info .", "ReadFailed", ". (FILE): it is a folder"),
@@ -393,7 +395,7 @@ IS_FLAC = 'it begins with "fLaC": a FLAC file, not a DSDIFF or DSF file'
 SUM_LINE = "a line has to be one that dsdarc sum prints of a file"
 
 # What `sum` has no sums of and can't read as a list: files, words, the fault, why, and what is printed before.
-SUMS = (
+SUMS: tuple[Any, ...] = (
     ({}, ["sum", "none"], "ReadFailed  none", "none (FILE): No such file or directory", ""),
     (
         {"in": FILE},
@@ -456,13 +458,13 @@ SUMS = (
 
 ALL_COMMANDS = "the commands are info, convert, play, edit, check, sum; dsdarc --help prints the usage"
 
-PLAY_USAGE = "; usage: dsdarc play [--from T] [--to T] PROJECT IN OUT"
+PLAY_USAGE = "; usage: dsdarc play [--from T] [--to T] [--plus6] PROJECT IN OUT"
 SUM_USAGE = "; usage: dsdarc sum [--check] FILE.."
 FROM_0_TO_59 = "; after a colon come minutes or seconds from 0 to 59"
 A_PLACE = "takes a time (90, 1:30 or 1:02:03.5), a frame (@123456) or a mark of a DSDIFF file (#3)"
 
 # Words that are no command, and why.
-WORDS = (
+WORDS: tuple[Any, ...] = (
     ("", f"no command is named: {ALL_COMMANDS}"),
     ("plya p.toml in.dff out", '"plya" is no command; did you mean play?'),
     ("Info in.dff", '"Info" is no command; did you mean info?'),
@@ -513,7 +515,7 @@ FORMS = (
 )
 
 # Words of which one is no text or has what a terminal would act on.
-ODD_WORDS = (
+ODD_WORDS: tuple[Any, ...] = (
     (["info", b"caf\xe9\n.dff"], 3, "WrongWords", "a name has to be UTF-8, and caf\\xe9\\n.dff is not"),
     (
         ["info", "a\nb\x1b[31m\u202ec"],
@@ -595,7 +597,8 @@ REJECTED = (
         MASTER,
         changed(FREE, 7, 3),
         "CertHead Head",
-        "c.cert (CERT): it is of version 2, for 3 weights and 1 entry; the project has 2 weights and 1 entry",
+        "c.cert (CERT): it is not for 2 weights and 1 bridge in 1 channel, which the project has, or of an unknown "
+        "version: edit again",
     ),
     (
         splice([1, 1]),
@@ -662,11 +665,12 @@ UNPLAYED = (
 
 # Commands that play a byte, and what is said of what they wrote; among their files a list of filters.
 INDEX = b"# NAME RATES\n# p.toml 1\nother.toml 5644800 8 16 0\n"
-IS_FOR = "; the filter p.toml is for 5644800{0} Hz, and the file has 2822400 Hz: filters/pick finds the right one"
+IS_FOR = "; the filter p.toml is for 5644800{0} Hz, and the file has 2822400 Hz: filters/pick (installed: dsdarc-pick) "
+IS_FOR += "finds the right one"
 IS_WAVE = (
     " is a WAVE file, whatever its name: play writes no other, but a pipe from OUT - to another program makes them"
 )
-PLAYED = (
+PLAYED: tuple[Any, ...] = (
     ({}, "play p.toml in.dff out", ONE_FRAME),
     ({}, "play p.toml in.dff out.wav", ONE_FRAME),
     ({}, "play p.toml in.dff out.flac", f"{ONE_FRAME}; out.flac (OUT){IS_WAVE}"),
@@ -686,7 +690,15 @@ PLAYED = (
 EMPTY = "352800 Hz, 16 bits, 1 channel, 0:00:00.000; "
 
 
-def asked(files, words, status, line, why, made=None, before=""):
+def asked(
+    files: dict[str, bytes],
+    words: Any,
+    status: int,
+    line: str,
+    why: str,
+    made: dict[str, bytes] | None = None,
+    before: str = "",
+) -> Iterator[Case]:
     """A command line with `--explain` and without."""
     words = words.split() if isinstance(words, str) else list(words)
     made = made or {}
@@ -694,7 +706,7 @@ def asked(files, words, status, line, why, made=None, before=""):
     yield Case(files, [Step(words, status, line, made, "", before)])
 
 
-def refusals():
+def refusals() -> Iterator[tuple[dict[str, bytes], str, int, str, str, dict[str, bytes] | None]]:
     """All that comes to a fault: its files, words, status, fault, why, and the files that are made."""
     for data, line, why in FILES:
         yield {"in": data}, "info in", 2, f"FileUnread {line}", f"in (FILE): {why}", None
@@ -713,7 +725,7 @@ def refusals():
     why = "p.toml (PROJECT): it is a cue list, for edit and check; the ready filters are in filters/"
     yield {"in": FILE, "p.toml": TEXT}, "play p.toml in out", 2, "NoDecimation", why, {"out": b""}
     why = "in (IN) has 2,822,400 Hz, which the factor 1024 of p.toml does not divide: "
-    why += "filters/pick prints the filter that fits a file"
+    why += "filters/pick (installed: dsdarc-pick) prints the filter that fits a file"
     yield {"in": FILE, "p.toml": UNDIVIDED}, "play p.toml in out", 2, "RateNotDivided", why, {"out": b""}
     for data, words, line, why in UNPLAYED:
         yield {"in": data, "p.toml": DECIMATE}, f"play {words} p.toml in out", 2, line, why, None
@@ -736,7 +748,7 @@ def refusals():
 LAST = (b"start = 2", b"start = 2\n", b"take = 1", b"stop = 9")
 
 
-def explained_cases():
+def explained_cases() -> Iterator[Case]:
     """All mistakes, each as two command lines; and a command that is done, of which nothing is explained."""
     for files, words, status, line, why, made in refusals():
         yield from asked(files, words, status, f"fault: {line}", why, made)

@@ -1,13 +1,15 @@
 """Parts of recordings: each way to name a place, in each form; and faults, in their order, of which none makes a file or
 changes an old one."""
 import itertools
+from collections.abc import Iterator
+from typing import Any
 
-import waves
-from asking import Case, done, refused
-from bases import decimate_text
-from dsdiffs import chunk, dsdiff, mark_data, numbered
-from shapes import FILTERS, FORMS, SIZES, file_of, sounds, wave_of
-from small_files import DECIMATE, RATE, UNDIVIDED, mono
+from dsdarc_scripts import waves
+from dsdarc_scripts.dsdiffs import chunk, dsdiff, mark_data, numbered
+from tests.commands.asking import Case, Step, done, refused
+from tests.commands.shapes import FILTERS, FORMS, SIZES, file_of, sounds, wave_of
+from tests.commands.small_files import DECIMATE, RATE, UNDIVIDED, mono
+from tests.fuzz.bases import decimate_text
 
 # Bytes of each channel: they make as many frames by the first filter, each lasting 2.83 microseconds.
 FRAMES = SIZES[0]
@@ -49,7 +51,7 @@ WRONG = (
 )
 
 
-def part_of(wave, channels, decimate, start, stop):
+def part_of(wave: bytes, channels: int, decimate: dict[str, Any], start: int, stop: int) -> bytes:
     """The WAVE file of these frames of a recording, of which this one is the whole."""
     size = channels * decimate["width"] // 8
     samples = waves.read(wave).samples[start * size : stop * size]
@@ -57,7 +59,7 @@ def part_of(wave, channels, decimate, start, stop):
     return head + samples + bytes(len(samples) % 2)
 
 
-def marked(channels):
+def marked(channels: list[bytes]) -> bytes:
     """A DSDIFF file of these channels, with the marks."""
     inner = b"".join(chunk(b"MARK", mark_data(b"", samples=max(at, 0), offset=min(at, 0))) for at, _ in MARKS)
     ids = None if len(channels) == 2 else numbered(len(channels))
@@ -65,11 +67,11 @@ def marked(channels):
     return dsdiff(RATE, len(channels), sound, ids=ids, more=chunk(b"DIIN", inner))
 
 
-def played(words, wave, out="out"):
+def played(words: str, wave: bytes, out: str = "out") -> Step:
     return done(f"play {words} p.toml in {out}", f"played {len(wave)} bytes", {out: wave})
 
 
-def parts():
+def parts() -> Iterator[Case]:
     """Each part of each form, by its first filter, and some by both, of one to three channels."""
     for number, decimate in itertools.product((1, 2, 3), FILTERS):
         channels = sounds("parts", number, FRAMES)
@@ -89,7 +91,7 @@ def parts():
         yield Case({"in": file_of("dsf", channels), "p.toml": text}, [played("--from @1 --to @2", wave, "in")])
 
 
-def by_marks():
+def by_marks() -> Iterator[Case]:
     """Parts between marks, of one channel and of two."""
     for number in (1, 2):
         channels = sounds("marked", number, FRAMES)
@@ -104,7 +106,7 @@ def by_marks():
         yield Case({"in": marked(channels), "p.toml": DECIMATE}, steps)
 
 
-def faults():
+def faults() -> Iterator[Case]:
     """Faults, in their order: none of them makes a file, and an old one stays."""
     channels = sounds("faults", 1, FRAMES)
     files = {"in": marked(channels), "p.toml": DECIMATE, "old": OLD}
@@ -125,7 +127,7 @@ def faults():
     yield Case({"in": mono(b""), "p.toml": DECIMATE}, [played("--to @0", waves.head_of(RATE // 8, 1, 16, 0))])
 
 
-def part_cases():
+def part_cases() -> Iterator[Case]:
     """All tables of parts."""
     yield from parts()
     yield from by_marks()

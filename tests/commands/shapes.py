@@ -3,14 +3,15 @@ does of one channel. Files are made here of the bytes of each channel; samples, 
 second reading of the documents in tests/fuzz."""
 import itertools
 import random
+from collections.abc import Iterator, Sequence
+from typing import Any
 
-import bridging
-import reading
-import waves
-from asking import CHECK, Case, demand, done, rejected
-from bases import Cue, decimate_text, splice_text
-from dsdiffs import dsdiff, numbered
-from small_files import RATE, changed, dsf, told
+from dsdarc_scripts import waves
+from dsdarc_scripts.dsdiffs import dsdiff, numbered
+from tests.commands.asking import CHECK, Case, demand, done, rejected
+from tests.commands.small_files import RATE, changed, dsf, told
+from tests.fuzz import bridging, reading
+from tests.fuzz.bases import Cue, decimate_text, splice_text
 
 CHANNELS = range(1, 7)
 FORMS = ("dsdiff", "dsf", "dsf8")
@@ -24,7 +25,7 @@ FIVE = (b"MLFT", b"MRGT", b"C   ", b"LS  ", b"RS  ")
 SIX = (b"MLFT", b"MRGT", b"C   ", b"LFE ", b"LS  ", b"RS  ")
 
 # What is played: each sample as it is summed, to 16 bits; and every 32 bits, shifted, to 24.
-FILTERS = (
+FILTERS: tuple[dict[str, Any], ...] = (
     {"taps": [1, 2, 3, 4], "factor": 8, "delay": 3, "shift": 0, "width": 16},
     {"taps": [5 * k % 37 - 9 for k in range(75)], "factor": 32, "delay": 40, "shift": 1, "width": 24},
 )
@@ -41,12 +42,12 @@ NUMBERS = range(2, 13)
 EARLIEST_LOWEST = bytes(int(f"{byte:08b}"[::-1], 2) for byte in range(256))
 
 
-def sounds(seed, channels, size):
+def sounds(seed: str, channels: int, size: int) -> list[bytes]:
     """The bytes of each channel, the earliest bit of a byte its highest."""
     return [random.Random(f"{seed} {channel}").randbytes(size) for channel in range(channels)]
 
 
-def file_of(form, channels, ids=None):
+def file_of(form: str, channels: list[bytes], ids: Sequence[bytes] | None = None) -> bytes:
     """The file of a form that has these bytes in its channels."""
     size = len(channels[0])
     if form == "dsdiff":
@@ -58,11 +59,11 @@ def file_of(form, channels, ids=None):
     return dsf(1 if form == "dsf" else 8, 8 * size, sound, len(channels), len(sound))
 
 
-def bits_of(sound):
+def bits_of(sound: bytes) -> list[int]:
     return [byte >> k & 1 for byte in sound for k in range(7, -1, -1)]
 
 
-def sound_of(bits):
+def sound_of(bits: list[int]) -> bytes:
     text = "".join(map(str, bits))
     return bytes(int(text[at : at + 8], 2) for at in range(0, len(text), 8))
 
@@ -70,7 +71,7 @@ def sound_of(bits):
 # What is told of, and converted.
 
 
-def converted():
+def converted() -> Iterator[Case]:
     """Each form is told of, and written in each form; it says as much of four channels in another layout."""
     for number, size in itertools.product(CHANNELS, SIZES):
         channels = sounds("converted", number, size)
@@ -92,7 +93,7 @@ def converted():
 # What is played.
 
 
-def wave_of(channels, decimate):
+def wave_of(channels: list[bytes], decimate: dict[str, Any]) -> bytes:
     """The WAVE file of these channels."""
     bits = [bits_of(it) for it in channels]
     count, width = len(bits[0]), decimate["width"]
@@ -106,7 +107,7 @@ def wave_of(channels, decimate):
     return waves.head_of(RATE // decimate["factor"], len(bits), width, frames) + samples + bytes(len(samples) % 2)
 
 
-def played():
+def played() -> Iterator[Case]:
     """Each form is played by both filters."""
     for number, decimate in itertools.product(CHANNELS, FILTERS):
         channels = sounds("played", number, SIZES[0])
@@ -119,7 +120,7 @@ def played():
 # What is cut and checked.
 
 
-def cut(weights, number):
+def cut(weights: list[int], number: int) -> Iterator[Case]:
     """Three takes of so many channels, each in another form, are cut to each form and accepted; masters with another
     bit are rejected."""
     channels = [sounds(f"take {it}", number, TAKE_SIZE) for it in TAKES]
@@ -140,24 +141,26 @@ def cut(weights, number):
         yield Case(files | {"m.dff": data, "c.cert": cert}, [rejected(CHECK, line)])
 
 
-def other_masters(weights, takes, bits, cert):
+def other_masters(
+    weights: list[int], takes: list[list[list[int]]], bits: list[list[int]], cert: bytes
+) -> Iterator[tuple[bytes, str]]:
     """Masters of which a bit of the last channel is the other, and the first reason against them."""
     for place in (5, 8 * MASTER_SIZE - 1):
         yield with_turned(bits, place)[1], f"CuedBit {len(bits) - 1} {place}"
     other, data = with_turned(bits, FIRST_BRIDGE)
-    line = bridging.verdict(weights, takes, CUES, other, cert)
+    line = bridging.verdict(weights, takes, [*CUES], other, cert)
     demand(line.startswith("rejected Cert "), f"a bridge with another bit is {line}")
     yield data, line.strip().removeprefix("rejected ")
 
 
-def with_turned(bits, place):
+def with_turned(bits: list[list[int]], place: int) -> tuple[list[list[int]], bytes]:
     """The channels of a master with the other bit at a place of the last, and their file."""
     *front, last = bits
     other = [*front, [bit ^ (at == place) for at, bit in enumerate(last)]]
     return other, file_of("dsdiff", [sound_of(it) for it in other])
 
 
-def shape_cases():
+def shape_cases() -> Iterator[Case]:
     """The tables of recordings by their number of channels, and of cuts by their number of weights too."""
     yield from converted()
     yield from played()

@@ -1,24 +1,26 @@
 """Small files, what they are made of, and folders of them."""
 import struct
+from collections.abc import Sequence
+from typing import Any
 
-from asking import demand
-from bases import LAYOUTS, chunk_bytes, decimate_text, splice_text
-from dsdiffs import IDS, VERSION, chunk, dsdiff, mark, mark_data, numbered, property_chunks
+from dsdarc_scripts.dsdiffs import IDS, VERSION, chunk, dsdiff, mark, mark_data, numbered, property_chunks
+from tests.commands.asking import demand
+from tests.fuzz.bases import LAYOUTS, chunk_bytes, decimate_text, splice_text
 
 RATE = 2_822_400
 
 
-def mono(sound, more=b""):
+def mono(sound: bytes, more: bytes = b"") -> bytes:
     """A DSDIFF file of one channel."""
     return dsdiff(RATE, 1, sound, more=more)
 
 
-def stereo(sound):
+def stereo(sound: bytes) -> bytes:
     """A DSDIFF file of two channels, of which the sound has a byte in turn."""
     return dsdiff(RATE, 2, sound)
 
 
-def dsf(bits, count, sound, channels=1, size=4096, tag=b""):
+def dsf(bits: int, count: int, sound: bytes, channels: int = 1, size: int = 4096, tag: bytes = b"") -> bytes:
     """A DSF file: 1 or 8 bits per sample, so many bits a channel, this sound at the front of so many bytes, and a tag."""
     stop = 92 + size
     head = b"DSD " + struct.pack("<QQQ", 28, stop + len(tag), stop if tag else 0)
@@ -26,13 +28,13 @@ def dsf(bits, count, sound, channels=1, size=4096, tag=b""):
     return head + b"data" + struct.pack("<Q", 12 + size) + sound.ljust(size, b"\0") + tag
 
 
-def sized(size, file):
+def sized(size: int, file: bytes) -> bytes:
     """A file, which has so many bytes."""
     demand(len(file) == size, f"a file of {len(file)} bytes, not {size}")
     return file
 
 
-def changed(file, place, byte):
+def changed(file: bytes, place: int, byte: int) -> bytes:
     """A file with another byte at a place."""
     demand(place < len(file), f"no byte {place}")
     return file[:place] + bytes([byte]) + file[place + 1 :]
@@ -71,7 +73,7 @@ WITH_PARTS = sized(
 )
 
 
-def with_others(kind, *behind):
+def with_others(kind: bytes, *behind: tuple[bytes, bytes]) -> bytes:
     """One byte of sound with this compression and two kept chunks in its property, and these chunks of the form behind the
     sound."""
     parts = [*property_chunks(RATE, 1)[:2], (b"CMPR", kind), (b"LSCO", bytes(2)), (b"ABSS", b"\x01")]
@@ -168,21 +170,21 @@ NAMED_CUES = ((0, 0, 8, 1), (1, 2, 9, None, "one"))
 THERE_AND_BACK = ((0, 0, 8, 1), (1, 2, 3, 1), (0, 2, 7, 0))
 
 
-def splice(weights, cues=CUES):
+def splice(weights: list[int], cues: tuple[Any, ...] = CUES) -> bytes:
     return splice_text(weights, ("a.dff", "b.dff"), cues).encode()
 
 
-def to_cut(project, second=ZEROS, first=ONES):
+def to_cut(project: bytes, second: bytes = ZEROS, first: bytes = ONES) -> dict[str, bytes]:
     """A folder with a project and the takes that it names."""
     return {"e.toml": project, "a.dff": first, "b.dff": second}
 
 
-def to_cut_both(weights):
+def to_cut_both(weights: list[int]) -> dict[str, bytes]:
     """The same of two channels of ones and of zeros."""
     return to_cut(splice(weights), stereo(bytes(4)), stereo(b"\xff" * 4))
 
 
-def to_check(master, cert, cut=None):
+def to_check(master: bytes, cert: bytes, cut: dict[str, bytes] | None = None) -> dict[str, bytes]:
     """A folder of what is cut, by the weights 1 and 0 where nothing is told, with a master and a certificate."""
     return (cut or to_cut(splice([1, 0]))) | {"m.dff": master, "c.cert": cert}
 
@@ -193,11 +195,20 @@ TO_PLAY = {"in.dff": FILE, "p.toml": DECIMATE}
 ALL = to_cut(splice([1, 0])) | TO_PLAY | {"m.dff": MASTER, "c.cert": CERT, "a": FILE}
 
 
-def told(form, samples, *marks, channels=1, others=0, tag=0, ids=None, layout=None):
+def told(
+    form: str,
+    samples: int,
+    *marks: str,
+    channels: int = 1,
+    others: int = 0,
+    tag: int = 0,
+    ids: Sequence[bytes] | None = None,
+    layout: int | None = None,
+) -> str:
     """What is told of a file. Its channels have the IDs `SLFT` and `SRGT`, or `C000` and so on, and the usual layout,
     where no others are given."""
     ids = ids or (IDS[2] if channels == 2 else numbered(channels))
-    lines = f"form {form}", "rate 2822400", f"channels {channels}", f"samples {samples}"
+    lines = [f"form {form}", "rate 2822400", f"channels {channels}", f"samples {samples}"]
     lines += f"ids {' '.join(it.hex() for it in ids)}", f"layout {layout or LAYOUTS[channels - 1]}"
-    lines += (f"marks {len(marks)}",)
+    lines.append(f"marks {len(marks)}")
     return "\n".join((*lines, *marks, f"others {others}", f"tag {tag}"))

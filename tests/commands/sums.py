@@ -6,10 +6,26 @@ import os
 import shlex
 import subprocess
 import tempfile
+from collections.abc import Iterator
 
-from asking import PROGRAM, ROOT, Case, Step
-from shapes import CHANNELS, FORMS, SIZES, file_of, sounds
-from small_files import CUT_OFF, FILE, LEAST, LONG, LONG_MOST, MOST, NINE, NINE_MOST, RATE, TAGGED, dsf, mono, stereo
+from tests.commands.asking import PROGRAM, Case, Step
+from tests.commands.shapes import CHANNELS, FORMS, SIZES, file_of, sounds
+from tests.commands.small_files import (
+    CUT_OFF,
+    FILE,
+    LEAST,
+    LONG,
+    LONG_MOST,
+    MOST,
+    NINE,
+    NINE_MOST,
+    RATE,
+    TAGGED,
+    dsf,
+    mono,
+    stereo,
+)
+from tests.helpers.trials import ROOT
 
 # The line of one byte of sound, but for its name.
 ONE = f"{RATE} 8 {hashlib.sha256(bytes([0xf0])).hexdigest()}"
@@ -59,24 +75,24 @@ NO_LINES = (
 )
 
 
-def line_of(name, bits, *channels, rate=RATE):
+def line_of(name: str, bits: int, *channels: bytes, rate: int = RATE) -> str:
     """The line of a file: its rate, how many bits a channel has, and the digest of each channel's bytes."""
     return " ".join([f"{rate} {bits}", *(hashlib.sha256(it).hexdigest() for it in channels)]) + f"  {name}"
 
 
-def said(words, line):
+def said(words: list[str], line: str) -> Step:
     return Step(words, 0, line)
 
 
-def other(words, line):
+def other(words: list[str], line: str) -> Step:
     return Step(words, 1, line)
 
 
-def faulty(words, line, before=""):
+def faulty(words: list[str], line: str, before: str = "") -> Step:
     return Step(words, 2, f"fault: {line}", before=before)
 
 
-def shaped():
+def shaped() -> Iterator[Case]:
     """One to six channels in each form have the same line, and are as it lists them; with another bit they aren't."""
     for number, size in itertools.product(CHANNELS, SIZES):
         channels = sounds("summed", number, size)
@@ -113,7 +129,7 @@ ALIKE = (
 )
 
 
-def several():
+def several() -> Iterator[Case]:
     """Files are summed and judged one by one, and a fault of one doesn't keep the others."""
     files = {"a": FILE, "b": LEAST, "c": MOST, "d": TAGGED, "e": stereo(b"\xf0\x0f")}
     lines = [f"{ONE}  {name}" for name in "abcd"] + [line_of("e", 8, b"\xf0", b"\x0f")]
@@ -141,11 +157,11 @@ def several():
     for line in NO_LINES:
         text = f"{ONE}  in\n{line}\n{ONE}  in\n"
         yield Case({"in": FILE, "list": text.encode()}, [faulty(CHECK, "ListRefused line 2  list", "in: OK\nin: OK\n")])
-    for text in (b"", b"\0\xff\n", f"{ONE}  in\n\0\n".encode()):
-        yield Case({"in": FILE, "list": text}, [faulty(CHECK, "ListRefused  list")])
+    for other in (b"", b"\0\xff\n", f"{ONE}  in\n\0\n".encode()):
+        yield Case({"in": FILE, "list": other}, [faulty(CHECK, "ListRefused  list")])
 
 
-def untexted():
+def untexted() -> Iterator[Case]:
     """A name that isn't UTF-8 is one fault, and all others are summed or judged; as a word, in a list, and of a list."""
     for bytes_of, shown in NO_TEXTS.items():
         name = os.fsdecode(bytes_of)
@@ -170,7 +186,7 @@ def untexted():
     yield Case({"a": FILE}, [Step(["sum", *names, "a"], 2, faults[1:], before=f"{ONE}  a\n")])
 
 
-def sum_cases():
+def sum_cases() -> Iterator[Case]:
     """The tables of files that are summed, and judged by lists."""
     yield from shaped()
     for data, line in PARTS:
@@ -197,7 +213,7 @@ RECIPES = {"xargs -0 dsdarc sum --": (123, "", FAULTS), "dsdarc sum --check": (0
 LAUNCHERS = ('exec {program} "$@"', '. {root}/bin/launch.sh\nrun_child {program} "$@"')
 
 
-def cooked(folder, launcher):
+def cooked(folder: str, launcher: str) -> Iterator[str]:
     """Runs the recipes in an archive below a folder, and answers those that come to something else."""
     os.makedirs(f"{folder}/archive/by")
     for name, data in (BELOW | dict.fromkeys(BELOW_NOT, FILE)).items():
@@ -217,9 +233,9 @@ def cooked(folder, launcher):
             yield f"{line}: {told}, not {must}"
 
 
-def recipe():
+def recipe() -> int:
     """The recipe sums each file of an archive whose name is UTF-8, and judges these: 0, or 1 where something was found."""
-    found = []
+    found: list[str] = []
     for launcher in LAUNCHERS:
         with tempfile.TemporaryDirectory() as folder:
             found += cooked(folder, launcher)

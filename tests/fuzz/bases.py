@@ -5,8 +5,10 @@ the sizes round them mended."""
 import random
 import struct
 from collections import namedtuple
+from collections.abc import Iterable, Sequence
+from typing import Any
 
-import dsdiffs
+from dsdarc_scripts import dsdiffs
 
 RATES = (2_822_400, 5_644_800, 11_289_600)
 LAYOUTS = (1, 2, 3, 4, 6, 7)
@@ -15,13 +17,15 @@ LAYOUTS = (1, 2, 3, 4, 6, 7)
 Base = namedtuple("Base", "name kind data tree sound")
 
 
-def chunk_bytes(node):
+def chunk_bytes(node: tuple[Any, ...]) -> bytes:
     name, *rest = node
     data = rest[0] if len(rest) == 1 else rest[0] + b"".join(map(chunk_bytes, rest[1]))
     return dsdiffs.chunk(name, data)
 
 
-def dsdiff_tree(rng, channels, frames, rate, is_rich):
+def dsdiff_tree(
+    rng: random.Random, channels: int, frames: int, rate: int, is_rich: bool
+) -> tuple[bytes, bytes, list[tuple[Any, ...]]]:
     property_chunks = dsdiffs.property_chunks(rate, channels)
     chunks = [dsdiffs.VERSION, (b"PROP", b"SND ", property_chunks)]
     if is_rich:
@@ -48,14 +52,14 @@ def dsdiff_tree(rng, channels, frames, rate, is_rich):
     return (b"FRM8", b"DSD ", chunks)
 
 
-def dsdiff_of(channels, sound):
+def dsdiff_of(channels: int, sound: bytes) -> bytes:
     """The DSDIFF file of a sound."""
     tree = dsdiff_tree(random.Random(0), channels, 0, RATES[0], False)
     tree[2][-1] = (b"DSD ", sound)
     return chunk_bytes(tree)
 
 
-def find_sound(tree):
+def find_sound(tree: tuple[bytes, bytes, list[tuple[Any, ...]]]) -> tuple[int, int]:
     """The first place of a DSDIFF file's sound and the one behind it."""
     at = 16
     for node in tree[2]:
@@ -63,15 +67,26 @@ def find_sound(tree):
         if node[0] == b"DSD ":
             return at + 12, at + 12 + len(node[1])
         at += len(data)
-    return None
+    raise ValueError("no sound")
 
 
-def dsdiff(rng, name, channels, frames, rate=RATES[0], is_rich=False):
+def dsdiff(
+    rng: random.Random, name: str, channels: int, frames: int, rate: int = RATES[0], is_rich: bool = False
+) -> Base:
     tree = dsdiff_tree(rng, channels, frames, rate, is_rich)
     return Base(name, "dsdiff", chunk_bytes(tree), tree, find_sound(tree))
 
 
-def dsf(rng, name, channels, count, rate=RATES[0], per_sample=1, tag=b"", rest=0):
+def dsf(
+    rng: random.Random,
+    name: str,
+    channels: int,
+    count: int,
+    rate: int = RATES[0],
+    per_sample: int = 1,
+    tag: bytes = b"",
+    rest: int = 0,
+) -> Base:
     groups = -(-count // 32768)
     sound = rng.randbytes(groups * channels * 4096)
     stop = 92 + len(sound)
@@ -82,7 +97,7 @@ def dsf(rng, name, channels, count, rate=RATES[0], per_sample=1, tag=b"", rest=0
     return Base(name, "dsf", head + sound + bytes(rest) + tag, None, (92, stop))
 
 
-def recordings(rng):
+def recordings(rng: random.Random) -> list[Base]:
     """The recordings that are mutated."""
     tag = b"ID3\x03\0\0\0\0\0\x15TIT2\0\0\0\x0b\0\0\0one title!"
     return [
@@ -102,11 +117,11 @@ def recordings(rng):
     ]
 
 
-def decimate_text(taps, factor, delay, shift, width):
+def decimate_text(taps: Sequence[object], factor: int, delay: int, shift: int, width: int) -> str:
     return f"[decimate]\ntaps = {taps}\nfactor = {factor}\ndelay = {delay}\nshift = {shift}\nwidth = {width}\n"
 
 
-def filters():
+def filters() -> list[str]:
     """Projects that play."""
     return [
         decimate_text([1, 2, 3, 4], 8, 3, 0, 16),
@@ -121,7 +136,7 @@ def filters():
 Cue = namedtuple("Cue", "take start stop bridge title line", defaults=(None, None, None))
 
 
-def cue_text(cue):
+def cue_text(cue: Cue) -> str:
     text = f"\n[[splice.cue]]\ntake = {cue.take}\nstart = {cue.start}\nstop = {cue.stop}\n"
     if cue.bridge is not None:
         text += f"bridge = {cue.bridge}\n"
@@ -132,7 +147,7 @@ def cue_text(cue):
     return text
 
 
-def splice_text(weights, takes, cues):
+def splice_text(weights: list[int], takes: Iterable[str], cues: Iterable[tuple]) -> str:
     names = ", ".join(f'"{name}"' for name in takes)
     return f"[splice]\nweights = {weights}\ntakes = [{names}]\n" + "".join(cue_text(Cue(*cue)) for cue in cues)
 
@@ -141,10 +156,10 @@ def splice_text(weights, takes, cues):
 Cut = namedtuple("Cut", "name project takes forms")
 
 
-def cuts(rng):
+def cuts(rng: random.Random) -> list[Cut]:
     """Projects that cut masters, with their takes."""
 
-    def take(name, channels, frames):
+    def take(name: str, channels: int, frames: int) -> Base:
         return dsdiff(rng, name, channels, frames)
 
     any_form = ("dsdiff", "dsf", "dsf8")

@@ -3,17 +3,19 @@ all lists of so many bits, and each bound of its certificate too. Of longer brid
 may bound them, and what a certificate shows of them. Takes are lists of channels, which are lists of bits, and cues
 those of bases.py."""
 import itertools
+from collections.abc import Iterator, Sequence
 from functools import cached_property
 
-import certificates
-from certificates import NO_WAY
+from tests.fuzz import certificates
+from tests.fuzz.bases import Cue
+from tests.fuzz.certificates import NO_WAY
 
 
-def weighted(weights, bits, place):
+def weighted(weights: list[int], bits: list[int], place: int) -> int:
     return sum(weight if bits[place - k] else -weight for k, weight in enumerate(weights))
 
 
-def line_targets(weights, ends, length):
+def line_targets(weights: list[int], ends: tuple[int, int] | list[int], length: int) -> Iterator[int]:
     """The targets of the places 1, 2 and so on of a straight line."""
     first, last = ends
     for i in range(1, length + 1):
@@ -22,7 +24,9 @@ def line_targets(weights, ends, length):
         yield (length + 1) * last
 
 
-def fade_targets(weights, before, stop, after, start, length):
+def fade_targets(
+    weights: list[int], before: list[int], stop: int, after: list[int], start: int, length: int
+) -> Iterator[int]:
     """The targets of the places 1, 2 and so on of a fade, from the end of a cue to the start of the next."""
     for i in range(1, length + 1):
         yield (length + 1 - i) * weighted(weights, before, stop + i - 1) + i * weighted(
@@ -32,7 +36,7 @@ def fade_targets(weights, before, stop, after, start, length):
         yield (length + 1) * weighted(weights, after, start + i - length - 1)
 
 
-def state_of(bits):
+def state_of(bits: list[int]) -> int:
     return int("".join(map(str, bits)), 2)
 
 
@@ -40,7 +44,7 @@ class Bridge:
     """The bridge between two cues, from the bits of the one's take to those of the other's: what its bits and their fronts
     cost."""
 
-    def __init__(self, weights, cue, before, next_cue, after):
+    def __init__(self, weights: list[int], cue: Cue, before: list[int], next_cue: Cue, after: list[int]) -> None:
         self.weights, self.length, self.width = weights, cue.bridge, len(weights) - 1
         stop, start = cue.stop, next_cue.start
         if cue.line is not None:
@@ -50,23 +54,23 @@ class Bridge:
         self.preceding, self.following = before[stop - self.width : stop], after[start : start + self.width]
         self.start = state_of(self.preceding)
 
-    def cost(self, bits, places):
+    def cost(self, bits: list[int], places: int) -> int:
         """The squared deviations at so many places, the last of these bits being read at the last of them at most."""
         heard = self.preceding + bits
         sums = (weighted(self.weights, heard, self.width + i) for i in range(places))
         return sum(((self.length + 1) * it - target) ** 2 for it, target in zip(sums, self.targets))
 
-    def cost_of(self, bits):
+    def cost_of(self, bits: list[int]) -> int:
         """What the bridge costs with these bits."""
         return self.cost(bits + self.following, len(self.targets))
 
-    def best(self):
+    def best(self) -> tuple[int, list[int]]:
         """The least cost, and the first of the lists that cost it, read from the last bit."""
         every = (list(it) for it in itertools.product((0, 1), repeat=self.length))
         cost, backwards = min((self.cost_of(it), it[::-1]) for it in every)
         return cost, backwards[::-1]
 
-    def row(self, level):
+    def row(self, level: int) -> list[int]:
         """The bounds of a level: for each state the least cost of a front that leads there."""
         row = [NO_WAY] * 2**self.width
         for front in itertools.product((0, 1), repeat=level):
@@ -75,22 +79,22 @@ class Bridge:
         return row
 
     @cached_property
-    def sums(self):
+    def sums(self) -> list[int]:
         """The weighted sum of each state with a bit behind it, as one number."""
         codes = range(2 ** len(self.weights))
         return [sum(weight if code >> k & 1 else -weight for k, weight in enumerate(self.weights)) for code in codes]
 
-    def step(self, place, code):
+    def step(self, place: int, code: int) -> int:
         """What a bit costs at a place, behind a state."""
         return ((self.length + 1) * self.sums[code] - self.targets[place - 1]) ** 2
 
-    def ways(self, level, bounds):
+    def ways(self, level: int, bounds: list[int]) -> list[int]:
         """What leads to each state of a level: the least of the bounds of the level before plus their steps."""
         half = 2**self.width
         codes = ((state, state + half) for state in range(half))
         return [min(bounds[code // 2] + self.step(level, code) for code in both) for both in codes]
 
-    def tail(self, state):
+    def tail(self, state: int) -> int:
         """What the places after the bridge cost, where it ends in this state."""
         total = 0
         for place, bit in enumerate(self.following, self.length + 1):
@@ -98,7 +102,7 @@ class Bridge:
             total, state = total + self.step(place, code), code % 2**self.width
         return total
 
-    def rows(self):
+    def rows(self) -> Iterator[list[int]]:
         """The bounds of all levels, each from the one before."""
         row = [NO_WAY] * 2**self.width
         row[self.start] = 0
@@ -108,7 +112,9 @@ class Bridge:
             yield row
 
 
-def bridges_of(weights, takes, cues):
+def bridges_of(
+    weights: list[int], takes: list[list[list[int]]], cues: Sequence[Cue]
+) -> Iterator[tuple[int, int, Bridge]]:
     """The number of the cue before each bridge, the channel, and the bridge, in the order of a certificate."""
     for number, (cue, next_cue) in enumerate(zip(cues, cues[1:])):
         for channel, (before, after) in enumerate(zip(takes[cue.take], takes[next_cue.take])):
@@ -116,25 +122,27 @@ def bridges_of(weights, takes, cues):
                 yield number, channel, Bridge(weights, cue, before, next_cue, after)
 
 
-def master(weights, takes, cues):
+def master(
+    weights: list[int], takes: list[list[list[int]]], cues: Sequence[Cue]
+) -> tuple[list[list[int]], list[certificates.Entry], int]:
     """The channels of a master, the entries of its certificate with the bounds not cut, and its total."""
     bits, entries = {}, []
     for number, channel, bridge in bridges_of(weights, takes, cues):
         cost, bits[number, channel] = bridge.best()
         rows = [bridge.row(level) for level in range(bridge.length + 1)]
         entries.append(certificates.Entry(number, channel, rows, cost))
-    channels = [[] for _ in takes[0]]
+    channels: list[list[int]] = [[] for _ in takes[0]]
     for (number, cue), channel in itertools.product(enumerate(cues), range(len(channels))):
         channels[channel] += takes[cue.take][channel][cue.start : cue.stop] + bits.get((number, channel), [])
     return channels, entries, sum(entry.cost for entry in entries)
 
 
-def written(weights, entries):
+def written(weights: list[int], entries: list[certificates.Entry]) -> bytes:
     """The certificate that `edit` writes of such entries."""
     return certificates.spelled(2, len(weights), certificates.cut_at_cost(entries))
 
 
-def bridge_places(cues):
+def bridge_places(cues: Sequence[Cue]) -> Iterator[tuple[int, int]]:
     """The first place of the bridge behind each cue in the master, and the one behind its last."""
     place = 0
     for cue in cues:
@@ -143,7 +151,7 @@ def bridge_places(cues):
         yield first, place
 
 
-def are_cued(takes, cues, channels):
+def are_cued(takes: list[list[list[int]]], cues: Sequence[Cue], channels: list[list[int]]) -> bool:
     """Whether each bit of a cue is its take's."""
     start = 0
     for cue, (first, stop) in zip(cues, bridge_places(cues)):
@@ -154,7 +162,9 @@ def are_cued(takes, cues, channels):
     return True
 
 
-def entries_of(weights, takes, cues, channels):
+def entries_of(
+    weights: list[int], takes: list[list[list[int]]], cues: Sequence[Cue], channels: list[list[int]]
+) -> list[certificates.Entry]:
     """The entries of the certificate of a master that has least bridges, their bounds not cut."""
     places, entries = list(bridge_places(cues)), []
     for number, channel, bridge in bridges_of(weights, takes, cues):
@@ -163,7 +173,9 @@ def entries_of(weights, takes, cues, channels):
     return entries
 
 
-def total_of(weights, takes, cues, channels):
+def total_of(
+    weights: list[int], takes: list[list[list[int]]], cues: Sequence[Cue], channels: list[list[int]]
+) -> int | None:
     """What the bridges of a master's channels cost, or None where a cue has other bits than its take."""
     if not are_cued(takes, cues, channels):
         return None
@@ -172,7 +184,9 @@ def total_of(weights, takes, cues, channels):
     return sum(bridge.cost_of(channels[channel][slice(*places[number])]) for number, channel, bridge in every)
 
 
-def verdict(weights, takes, cues, channels, data):
+def verdict(
+    weights: list[int], takes: list[list[list[int]]], cues: Sequence[Cue], channels: list[list[int]], data: bytes
+) -> str:
     """The line that `check` prints of a master with these channels, which holds the cues, and of a certificate."""
     bridges, places = list(bridges_of(weights, takes, cues)), list(bridge_places(cues))
     reader, part, total = certificates.Reader(data), "CertHead", 0

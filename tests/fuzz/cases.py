@@ -1,21 +1,19 @@
 """The cases: each makes files, runs commands over them and demands what has to hold of them together."""
 import itertools
 import os
+import random
 import re
 import struct
 import tomllib
 from collections import namedtuple
+from collections.abc import Callable, Iterable
+from typing import Any
 
-import bases
-import bridging
-import certificates
-import mutating
-import projects
-import reading
-import waves
-from channels import read as sums_of
-from judging import Failure, cert_sizes, converted, demand, fault_of, judge_run, told, wave_head
-from running import MEGABYTE
+from dsdarc_scripts import waves
+from dsdarc_scripts.channels import read as sums_of
+from tests.fuzz import bases, bridging, certificates, mutating, projects, reading
+from tests.fuzz.judging import Failure, cert_sizes, converted, demand, fault_of, judge_run, told, wave_head
+from tests.fuzz.running import MEGABYTE, Program, Run
 
 # How much memory a run may take: so many times the bytes that it reads and writes, and so much more.
 TIMES = 4
@@ -36,36 +34,36 @@ OLD = b"what stood here before"
 class Case:
     """One case: its files, its runs and what was done to the files."""
 
-    def __init__(self, program, rng, tell):
+    def __init__(self, program: Program, rng: random.Random, tell: Callable[[Run], None]) -> None:
         self.program, self.rng, self.tell = program, rng, tell
-        self.changes = []
-        self.files = {}
-        self.made = set()
-        self.limit_part = None
+        self.changes: list[object] = []
+        self.files: dict[str, bytes] = {}
+        self.made: set[str] = set()
+        self.limit_part: float | None = None
         for name in os.listdir(program.folder):
             os.remove(os.path.join(program.folder, name))
 
-    def path(self, name):
+    def path(self, name: str) -> str:
         return os.path.join(self.program.folder, name)
 
-    def put(self, name, data):
+    def put(self, name: str, data: bytes) -> None:
         self.files[name] = data
         with open(self.path(name), "wb") as file:
             file.write(data)
 
-    def get(self, name):
+    def get(self, name: str) -> bytes:
         demand(self.has(name), f"{name} isn't there")
         with open(self.path(name), "rb") as file:
             return file.read()
 
-    def has(self, name):
+    def has(self, name: str) -> bool:
         return os.path.exists(self.path(name))
 
-    def take(self, name):
+    def take(self, name: str) -> None:
         """A file that the program wrote: it is one of the case's files from now on."""
         self.files[name] = self.get(name)
 
-    def run(self, words, made=(), more=0, source=None):
+    def run(self, words: list[str], made: Iterable[str] = (), more: int = 0, source: str | None = None) -> Run:
         """Runs the program, and demands what holds of every run. `made` are the files that it may make or write, `more`
         bytes of memory that the files' sizes don't tell."""
         read = sum(map(len, self.files.values()))
@@ -82,7 +80,7 @@ class Case:
         demand(not extra, f"made {extra}")
         return run
 
-    def demand_unmade(self, run, *names):
+    def demand_unmade(self, run: Run, *names: str) -> None:
         """After a fault no file is made, and one that was there is as it was."""
         for name in names:
             if name in self.files:
@@ -90,12 +88,12 @@ class Case:
             else:
                 demand(not self.has(name), f"{name} was made, though {run.err!r}")
 
-    def demand_made(self, *names):
+    def demand_made(self, *names: str) -> None:
         for name in names:
             self.take(name)
 
 
-def name_now_and_then(case, name):
+def name_now_and_then(case: Case, name: str) -> str:
     """Something stands under an output's name before, now and then."""
     if case.rng.random() < 0.1:
         case.put(name, OLD)
@@ -105,7 +103,7 @@ def name_now_and_then(case, name):
 # Recordings.
 
 
-def a_recording(case):
+def a_recording(case: Case) -> tuple[bases.Base, bytes, bool]:
     base = case.rng.choice(bases.recordings(case.rng))
     if case.rng.random() < 0.1:
         case.changes = [base.name, "change_sound"]
@@ -115,7 +113,7 @@ def a_recording(case):
     return base, data, False
 
 
-def convert(case, info, form, source, out):
+def convert(case: Case, info: dict[str, Any], form: str, source: str, out: str) -> dict[str, Any] | None:
     """Converts a file that is read as `info`. Answers what is read of the other file, or None where there is none."""
     run = case.run(["convert", form, source, out], made=[out], more=6 * 4096)
     if form == "dsdiff" and info["samples"] % 8:
@@ -130,7 +128,7 @@ def convert(case, info, form, source, out):
     return there
 
 
-def convert_and_back(case, info, source):
+def convert_and_back(case: Case, info: dict[str, Any], source: str) -> dict[str, Any] | None:
     """Converts a file, back, and once more: the first and the last are equal."""
     form = case.rng.choice(FORMS)
     there = convert(case, info, form, source, name_now_and_then(case, "out"))
@@ -142,7 +140,7 @@ def convert_and_back(case, info, source):
     return there
 
 
-def play(case, info, source, out, decimate):
+def play(case: Case, info: dict[str, Any], source: str, out: str, decimate: dict[str, Any]) -> bytes | None:
     """Plays a file that is read as `info` by a project that stands."""
     through = case.rng.random() < 0.1
     words = ["play", "project", "/dev/stdin" if through else source, out]
@@ -158,7 +156,7 @@ def play(case, info, source, out, decimate):
     return wave
 
 
-def refuse_to_play(case, run, out):
+def refuse_to_play(case: Case, run: Run, out: str) -> None:
     """What is left of a WAVE file after a fault: nothing where it comes before the first write, else a front."""
     demand(run.status == 2, "played, but not read")
     left = case.get(out)
@@ -167,7 +165,7 @@ def refuse_to_play(case, run, out):
     demand(left[:4] == b"RIFF"[: len(left)], "what is left is no front of a WAVE file")
 
 
-def told_of(case, name, data, is_sound):
+def told_of(case: Case, name: str, data: bytes, is_sound: bool) -> tuple[Run, dict[str, Any] | None, Any]:
     """What `info` tells of a file, or None: as a plain reading of it has it, the refusal too."""
     run = case.run(["info", name])
     try:
@@ -181,7 +179,7 @@ def told_of(case, name, data, is_sound):
     return run, expected, bit_at
 
 
-def judge_bits(case, info, bit_at, name):
+def judge_bits(case: Case, info: dict[str, Any], bit_at: Callable[[int, int], int], name: str) -> None:
     """Whether another file of the same recording has the same bits: at some places of each channel."""
     _, other = reading.read(case.get(name))
     count = info["samples"]
@@ -192,7 +190,9 @@ def judge_bits(case, info, bit_at, name):
             )
 
 
-def judge_samples(case, info, bit_at, decimate, wave):
+def judge_samples(
+    case: Case, info: dict[str, Any], bit_at: Callable[[int, int], int], decimate: dict[str, Any], wave: bytes
+) -> None:
     """Whether a WAVE file holds the samples of a recording: some of each channel."""
     samples, channels, size = waves.read(wave).samples, info["channels"], decimate["width"] // 8
     frames = -(-info["samples"] // decimate["factor"])
@@ -204,14 +204,14 @@ def judge_samples(case, info, bit_at, decimate, wave):
             demand(found == expected, f"sample {number} of channel {channel} is {found}, not {expected}")
 
 
-def refuse_to_convert(case, seen):
+def refuse_to_convert(case: Case, seen: Run) -> None:
     """A file that `info` refuses is refused by `convert` as well, and nothing is made."""
     run = case.run(["convert", case.rng.choice(FORMS), "in", name_now_and_then(case, "out")], made=["out"])
     demand(run.status == 2 and run.err == seen.err, "info and convert name two faults")
     case.demand_unmade(run, "out")
 
 
-def recording_case(case):
+def recording_case(case: Case) -> None:
     """A recording's file: told of, converted, back, and played."""
     base, data, is_sound = a_recording(case)
     case.put("in", data)
@@ -236,7 +236,7 @@ def recording_case(case):
         demand(wave == play(case, there, "out", "other", decimate), "the converted file plays other samples")
 
 
-def a_long_recording(case):
+def a_long_recording(case: Case) -> bases.Base:
     """A recording of some megabytes."""
     rng, count = case.rng, case.rng.randint(1, 6)
     frames = LONG // count + rng.randrange(LONG // 2 // count)
@@ -248,9 +248,9 @@ def a_long_recording(case):
     )
 
 
-def long_case(case):
+def long_case(case: Case) -> None:
     """A file that is converted as a stream: told of, and converted, back and once more, each channel with all its bits."""
-    base, names = a_long_recording(case), []
+    base, names = a_long_recording(case), list[str]()
     data = base.data
     if case.rng.random() < 0.5:
         data, names = mutating.mutate_recording(case.rng, base)
@@ -267,7 +267,7 @@ def long_case(case):
 UNKNOWN = object()
 
 
-def play_fault(data, info):
+def play_fault(data: bytes, info: dict[str, Any]) -> object:
     """The fault of playing a file that is read as `info` by a project: None where it is played, UNKNOWN where that isn't
     known."""
     try:
@@ -281,14 +281,14 @@ def play_fault(data, info):
     return "RateNotDivided" if info["rate"] % document["decimate"]["factor"] else None
 
 
-def edit_fault(case, data, form):
+def edit_fault(case: Case, data: bytes, form: str) -> object:
     try:
         return projects.edit_fault(data, case.program.folder, form)
     except projects.Unknown:
         return UNKNOWN
 
 
-def judge_refusal(run, expected):
+def judge_refusal(run: Run, expected: object) -> None:
     if expected is UNKNOWN:
         return
     if expected is None:
@@ -297,7 +297,7 @@ def judge_refusal(run, expected):
         demand(run.err.decode() == f"fault: {expected}\n", f"not refused as {expected}")
 
 
-def filter_case(case):
+def filter_case(case: Case) -> None:
     """A project that plays, changed, and a file that stands."""
     data, names = mutating.mutate_project(case.rng, case.rng.choice(bases.filters()).encode())
     base = case.rng.choice(bases.recordings(case.rng))
@@ -325,7 +325,7 @@ def filter_case(case):
 Plan = namedtuple("Plan", "weights cues bridges")
 
 
-def plan_of(data):
+def plan_of(data: bytes) -> Plan | None:
     """The number of weights, and the lengths of the cues and bridges, of a project's text: None where it is none."""
     try:
         splice = tomllib.loads(data.decode().removeprefix("\ufeff"))["splice"]
@@ -341,7 +341,7 @@ def plan_of(data):
     return plan if is_plan else None
 
 
-def room_of(case, name):
+def room_of(case: Case, name: str) -> int:
     """How much a master and its certificate may take beyond what the files tell. No cue that is longer than a take comes
     so far, and no bridge of more than 4096 bits."""
     plan = plan_of(case.files[name])
@@ -353,7 +353,7 @@ def room_of(case, name):
     return cert_sizes(plan.weights, 6, bridges)[1] + 6 * (bits // 8 + 2 * 4096)
 
 
-def put_takes(case, cut, can_change):
+def put_takes(case: Case, cut: bases.Cut, can_change: bool) -> None:
     for name, base in cut.takes.items():
         data = base.data
         if can_change and case.rng.random() < 0.5:
@@ -362,7 +362,7 @@ def put_takes(case, cut, can_change):
         case.put(name, data)
 
 
-def cut_case(case):
+def cut_case(case: Case) -> None:
     """A project that cuts or its takes, changed: cut, cut again, and checked."""
     cut = case.rng.choice(bases.cuts(case.rng))
     data = cut.project.encode()
@@ -387,7 +387,7 @@ def cut_case(case):
     judge_cut(case, data, form, run, room)
 
 
-def judge_cut(case, data, form, run, room):
+def judge_cut(case: Case, data: bytes, form: str, run: Run, room: int) -> None:
     """A master that was cut: what is told of it, that it is accepted, and that it is cut again."""
     info = told(case.run(["info", "master"], more=room))
     demand(info["form"] == form and info["others"] == 0 and info["tag"] == 0, "another master")
@@ -408,7 +408,7 @@ def judge_cut(case, data, form, run, room):
         )
 
 
-def splice_of(case, data):
+def splice_of(case: Case, data: bytes) -> tuple[list[int], list[list[list[int]]], list[bases.Cue]]:
     """The weights of a project's text, the bits of its takes, and its cues."""
     splice, cues = projects.read(data)["splice"], []
     takes = [reading.bits_of(projects.bytes_of(case.program.folder, name)) for name in splice["takes"]]
@@ -417,7 +417,7 @@ def splice_of(case, data):
     return splice["weights"], takes, cues
 
 
-def judge_bridges(case, data, total):
+def judge_bridges(case: Case, data: bytes, total: str) -> None:
     """Whether the bits of a master are those of the cues, its bridges cost what is told, and its certificate has the
     bounds that come of them, where these aren't too many to be found here."""
     try:
@@ -434,7 +434,7 @@ def judge_bridges(case, data, total):
         demand(case.files["cert"] == cert, "another certificate")
 
 
-def check_case(case):
+def check_case(case: Case) -> None:
     """A master and its certificate, either changed: judged."""
     cut = case.rng.choice(bases.cuts(case.rng))
     form = case.rng.choice(cut.forms)
@@ -457,7 +457,7 @@ def check_case(case):
         demand(re.fullmatch(expected, run.out.decode()), f"not {expected!r}")
 
 
-def cut_certificate(case, cut, form):
+def cut_certificate(case: Case, cut: bases.Cut, form: str) -> str:
     """The front of a certificate of either version: which entry is cut is known."""
     version = case.rng.choice((1, 2))
     weights, entries = certificates.read(case.files["cert"])
@@ -471,13 +471,13 @@ def cut_certificate(case, cut, form):
     return f"rejected Cert {sum(stop <= size for stop in stops)} Cut\n"
 
 
-def lengthened_certificate(case, cut, form):
+def lengthened_certificate(case: Case, cut: bases.Cut, form: str) -> str:
     case.changes.append("lengthened")
     case.put("cert", case.files["cert"] + case.rng.randbytes(case.rng.choice((1, 8, 5000))))
     return "rejected CertExtra\n"
 
 
-def changed_certificate(case, cut, form):
+def changed_certificate(case: Case, cut: bases.Cut, form: str) -> str:
     """A certificate of either version, its bounds cut at the cost or not, changed: a plain reading says what it
     shows."""
     splice, channels = splice_of(case, case.files["project"]), reading.bits_of(case.files["master"])
@@ -490,7 +490,7 @@ def changed_certificate(case, cut, form):
     return bridging.verdict(*splice, channels, data)
 
 
-def master_base(case, form):
+def master_base(case: Case, form: str) -> bases.Base:
     """The master as a file to be mutated: as written, the sound of a DSDIFF master stands behind `DSD ` and its size."""
     data = case.files["master"]
     if form != "dsdiff":
@@ -500,25 +500,26 @@ def master_base(case, form):
     return bases.Base("master", "dsdiff", data, None, (at + 12, at + 12 + size))
 
 
-def changed_master(case, cut, form):
+def changed_master(case: Case, cut: bases.Cut, form: str) -> None:
     data, names = mutating.mutate_recording(case.rng, master_base(case, form))
     case.changes += names
     case.put("master", data)
     return None
 
 
-def channels_of(cut):
+def channels_of(cut: bases.Cut) -> int:
     """How many channels a cut's takes have."""
     tree = next(iter(cut.takes.values())).tree
     (channels,) = (node[1][:2] for node in tree[2][1][2] if node[0] == b"CHNL")
     return int.from_bytes(channels, "big")
 
 
-def bit_of_master(case, cut, form):
+def bit_of_master(case: Case, cut: bases.Cut, form: str) -> str:
     """One bit of a master turned: in a cue its place is told, in a bridge the certificate doesn't show it to be least,
     unless it costs as little."""
     base = master_base(case, form)
     plan, channels = plan_of(case.files["project"]), channels_of(cut)
+    assert plan
     channel, place = case.rng.randrange(channels), case.rng.randrange(sum(plan.cues + plan.bridges))
     case.changes.append(f"bit {place} of channel {channel}")
     if form == "dsdiff":
@@ -534,7 +535,7 @@ def bit_of_master(case, cut, form):
     return r"accepted total \d+\n|rejected Cert \d+ Cost\n"
 
 
-def is_in_cue(plan, place):
+def is_in_cue(plan: Plan, place: int) -> bool:
     for cue, bridge in zip(plan.cues, plan.bridges):
         if place < cue + bridge:
             return place < cue
@@ -542,7 +543,7 @@ def is_in_cue(plan, place):
     raise Failure("a place behind the master's end")
 
 
-def small_takes(rng, channels):
+def small_takes(rng: random.Random, channels: int) -> list[tuple[bytes, list[list[int]]]]:
     """Two takes of 128 bits a channel, their channels as lists too: bits by chance, or such as leave bridges that tie."""
     kind = rng.randrange(3)
     takes = []
@@ -553,13 +554,13 @@ def small_takes(rng, channels):
     return takes
 
 
-def small_line(rng):
+def small_line(rng: random.Random) -> Any:
     """The ends of a line, or None for a fade."""
     most = rng.choice((None, 9, 4096))
     return most and tuple(rng.choice((-most, 0, most, rng.randint(-most, most))) for _ in range(2))
 
 
-def small_cues(rng, weights):
+def small_cues(rng: random.Random, weights: int) -> list[bases.Cue]:
     """Up to three cues, whose bridges are short enough to try all lists of bits. Some begin and stop as near to the ends
     of their takes as their fades allow; a line allows all."""
     number, before, cues = rng.randint(1, 3), 0, []
@@ -573,7 +574,7 @@ def small_cues(rng, weights):
     return cues
 
 
-def bridge_case(case):
+def bridge_case(case: Case) -> None:
     """A small project that stands: its master, certificate and total are those that trying all lists of bits finds."""
     rng = case.rng
     weights = [rng.choice((0, 1, -1, 2, rng.randint(-800, 800))) for _ in range(rng.randint(2, 5))]
@@ -591,8 +592,8 @@ def bridge_case(case):
     demand(run.out == b"edited total %d\n" % total, f"the bridges cost {total}")
     case.demand_made("master", "cert")
     demand(case.files["cert"] == bridging.written(weights, entries), "another certificate")
-    for number, (found, bits) in enumerate(zip(reading.bits_of(case.files["master"]), channels, strict=True)):
-        demand(found == bits, f"other bits of channel {number}")
+    for number, (held, kept) in enumerate(zip(reading.bits_of(case.files["master"]), channels, strict=True)):
+        demand(held == kept, f"other bits of channel {number}")
     for cert in certificates.spellings(len(weights), entries):
         case.put("cert", cert)
         run = case.run(["check", "project", "master", "cert"], more=room)
@@ -605,7 +606,7 @@ CHECK_CHANGES = (cut_certificate, lengthened_certificate, *[changed_certificate]
 # Words and devices.
 
 
-def words_case(case):
+def words_case(case: Case) -> None:
     """Words that are no command, and files that can't be read or written."""
     base = case.rng.choice(bases.recordings(case.rng))
     cut = case.rng.choice(bases.cuts(case.rng)[:2])
@@ -624,7 +625,7 @@ def words_case(case):
         demand(case.has(name), f"{name} isn't there")
 
 
-WORDS = [
+WORDS: list[tuple[Any, ...]] = [
     ([], 3, "WrongWords"),
     (["inform", "in"], 3, "WrongWords"),
     (["info"], 3, "WrongWords"),
@@ -664,7 +665,7 @@ WORDS = [
 ]
 
 
-def scarce_case(case):
+def scarce_case(case: Case) -> None:
     """Larger files under less memory than they take: a run may say that memory was wanting, or nothing at all, but it ends
     by itself and makes no file then. `play` leaves a front."""
     frames = case.rng.randrange(1000, 200_000)
@@ -702,7 +703,7 @@ def scarce_case(case):
 LARGE = 2**31
 
 
-def large_file(case):
+def large_file(case: Case) -> dict[str, Any]:
     """Puts a file of two gigabytes that holds only its front, the rest being zeros that stand nowhere. Answers what is read
     of it."""
     if case.rng.random() < 0.5:
@@ -721,7 +722,7 @@ def large_file(case):
     return {**info, "samples": 8 * LARGE}
 
 
-def large_case(case):
+def large_case(case: Case) -> None:
     """A file of two gigabytes, within a few megabytes: it is told of and converted, but not played, as its WAVE file would be
     too large; as a project, which is read whole, memory is wanting."""
     info = large_file(case)

@@ -3,6 +3,7 @@ least. It shares nothing with the program."""
 import itertools
 import struct
 from collections import namedtuple
+from typing import Any
 
 NO_WAY = 2**63
 # What an entry holds: the cue before the bridge, the channel, the bounds of each level, the cost.
@@ -13,7 +14,7 @@ class Refused(Exception):
     """The reason's text."""
 
 
-def refuse(stands, text):
+def refuse(stands: object, text: str) -> None:
     if stands:
         raise Refused(text)
 
@@ -21,22 +22,22 @@ def refuse(stands, text):
 # Writing.
 
 
-def width_of(excess):
+def width_of(excess: int) -> int:
     """How many bytes a number needs, none for 0."""
     return (excess.bit_length() + 7) // 8
 
 
-def narrow(floor, width, excesses):
+def narrow(floor: int, width: int, excesses: list[int]) -> bytes:
     """A row of version 2 of these parts, whatever they are; of each excess the lowest bytes."""
     tails = (excess.to_bytes(16, "big")[16 - width :] for excess in excesses)
     return struct.pack(">QB", floor, width) + b"".join(tails)
 
 
-def plain_row(row):
+def plain_row(row: list[int]) -> bytes:
     return struct.pack(f">{len(row)}Q", *row)
 
 
-def narrow_row(row):
+def narrow_row(row: list[int]) -> bytes:
     floor = min(row)
     return narrow(floor, width_of(max(row) - floor), [bound - floor for bound in row])
 
@@ -44,11 +45,11 @@ def narrow_row(row):
 ROWS = {1: plain_row, 2: narrow_row}
 
 
-def head(version, weights, entries):
+def head(version: int, weights: int, entries: int) -> bytes:
     return b"DSPC" + struct.pack(">HHI", version, weights, entries)
 
 
-def parts(version, weights, entries):
+def parts(version: int, weights: int, entries: list[Entry]) -> list[bytes]:
     """A certificate as the list of its parts: the head, and of each entry its start, its rows and its cost."""
     found = [head(version, weights, len(entries))]
     for entry in entries:
@@ -58,16 +59,16 @@ def parts(version, weights, entries):
     return found
 
 
-def spelled(version, weights, entries):
+def spelled(version: int, weights: int, entries: list[Entry]) -> bytes:
     return b"".join(parts(version, weights, entries))
 
 
-def cut_at_cost(entries):
+def cut_at_cost(entries: list[Entry]) -> list[Entry]:
     """The entries with bounds that are no higher than their costs."""
     return [it._replace(rows=[[min(bound, it.cost) for bound in row] for row in it.rows]) for it in entries]
 
 
-def spellings(weights, entries):
+def spellings(weights: int, entries: list[Entry]) -> list[bytes]:
     """The certificates of both versions, with the bounds as they are and cut at the cost."""
     return [spelled(*it) for it in itertools.product((1, 2), (weights,), (entries, cut_at_cost(entries)))]
 
@@ -78,32 +79,32 @@ def spellings(weights, entries):
 class Reader:
     """The bytes of a certificate, from its head on."""
 
-    def __init__(self, data):
-        self.data, self.at, self.version = data, 0, None
+    def __init__(self, data: bytes) -> None:
+        self.data, self.at, self.version = data, 0, 0
 
-    def take(self, size):
+    def take(self, size: int) -> bytes:
         refuse(len(self.data) - self.at < size, "Cut")
         self.at += size
         return self.data[self.at - size : self.at]
 
-    def numbers(self, count, size):
+    def numbers(self, count: int, size: int) -> list[int]:
         """So many numbers of so many bytes each, which are 0 where there are none."""
         data = self.take(count * size)
         return [int.from_bytes(data[k * size : (k + 1) * size], "big") for k in range(count)]
 
-    def read_head(self, weights, entries):
+    def read_head(self, weights: int, entries: int) -> None:
         found = self.take(12)
         self.version = int.from_bytes(found[4:6], "big")
         refuse(self.version not in ROWS or found != head(self.version, weights, entries), "Head")
 
-    def row(self, states, level):
+    def row(self, states: int, level: int) -> list[int]:
         """The bounds of a level."""
         if self.version == 1:
             row = self.numbers(states, 8)
             refuse(max(row) > NO_WAY, "Bound")
             return row
-        *floor, width = self.take(9)
-        floor = int.from_bytes(floor, "big")
+        *least, width = self.take(9)
+        floor = int.from_bytes(least, "big")
         refuse(width > 8, f"Row {level}")
         excesses = self.numbers(states, width)
         refuse(floor + max(excesses) > NO_WAY, "Bound")
@@ -111,7 +112,7 @@ class Reader:
         return [floor + excess for excess in excesses]
 
 
-def read(data):
+def read(data: bytes) -> tuple[int, list[Entry]]:
     """The number of weights and the entries of a certificate that is whole, of either version."""
     weights, count = struct.unpack(">HI", data[6:12])
     reader, entries = Reader(data), []
@@ -126,12 +127,12 @@ def read(data):
 # Judging.
 
 
-def judge_entry(reader, cue, channel, bridge, bits):
+def judge_entry(reader: Reader, cue: int, channel: int, bridge: Any, bits: list[int]) -> int:
     """What the bits of a bridge cost, where the next entry shows them to be least."""
     *place, length = reader.numbers(3, 2)
     refuse(place != [cue, channel], "Head")
     refuse(length != bridge.length, "Length")
-    states, bounds = 2**bridge.width, None
+    states, bounds = 2**bridge.width, list[int]()
     for level in range(bridge.length + 1):
         row = reader.row(states, level)
         if level == 0:

@@ -1,9 +1,11 @@
 """What is done to certificates of either version whose entries are known: each forgery changes one of the parts that
 certificates.py makes of them. Some are right in another way, most are wrong in one place."""
+import random
 import struct
+from collections.abc import Iterator
 
-import certificates
-from certificates import NO_WAY, narrow, narrow_row, plain_row, width_of
+from tests.fuzz import certificates
+from tests.fuzz.certificates import NO_WAY, narrow, narrow_row, plain_row, width_of
 
 VERSIONS = (0, 1, 2, 3, 255, 256, 257, 512, 513, 65535)
 
@@ -11,37 +13,37 @@ VERSIONS = (0, 1, 2, 3, 255, 256, 257, 512, 513, 65535)
 # Of rows of version 2: a floor, a width and excesses.
 
 
-def narrowed(row):
+def narrowed(row: list[int]) -> tuple[int, int, list[int]]:
     floor = min(row)
     excesses = [bound - floor for bound in row]
     return floor, width_of(max(excesses)), excesses
 
 
-def other_floor(rng, row):
+def other_floor(rng: random.Random, row: list[int]) -> bytes:
     floor, width, excesses = narrowed(row)
     floor = rng.choice((floor + 1, floor - 1, floor + 256, 0, NO_WAY, NO_WAY - max(excesses), 2**64 - 1))
     return narrow(floor % 2**64, width, excesses)
 
 
-def other_width(rng, row):
+def other_width(rng: random.Random, row: list[int]) -> bytes:
     """The excesses, or their lowest bytes, in another number of bytes each."""
     floor, width, excesses = narrowed(row)
     return narrow(floor, rng.choice([it for it in range(9) if it != width]), excesses)
 
 
-def other_width_alone(rng, row):
+def other_width_alone(rng: random.Random, row: list[int]) -> bytes:
     """The number of bytes alone."""
     floor, width, excesses = narrowed(row)
     data = narrow(floor, width, excesses)
     return data[:8] + bytes([rng.choice((width + 1, max(0, width - 1), 8, 0))]) + data[9:]
 
 
-def too_wide(rng, row):
+def too_wide(rng: random.Random, row: list[int]) -> bytes:
     floor, _, excesses = narrowed(row)
     return narrow(floor, rng.choice((9, 10, 16, 255)), excesses)
 
 
-def no_zero(rng, row):
+def no_zero(rng: random.Random, row: list[int]) -> bytes:
     """The same bounds over a lower floor, or higher ones where there is none."""
     floor, _, excesses = narrowed(row)
     less = min(floor, rng.choice((1, 255, 256, 2**20)))
@@ -49,7 +51,7 @@ def no_zero(rng, row):
     return narrow(floor - less, width_of(max(excesses)), excesses)
 
 
-def above_most(rng, row):
+def above_most(rng: random.Random, row: list[int]) -> bytes:
     """The greatest bound as far as 2^63, one more, or beyond 2^64."""
     floor, width, excesses = narrowed(row)
     most = rng.choice((NO_WAY - max(excesses), NO_WAY + 1 - max(excesses), 2**64 - 1))
@@ -62,18 +64,18 @@ def above_most(rng, row):
 # Of bounds, spelled as the version has them.
 
 
-def other_bound(rng, row):
+def other_bound(rng: random.Random, row: list[int]) -> list[int]:
     row, at = list(row), rng.randrange(len(row))
     near = (row[at] + 1, row[at] - 1, row[at] + 2**20, row[at] // 2, 0, NO_WAY, NO_WAY + 1)
     row[at] = rng.choice(near) % 2**64
     return row
 
 
-def other_narrow_bound(rng, row):
+def other_narrow_bound(rng: random.Random, row: list[int]) -> bytes:
     return narrow_row(other_bound(rng, row))
 
 
-def other_plain_bound(rng, row):
+def other_plain_bound(rng: random.Random, row: list[int]) -> bytes:
     return plain_row(other_bound(rng, row))
 
 
@@ -83,7 +85,7 @@ WRONG_ROWS = {
 }
 
 
-def row_places(entries):
+def row_places(entries: list[certificates.Entry]) -> Iterator[tuple[int, list[int]]]:
     """Where the rows stand among the parts of a certificate, and their bounds."""
     at = 2
     for entry in entries:
@@ -91,7 +93,7 @@ def row_places(entries):
         at += len(entry.rows) + 2
 
 
-def forge_row(rng, version, parts, entries):
+def forge_row(rng: random.Random, version: int, parts: list[bytes], entries: list[certificates.Entry]) -> None:
     places = list(row_places(entries))
     if not places:
         return
@@ -102,7 +104,7 @@ def forge_row(rng, version, parts, entries):
 # Of other parts.
 
 
-def forge_head(rng, version, parts, entries):
+def forge_head(rng: random.Random, version: int, parts: list[bytes], entries: list[certificates.Entry]) -> None:
     """Another version, another number of weights or of entries."""
     name, *fields = struct.unpack(">4sHHI", parts[0])
     at = rng.choice((0, 0, 0, 1, 2))
@@ -110,7 +112,7 @@ def forge_head(rng, version, parts, entries):
     parts[0] = struct.pack(">4sHHI", name, *fields)
 
 
-def forge_number(rng, version, parts, entries):
+def forge_number(rng: random.Random, version: int, parts: list[bytes], entries: list[certificates.Entry]) -> None:
     """Another cue, channel, length or cost."""
     places = [at for at, part in enumerate(parts) if at and len(part) in (6, 8)]
     if places:
@@ -121,7 +123,7 @@ def forge_number(rng, version, parts, entries):
         parts[at] = parts[at][:first] + (number % 256**size).to_bytes(size, "big") + parts[at][first + size :]
 
 
-def forge_end(rng, version, parts, entries):
+def forge_end(rng: random.Random, version: int, parts: list[bytes], entries: list[certificates.Entry]) -> None:
     """It ends inside a part: in its last bytes, after 8 or 9, or anywhere."""
     at = rng.randrange(len(parts))
     size = len(parts[at])
@@ -130,14 +132,14 @@ def forge_end(rng, version, parts, entries):
     del parts[at + 1 :]
 
 
-def forge_none(rng, version, parts, entries):
+def forge_none(rng: random.Random, version: int, parts: list[bytes], entries: list[certificates.Entry]) -> None:
     """Nothing."""
 
 
 FORGERIES = (*[forge_row] * 10, forge_head, forge_number, forge_end, forge_none)
 
 
-def forged(rng, version, weights, entries):
+def forged(rng: random.Random, version: int, weights: int, entries: list[certificates.Entry]) -> tuple[bytes, str]:
     """A certificate of these entries in some version, forged, and the forgery's name."""
     parts, forgery = certificates.parts(version, weights, entries), rng.choice(FORGERIES)
     forgery(rng, version, parts, entries)

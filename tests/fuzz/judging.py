@@ -1,7 +1,9 @@
 """What may be said of a run, and what the lines of `info` must be."""
 import re
+from typing import Any
 
-import waves
+from dsdarc_scripts import waves
+from tests.fuzz.running import Run
 
 # The faults that each command may answer, as the manual lists them.
 FAULTS = {
@@ -45,17 +47,17 @@ class Failure(Exception):
     """Something that must not be."""
 
 
-def demand(holds, why):
+def demand(holds: object, why: str) -> None:
     if not holds:
         raise Failure(why)
 
 
-def fault_of(run):
+def fault_of(run: Run) -> str:
     """A fault's name and its parts."""
     return run.err.decode().removeprefix("fault: ").removesuffix("\n")
 
 
-def label(run):
+def label(run: Run) -> str:
     """What the run came to, without numbers, to be counted."""
     text = (run.out + run.err).decode(errors="replace")
     first = text.split("\n", 1)[0]
@@ -63,7 +65,7 @@ def label(run):
     return "form .." if first.startswith("form ") else " ".join(words)
 
 
-def judge_run(run, is_scarce=False):
+def judge_run(run: Run, is_scarce: bool = False) -> None:
     """No signal, a status from 0 to 3, and the line that belongs to it."""
     demand(run.signal == 0, f"ended by signal {run.signal}")
     demand(run.status in (0, 1, 2, 3), f"status {run.status}")
@@ -82,9 +84,10 @@ def judge_run(run, is_scarce=False):
         judge_fault(command, run.status, err, is_scarce)
 
 
-def judge_fault(command, status, err, is_scarce):
+def judge_fault(command: str, status: int, err: str, is_scarce: bool) -> None:
     found = re.fullmatch(r"fault: ([A-Za-z]+)(.*)\n", err)
-    demand(found, "no line of a fault")
+    if not found:
+        raise Failure("no line of a fault")
     name, parts = found.groups()
     if status == 3:
         demand(name in ("WrongWords", "UnknownFormName") and not parts, "status 3, but another fault")
@@ -96,9 +99,9 @@ def judge_fault(command, status, err, is_scarce):
     demand(re.fullmatch(PARTS.get(name, ""), parts), "a fault's parts aren't those of it")
 
 
-def told(run):
+def told(run: Run) -> dict[str, Any]:
     """The lines of `info`: what the file holds."""
-    found = {"mark": []}
+    found: dict[str, Any] = {"mark": []}
     for line in run.out.decode().splitlines():
         name, _, rest = line.partition(" ")
         if name == "mark":
@@ -110,7 +113,7 @@ def told(run):
     return found
 
 
-def converted(info, form):
+def converted(info: dict[str, Any], form: str) -> tuple[dict[str, Any], int]:
     """What `info` has to tell of the file that is written for a recording, and how much of that has no place there."""
     channels = info["channels"]
     there = dict(info, form=form)
@@ -122,14 +125,14 @@ def converted(info, form):
     return there, info["marks"] + info["others"]
 
 
-def wave_head(info, factor, width):
+def wave_head(info: dict[str, Any], factor: int, width: int) -> tuple[bytes, int]:
     """The header of the WAVE file that a recording plays, and how long the file is."""
     channels, frames = info["channels"], -(-info["samples"] // factor)
     head = waves.head_of(info["rate"] // factor, channels, width, frames)
     return head, 8 + waves.riff_size(channels, width, frames)
 
 
-def cert_sizes(weights, channels, bridges):
+def cert_sizes(weights: int, channels: int, bridges: list[int]) -> list[int]:
     """How long the certificate of `edit` is: the least where no row has excesses, the most where each has 8 bytes."""
     rows = [(9 + width * 2 ** (weights - 1)) for width in (0, 8)]
     return [12 + channels * sum(14 + row * (length + 1) for length in bridges if length) for row in rows]

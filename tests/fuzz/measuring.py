@@ -1,19 +1,20 @@
 """How much memory each command takes of large files that stand: as a multiple of the files that it reads and writes."""
 import os
 import random
+from collections.abc import Iterator
 
-import bases
-from running import MEGABYTE
+from tests.fuzz import bases
+from tests.fuzz.running import MEGABYTE, Program
 
 FRAMES = 2 * MEGABYTE
 
 
-def put(folder, name, data):
+def put(folder: str, name: str, data: bytes) -> None:
     with open(os.path.join(folder, name), "wb") as file:
         file.write(data)
 
 
-def make_files(folder):
+def make_files(folder: str) -> None:
     """Stereo takes of 4 MB, and a project that puts a bridge between them."""
     rng = random.Random(0)
     for name in ("a.dff", "b.dff"):
@@ -37,7 +38,7 @@ COMMANDS = (
 )
 
 
-def multiples(program):
+def multiples(program: Program) -> Iterator[tuple[list[str], float | None]]:
     """For each command its words and the multiple, with what it needs to start not counted: None where it isn't done."""
     make_files(program.folder)
     for words, names in COMMANDS:

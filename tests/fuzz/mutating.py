@@ -1,11 +1,15 @@
 """What is done to files: each change is a function of a random source and what is changed, and answers the changed
 thing. `mutate_*` make some changes in turn and tell their names."""
+import random
 import re
+from collections.abc import Callable, Iterator
+from typing import Any
 
-import forging
-from bases import chunk_bytes
+from tests.fuzz import forging
+from tests.fuzz.bases import Base, chunk_bytes
+from tests.fuzz.certificates import Entry
 
-SIZES = (
+SIZES: tuple[int, ...] = (
     0,
     1,
     2,
@@ -50,25 +54,25 @@ DSF_FIELDS = (
 # Of any bytes.
 
 
-def some_range(rng, data):
+def some_range(rng: random.Random, data: bytes) -> tuple[int, int]:
     start = rng.randrange(len(data) + 1)
     return start, min(len(data), start + rng.choice((1, 2, 4, 8, 12, 16, 64, 512, len(data))))
 
 
-def cut(rng, data):
+def cut(rng: random.Random, data: bytes) -> bytes:
     return data[: rng.randrange(len(data) + 1)]
 
 
-def cut_little(rng, data):
+def cut_little(rng: random.Random, data: bytes) -> bytes:
     return data[: max(0, len(data) - rng.randint(1, 16))]
 
 
-def extend(rng, data):
+def extend(rng: random.Random, data: bytes) -> bytes:
     more = rng.choice((1, 2, 5, 12, 13, 64, 4096))
     return data + (rng.randbytes(more) if rng.random() < 0.5 else bytes(more))
 
 
-def flip_bits(rng, data):
+def flip_bits(rng: random.Random, data: bytes) -> bytes:
     out = bytearray(data)
     for _ in range(rng.choice((1, 1, 1, 2, 4, 16))):
         if out:
@@ -76,7 +80,7 @@ def flip_bits(rng, data):
     return bytes(out)
 
 
-def set_bytes(rng, data):
+def set_bytes(rng: random.Random, data: bytes) -> bytes:
     out = bytearray(data)
     for _ in range(rng.choice((1, 1, 2, 4))):
         if out:
@@ -84,24 +88,24 @@ def set_bytes(rng, data):
     return bytes(out)
 
 
-def remove(rng, data):
+def remove(rng: random.Random, data: bytes) -> bytes:
     start, stop = some_range(rng, data)
     return data[:start] + data[stop:]
 
 
-def repeat(rng, data):
+def repeat(rng: random.Random, data: bytes) -> bytes:
     start, stop = some_range(rng, data)
     return data[:stop] + data[start:]
 
 
-def move(rng, data):
+def move(rng: random.Random, data: bytes) -> bytes:
     start, stop = some_range(rng, data)
     rest = data[:start] + data[stop:]
     to = rng.randrange(len(rest) + 1)
     return rest[:to] + data[start:stop] + rest[to:]
 
 
-def set_number(rng, data):
+def set_number(rng: random.Random, data: bytes) -> bytes:
     """A number of 4 or 8 bytes anywhere, in either order."""
     size, order = rng.choice((4, 8)), rng.choice(("big", "little"))
     if len(data) < size:
@@ -109,11 +113,11 @@ def set_number(rng, data):
     return put_number(data, rng.randrange(len(data) - size + 1), size, rng.choice(SIZES), order)
 
 
-def put_number(data, at, size, value, order):
+def put_number(data: bytes, at: int, size: int, value: int, order: str) -> bytes:
     return data[:at] + (value % 256**size).to_bytes(size, order) + data[at + size :]
 
 
-def size_near(rng, value):
+def size_near(rng: random.Random, value: int) -> int:
     return rng.choice(
         (*SIZES, value + 1, value - 1, value + 2, value - 2, value * 2, value // 2, value + 12, value - 12)
     )
@@ -125,12 +129,12 @@ ANY_BYTES = (cut, cut_little, extend, flip_bits, flip_bits, set_bytes, remove, r
 # Of DSDIFF files.
 
 
-def heads(data):
+def heads(data: bytes) -> list[int]:
     """The places of what look like chunks' heads."""
     return [it.start() for it in re.finditer(b"|".join(CHUNK_IDS), data) if it.start() + 12 <= len(data)]
 
 
-def set_size(rng, data):
+def set_size(rng: random.Random, data: bytes) -> bytes:
     places = heads(data)
     if not places:
         return data
@@ -138,7 +142,7 @@ def set_size(rng, data):
     return put_number(data, at, 8, size_near(rng, int.from_bytes(data[at : at + 8], "big")), "big")
 
 
-def rename(rng, data):
+def rename(rng: random.Random, data: bytes) -> bytes:
     places = heads(data)
     if not places:
         return data
@@ -146,7 +150,7 @@ def rename(rng, data):
     return data[:at] + rng.choice(CHUNK_IDS) + data[at + 4 :]
 
 
-def set_field(rng, data):
+def set_field(rng: random.Random, data: bytes) -> bytes:
     """A number at the start of a chunk's data: version, rate, channels, type, a mark's fields."""
     places = heads(data)
     if not places:
@@ -157,7 +161,7 @@ def set_field(rng, data):
     return put_number(data, at, size, size_near(rng, int.from_bytes(data[at : at + size], "big")), "big")
 
 
-def chunk_lists(node):
+def chunk_lists(node: tuple[Any, ...]) -> Iterator[list[tuple[Any, ...]]]:
     """A list of chunks in a tree, and those below it."""
     if len(node) == 3:
         yield node[2]
@@ -165,11 +169,11 @@ def chunk_lists(node):
             yield from chunk_lists(inner)
 
 
-def copied(node):
+def copied(node: tuple[Any, ...]) -> tuple[Any, ...]:
     return (*node[:2], [copied(it) for it in node[2]]) if len(node) == 3 else node
 
 
-def change_chunks(rng, tree):
+def change_chunks(rng: random.Random, tree: Any) -> tuple[bytes, bytes, list[tuple[Any, ...]]]:
     """A chunk repeated, dropped, moved, renamed or changed in its data; the sizes round it are mended."""
     tree = copied(tree)
     lists = list(chunk_lists(tree))
@@ -201,7 +205,7 @@ DSDIFF_BYTES = (*ANY_BYTES, set_size, set_size, set_size, rename, set_field, set
 # Of DSF files.
 
 
-def set_dsf_field(rng, data):
+def set_dsf_field(rng: random.Random, data: bytes) -> bytes:
     at, size = rng.choice(DSF_FIELDS)
     if at + size > len(data):
         return data
@@ -209,7 +213,7 @@ def set_dsf_field(rng, data):
     return put_number(data, at, size, rng.choice((near, near, len(data), len(data) + 1, rng.randrange(9))), "little")
 
 
-def longer_format(rng, data):
+def longer_format(rng: random.Random, data: bytes) -> bytes:
     """Bytes behind the fields of the format chunk, its size mended, and the tag's place now and then."""
     more = rng.choice((1, 4, 12, 100))
     data = data[:80] + bytes(more) + data[80:]
@@ -224,14 +228,14 @@ def longer_format(rng, data):
 DSF_BYTES = (*ANY_BYTES, *[set_dsf_field] * 8, longer_format)
 
 
-def change_sound(rng, base):
+def change_sound(rng: random.Random, base: Base) -> bytes:
     """Other bytes in the sound's place, as many of them."""
     start, stop = base.sound
     sound = rng.randbytes(stop - start) if rng.random() < 0.5 else flip_bits(rng, base.data[start:stop])
     return base.data[:start] + sound + base.data[stop:]
 
 
-def mutate_recording(rng, base):
+def mutate_recording(rng: random.Random, base: Base) -> tuple[bytes, list[str]]:
     """The bytes of a recording's file, changed, and the names of the changes."""
     tree, names = base.tree, []
     while tree and rng.random() < 0.4:
@@ -249,7 +253,7 @@ def mutate_recording(rng, base):
 # Of certificates.
 
 
-def set_cert_field(rng, data):
+def set_cert_field(rng: random.Random, data: bytes) -> bytes:
     at, size = rng.choice(((0, 4), (4, 2), (6, 2), (8, 4), (12, 2), (14, 2), (16, 2)))
     if at + size > len(data):
         return data
@@ -259,7 +263,7 @@ def set_cert_field(rng, data):
 CERT_BYTES = (*ANY_BYTES, *[set_cert_field] * 3)
 
 
-def mutate_certificate(rng, weights, entries):
+def mutate_certificate(rng: random.Random, weights: int, entries: list[Entry]) -> tuple[bytes, list[str]]:
     """The bytes of a certificate of these entries in either version, forged in one part or changed in some bytes or
     both, and the names of the changes."""
     version = rng.choice((1, 2))
@@ -380,10 +384,10 @@ LINES = [
 ]
 
 
-def change_line(change):
+def change_line(change: Callable[[random.Random, list[bytes]], None]) -> Callable[[random.Random, bytes], bytes]:
     """A change of the list of a text's lines."""
 
-    def changed(rng, data):
+    def changed(rng: random.Random, data: bytes) -> bytes:
         lines = data.split(b"\n")
         change(rng, lines)
         return b"\n".join(lines)
@@ -393,28 +397,28 @@ def change_line(change):
 
 
 @change_line
-def drop_line(rng, lines):
+def drop_line(rng: random.Random, lines: list[bytes]) -> None:
     del lines[rng.randrange(len(lines))]
 
 
 @change_line
-def repeat_line(rng, lines):
+def repeat_line(rng: random.Random, lines: list[bytes]) -> None:
     lines.insert(rng.randrange(len(lines) + 1), rng.choice(lines))
 
 
 @change_line
-def add_line(rng, lines):
+def add_line(rng: random.Random, lines: list[bytes]) -> None:
     lines.insert(rng.randrange(len(lines) + 1), rng.choice(LINES).encode())
 
 
 @change_line
-def swap_lines(rng, lines):
+def swap_lines(rng: random.Random, lines: list[bytes]) -> None:
     a, b = rng.randrange(len(lines)), rng.randrange(len(lines))
     lines[a], lines[b] = lines[b], lines[a]
 
 
 @change_line
-def replace_line(rng, lines):
+def replace_line(rng: random.Random, lines: list[bytes]) -> None:
     """A line of the same key with another value: of the odd lines those whose key stands in the text."""
     keyed = [k for k, line in enumerate(lines) if b" = " in line]
     if keyed:
@@ -425,7 +429,7 @@ def replace_line(rng, lines):
 
 
 @change_line
-def repeat_cue(rng, lines):
+def repeat_cue(rng: random.Random, lines: list[bytes]) -> None:
     """A run of lines, many times: often whole cues."""
     starts = [k for k, line in enumerate(lines) if line == b"[[splice.cue]]"]
     if starts:
@@ -433,7 +437,7 @@ def repeat_cue(rng, lines):
         lines[start:start] = lines[start : start + rng.choice((4, 5, 6))] * rng.choice((1, 2, 30, 255))
 
 
-def change_number(rng, data):
+def change_number(rng: random.Random, data: bytes) -> bytes:
     places = list(re.finditer(rb"-?\d+", data))
     if not places:
         return data
@@ -445,7 +449,7 @@ def change_number(rng, data):
     return data[: it.start()] + near.encode() + data[it.end() :]
 
 
-def change_value(rng, data):
+def change_value(rng: random.Random, data: bytes) -> bytes:
     places = list(re.finditer(rb"= .+", data))
     if not places:
         return data
@@ -453,7 +457,7 @@ def change_value(rng, data):
     return data[: it.start()] + b"= " + rng.choice((*VALUES, *NUMBERS)).encode() + data[it.end() :]
 
 
-def change_key(rng, data):
+def change_key(rng: random.Random, data: bytes) -> bytes:
     places = list(re.finditer(rb"[a-z]+(?= =|\])", data))
     if not places:
         return data
@@ -461,16 +465,25 @@ def change_key(rng, data):
     return data[: it.start()] + rng.choice(KEYS).encode() + data[it.end() :]
 
 
-def other_ends(rng, data):
+def other_ends(rng: random.Random, data: bytes) -> bytes:
     return data.replace(b"\n", rng.choice((b"\r\n", b"\r", b"\n\n", b" \n")))
 
 
-def other_start(rng, data):
+def other_start(rng: random.Random, data: bytes) -> bytes:
     return rng.choice((b"\xef\xbb\xbf", b"\xff\xfe", b"\0", b" ", b"\n")) + data
 
 
-SMALL_CHANGES = (change_number, change_number, change_number)
-PROJECT_BYTES = (*SMALL_CHANGES, change_number, change_value, change_key, drop_line, repeat_line, add_line, swap_lines)
+SMALL_CHANGES: tuple[Callable[[random.Random, bytes], bytes], ...] = (change_number, change_number, change_number)
+PROJECT_BYTES: tuple[Callable[[random.Random, bytes], bytes], ...] = (
+    *SMALL_CHANGES,
+    change_number,
+    change_value,
+    change_key,
+    drop_line,
+    repeat_line,
+    add_line,
+    swap_lines,
+)
 PROJECT_BYTES += (
     replace_line,
     replace_line,
@@ -486,7 +499,7 @@ PROJECT_BYTES += (
 )
 
 
-def mutate_project(rng, data):
+def mutate_project(rng: random.Random, data: bytes) -> tuple[bytes, list[str]]:
     """The bytes of a project, changed: half of the time in a few numbers alone, so that it often stays a project."""
     changes = SMALL_CHANGES if rng.random() < 0.5 else PROJECT_BYTES
     names = []

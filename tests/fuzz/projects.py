@@ -4,8 +4,9 @@ that is infinite, as it takes 1e999 for one."""
 import math
 import os
 import tomllib
+from typing import Any
 
-import reading
+from tests.fuzz import reading
 
 DECIMATE = ("taps", "factor", "delay", "shift", "width")
 SPLICE = ("weights", "takes", "cue")
@@ -22,20 +23,20 @@ class Unknown(Exception):
     """Nothing is said of this text."""
 
 
-def demand(holds, text):
+def demand(holds: object, text: str) -> None:
     if not holds:
         raise Fault(text)
 
 
-def is_whole(value):
+def is_whole(value: object) -> bool:
     return type(value) is int
 
 
-def are_whole(values):
+def are_whole(values: list[float]) -> bool:
     return type(values) is list and all(map(is_whole, values))
 
 
-def numbers_and_depth(value):
+def numbers_and_depth(value: Any) -> tuple[list[int], int]:
     """All numbers in a value, and how deep it is nested."""
     inner = value.values() if isinstance(value, dict) else value if isinstance(value, list) else None
     if inner is None:
@@ -44,7 +45,7 @@ def numbers_and_depth(value):
     return [it for numbers, _ in found for it in numbers], 1 + max((depth for _, depth in found), default=0)
 
 
-def document_of(data):
+def document_of(data: bytes) -> dict[str, dict[str, Any]]:
     try:
         document = tomllib.loads(data.decode().removeprefix("\ufeff"))
         numbers, depth = numbers_and_depth(document)
@@ -56,11 +57,11 @@ def document_of(data):
     return document
 
 
-def known_keys(table, keys):
+def known_keys(table: dict[str, Any], keys: tuple[str, ...]) -> None:
     demand(set(table) <= set(keys), "UnknownKey")
 
 
-def read(data):
+def read(data: bytes) -> dict[str, dict[str, Any]]:
     """The document of a project. Fault where it is none, Unknown where nothing is said of it."""
     document = document_of(data)
     known_keys(document, ("decimate", "splice"))
@@ -71,7 +72,7 @@ def read(data):
     return document
 
 
-def read_decimate(table):
+def read_decimate(table: dict[str, Any]) -> None:
     demand(isinstance(table, dict), "WrongKind decimate")
     known_keys(table, DECIMATE)
     for key in DECIMATE:
@@ -88,7 +89,7 @@ def read_decimate(table):
     demand(table["width"] in (16, 24), "OutOfLimit width")
 
 
-def read_splice(table):
+def read_splice(table: dict[str, list[Any]]) -> None:
     demand(isinstance(table, dict), "WrongKind splice")
     known_keys(table, SPLICE)
     kinds = {"weights": are_whole, "cue": lambda it: isinstance(it, list)}
@@ -104,7 +105,7 @@ def read_splice(table):
     demand(table["cue"][-1].get("bridge", 0) == 0, "LastBridge")
 
 
-def read_cue(splice, number, cue):
+def read_cue(splice: dict[str, list[Any]], number: int, cue: dict[str, Any]) -> None:
     demand(isinstance(cue, dict), "WrongKind cue")
     known_keys(cue, CUE)
     for key in CUE:
@@ -130,11 +131,11 @@ def read_cue(splice, number, cue):
     demand(cue["stop"] >= cue["start"] + len(splice["weights"]) - 1, f"ShortCue {number}")
 
 
-def is_line(cue):
+def is_line(cue: dict[str, Any]) -> bool:
     return cue.get("target") == "line"
 
 
-def read_line(cue):
+def read_line(cue: dict[str, Any]) -> None:
     """The ends of a line: they are there where the target is one, and nowhere else."""
     if not is_line(cue):
         demand("line" not in cue, "OutOfLimit line")
@@ -144,7 +145,7 @@ def read_line(cue):
     demand(len(cue["line"]) == 2 and all(-4096 <= it <= 4096 for it in cue["line"]), "OutOfLimit line")
 
 
-def edit_fault(data, folder, form):
+def edit_fault(data: bytes, folder: str, form: str) -> str | None:
     """The fault of cutting by a project over the takes of a folder, or None."""
     try:
         document = read(data)
@@ -158,7 +159,7 @@ def edit_fault(data, folder, form):
     return None
 
 
-def bytes_of(folder, name):
+def bytes_of(folder: str, name: str) -> bytes:
     try:
         with open(os.path.join(folder, name), "rb") as file:
             return file.read()
@@ -166,7 +167,7 @@ def bytes_of(folder, name):
         raise Fault("ReadFailed") from failed
 
 
-def cut(splice, folder, form):
+def cut(splice: dict[str, list[Any]], folder: str, form: str) -> None:
     takes = []
     for number, data in enumerate([bytes_of(folder, name) for name in splice["takes"]]):
         try:

@@ -1,8 +1,10 @@
 """A plain reading of files by docs/DSDIFF.md and docs/DSF.md: what `info` has to tell, and the bits; or the first refusal.
 Samples of them by docs/PROJECTS.md. It shares nothing with the program."""
 import struct
+from collections.abc import Callable, Iterator
+from typing import Any
 
-from judging import LAYOUTS
+from tests.fuzz.judging import LAYOUTS
 
 RATE = range(1_000_000, 50_000_001)
 MOST = 2**36
@@ -13,12 +15,12 @@ class Refused(Exception):
     """The refusal's text."""
 
 
-def refuse(stands, text):
+def refuse(stands: int, text: str) -> None:
     if stands:
         raise Refused(text)
 
 
-def read(data):
+def read(data: bytes) -> tuple[dict[str, Any], Callable[..., Any]]:
     """What is told of a file, and a function that answers the bit of a channel at a place. Refused where it isn't read."""
     if len(data) >= 16 and data[:4] == b"FRM8" and data[12:16] == b"DSD ":
         return read_dsdiff(data)
@@ -29,7 +31,7 @@ def read(data):
 # DSDIFF.
 
 
-def walk(data, start, stop):
+def walk(data: bytes, start: int, stop: int) -> Iterator[tuple[bytes, int, bytes]]:
     """The chunks of a range: ID, where its head stands, its data."""
     at = start
     while at < stop:
@@ -40,7 +42,7 @@ def walk(data, start, stop):
         at += 12 + size + size % 2
 
 
-def once(chunks, kinds):
+def once(chunks: list[tuple[bytes, int, bytes]], kinds: tuple[bytes, bytes, bytes]) -> dict[bytes, tuple[int, bytes]]:
     """The chunks of these kinds by kind. The first that comes a second time is refused."""
     found = {}
     for name, at, inner in chunks:
@@ -51,7 +53,7 @@ def once(chunks, kinds):
     return found
 
 
-def read_dsdiff(data):
+def read_dsdiff(data: bytes) -> tuple[dict[str, Any], Callable[..., Any]]:
     size = int.from_bytes(data[4:12], "big")
     refuse(size < 4 or 12 + size > len(data) + 1, "Dsdiff FormCut")
     top = list(walk(data, 16, min(12 + size, len(data))))
@@ -74,28 +76,28 @@ def read_dsdiff(data):
     others += sum(name == b"PROP" and it[:4] != b"SND " for name, _, it in top)
     start, channels = found[b"DSD "][0] + 12, info["channels"]
 
-    def bit_at(channel, place):
+    def bit_at(channel: int, place: int) -> int:
         return data[start + place // 8 * channels + channel] >> (7 - place % 8) & 1
 
     return info | {"form": "dsdiff", "marks": len(marks), "mark": marks, "others": others, "tag": 0}, bit_at
 
 
-def read_property(chunks):
+def read_property(chunks: list[tuple[bytes, int, bytes]]) -> dict[str, Any]:
     found = {name: it for name, (_, it) in once(chunks, (b"FS  ", b"CHNL", b"CMPR")).items()}
-    rate, channels, compression = (found.get(it, b"") for it in (b"FS  ", b"CHNL", b"CMPR"))
-    refuse(len(rate) < 4, "Dsdiff NoRate")
+    field, channels, compression = (found.get(it, b"") for it in (b"FS  ", b"CHNL", b"CMPR"))
+    refuse(len(field) < 4, "Dsdiff NoRate")
     number = int.from_bytes(channels[:2], "big")
     refuse(len(channels) < 2 + 4 * number or len(channels) < 2, "Dsdiff NoChannels")
     refuse(len(compression) < 4, "Dsdiff NoCompression")
     refuse(compression[:4] != b"DSD ", "Dsdiff Compressed")
-    rate = int.from_bytes(rate[:4], "big")
+    rate = int.from_bytes(field[:4], "big")
     refuse(rate not in RATE, "Dsdiff BadRate")
     refuse(not 1 <= number <= 6, "Dsdiff BadChannelNumber")
     ids = " ".join(channels[2 + 4 * c : 6 + 4 * c].hex() for c in range(number))
     return {"rate": rate, "channels": number, "ids": ids, "layout": LAYOUTS[number - 1]}
 
 
-def read_masters(data, top, rate):
+def read_masters(data: bytes, top: list[tuple[bytes, int, bytes]], rate: int) -> tuple[list[str], int]:
     """The lines of the marks of all `DIIN`, and how many other chunks stand there."""
     marks, others = [], 0
     for name, at, inner in top:
@@ -117,7 +119,7 @@ def read_masters(data, top, rate):
 # DSF.
 
 
-def read_dsf(data):
+def read_dsf(data: bytes) -> tuple[dict[str, Any], Callable[..., Any]]:
     refuse(len(data) < 80, "Dsf HeadCut")
     first, _, pointer = struct.unpack("<QQQ", data[4:28])
     size = int.from_bytes(data[32:40], "little")
@@ -138,7 +140,7 @@ def read_dsf(data):
     refuse(pointer and not stop <= pointer <= len(data), "Dsf BadPointer")
     ids = [b"SLFT", b"SRGT"] if channels == 2 else [b"C%03d" % c for c in range(channels)]
 
-    def bit_at(channel, place):
+    def bit_at(channel: int, place: int) -> int:
         byte = data[behind + 12 + (place // 32768 * channels + channel) * 4096 + place % 32768 // 8]
         return byte >> (place % 8 if per_sample == 1 else 7 - place % 8) & 1
 
@@ -157,7 +159,7 @@ def read_dsf(data):
     return info, bit_at
 
 
-def bits_of(data):
+def bits_of(data: bytes) -> list[list[int]]:
     """The channels of a recording's file as lists of bits."""
     info, bit_at = read(data)
     return [[bit_at(channel, place) for place in range(info["samples"])] for channel in range(info["channels"])]
@@ -166,7 +168,9 @@ def bits_of(data):
 # Samples.
 
 
-def sample(info, bit_at, decimate, channel, number):
+def sample(
+    info: dict[str, Any], bit_at: Callable[..., Any], decimate: dict[str, Any], channel: int, number: int
+) -> int:
     """A sample of what a recording plays."""
     taps, shift, most = decimate["taps"], decimate["shift"], 1 << (decimate["width"] - 1)
     place = number * decimate["factor"] + decimate["delay"]

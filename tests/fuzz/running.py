@@ -14,7 +14,7 @@ SECONDS = 60
 Run = namedtuple("Run", "words status signal out err limit")
 
 
-def memory_folder():
+def memory_folder() -> str:
     """A fresh folder, in memory where there is a place for that."""
     return tempfile.mkdtemp(prefix="fuzz-", dir="/dev/shm" if os.access("/dev/shm", os.W_OK) else None)
 
@@ -22,17 +22,17 @@ def memory_folder():
 class Program:
     """A program that runs in a folder of its own, each time under a limit."""
 
-    def __init__(self, path, folder):
+    def __init__(self, path: str, folder: str) -> None:
         self.path, self.folder = path, folder
         self.own = memory_folder()
         self.out, self.err = (os.open(os.path.join(self.own, it), os.O_RDWR | os.O_CREAT) for it in ("out", "err"))
         self.null = os.open("/dev/null", os.O_RDONLY)
         self.start = 0
 
-    def close(self):
+    def close(self) -> None:
         shutil.rmtree(self.own)
 
-    def run(self, words, limit=None, source=None):
+    def run(self, words: list[str], limit: int | None = None, source: str | None = None) -> Run:
         """Runs it with these words, under a limit of memory in bytes, with a file of the folder to read from."""
         for file in (self.out, self.err):
             os.ftruncate(file, 0)
@@ -46,7 +46,7 @@ class Program:
         killed = os.WTERMSIG(ended) if os.WIFSIGNALED(ended) else 0
         return Run(words, status, killed, self.read(self.out), self.read(self.err), limit)
 
-    def become(self, words, limit, source):
+    def become(self, words: list[str], limit: int | None, source: str | None) -> None:
         """In the child: becomes the program."""
         try:
             os.chdir(self.folder)
@@ -63,10 +63,10 @@ class Program:
             os._exit(127)
 
     @staticmethod
-    def read(file):
+    def read(file: int) -> bytes:
         return os.pread(file, os.fstat(file).st_size, 0)
 
-    def find_least(self, words):
+    def find_least(self, words: list[str]) -> int:
         """The least limit of memory, to 64 KB, under which these words are done."""
         low, high = 0, 1 << 34
         while high - low > 1 << 16:

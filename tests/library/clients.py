@@ -4,13 +4,16 @@ import os
 import random
 import re
 import subprocess
+from typing import Any
 
-from dsdiffs import dsdiff
-from playing import BUILT, PROGRAM, ROOT, compiled, demand, frames_of, get, run
-from stopped import try_stopped
+from dsdarc_scripts.dsdiffs import dsdiff
+from tests.helpers.trials import ROOT, demand, get
+from tests.helpers.trials import said as run
+from tests.library.playing import BUILT, PROGRAM, compiled, frames_of
+from tests.library.stopped import try_stopped
 
 
-def try_clients(folder, *last):
+def try_clients(folder: str, *last: Any) -> None:
     """The same by ALSA's device that writes a file, and by GStreamer, where their packages are installed."""
     if os.path.exists("/usr/include/alsa/asoundlib.h"):
         try_player(folder, *last)
@@ -23,13 +26,13 @@ def try_clients(folder, *last):
         print("left out: dsdarcdec, as libgstreamer1.0-dev isn't installed")
 
 
-def try_player(folder, dff, dsf, filter, frames, align):
+def try_player(folder: str, dff: str, dsf: str, filter: str, frames: bytes, align: int) -> None:
     out, player = os.path.join(folder, "client.pcm"), os.path.join(folder, "dsdarcplay")
     compiled("clients/dsdarcplay.c", os.path.join(BUILT, "libdsdarc.a"), "-lasound", "-o", player)
     with open(os.path.join(folder, "asoundrc"), "w", encoding="utf-8") as file:
         file.write(f'pcm.n {{ type null }}\npcm.raw {{ type file slave.pcm n file "{out}" format "raw" }}\n')
     os.environ["ALSA_CONFIG_PATH"] = f"/usr/share/alsa/alsa.conf:{file.name}"
-    factor = int(re.search(rb"^factor = (\d+)", get(filter), re.MULTILINE)[1])
+    factor = int(re.findall(rb"^factor = (\d+)", get(filter), re.MULTILINE)[0])
     at = len(frames) // align // 3
     second = f"{(at + 0.5) * factor / 2_822_400:.9f}"
     for name in (dff, dsf):
@@ -54,7 +57,7 @@ def try_player(folder, dff, dsf, filter, frames, align):
         demand(status == 1 and said == f"dsdarcplay: {folder}: {told}\n", f"dsdarcplay: a folder: {status}, {said}")
 
 
-def try_element(folder, words, dff, dsf, filter, frames, align):
+def try_element(folder: str, words: list[str], dff: str, dsf: str, filter: str, frames: bytes, align: int) -> None:
     """The element plays all, goes to any frame, also while it plays, and is found by what plays files."""
     out, made = os.path.join(folder, "client.pcm"), os.path.join(folder, "libgstdsdarc.so")
     compiled("clients/gstdsdarcdec.c", "-shared", "-fPIC", os.path.join(BUILT, "libdsdarc.a"), *words, "-o", made)
@@ -101,7 +104,7 @@ def try_element(folder, words, dff, dsf, filter, frames, align):
     try_keys(folder, long, out, whole)
 
 
-def try_keys(folder, name, out, whole):
+def try_keys(folder: str, name: str, out: str, whole: bytes) -> None:
     """gst-play finds the element by itself, and its keys go on and back: filesink begins anew behind each."""
     import pty
     import shutil

@@ -169,7 +169,7 @@ static void at_random(unsigned long run, const unsigned char *text, size_t text_
         } else if (kind == 17 && told && below(4) == 0) {
             uint64_t to = below(info.frames + 3);
             status = dsdarc_player_seek(player, to, &offset);
-            if (to > info.frames ? status != DSDARC_BEHIND_END : status != DSDARC_OK) fail("a seek", run);
+            if (to > info.frames ? status != DSDARC_PAST_END : status != DSDARC_OK) fail("a seek", run);
             if (status == DSDARC_OK) {
                 if (to * frame > have) break; /* behind a fault: nothing to compare with */
                 place = to * frame, at = offset < size ? (size_t)offset : size, sought = 1, none_wait = 0;

@@ -2,8 +2,9 @@
 
 import os
 
-from dsdiffs import VERSION, chunk, dsdiff, property_chunks
-from playing import ROOT, demand, run
+from dsdarc_scripts.dsdiffs import VERSION, chunk, dsdiff, property_chunks
+from tests.helpers.trials import ROOT, demand
+from tests.helpers.trials import said as run
 
 FILTER = os.path.join(ROOT, "filters", "dsd64-to-88200-24.toml")
 HELD = 1 << 28  # bytes that are held of either
@@ -12,14 +13,14 @@ PIECE = 4096  # bytes of a push
 TOUCHED = 1024  # KiB that such a push may touch of memory
 
 
-def a_form(before, sound, after, size):
+def a_form(before: bytes, sound: bytes, after: bytes, size: int) -> bytes:
     """A DSDIFF file up to the last byte of `after`, with chunks before its sound. Its form has so many more bytes."""
     inner = b"".join(chunk(*it) for it in property_chunks(2_822_400, 2))
     body = b"DSD " + chunk(*VERSION) + before + chunk(b"PROP", b"SND " + inner) + sound + after
     return b"FRM8" + (len(body) + size).to_bytes(8, "big") + body
 
 
-def try_held(folder, held):
+def try_held(folder: str, held: str) -> None:
     """A push doesn't look again at what is held, and more than the limit isn't held."""
     tiny, sound = chunk(b"TINY", b"") * TINY, chunk(b"DSD ", bytes(2 * 9000))
     head = b"LONG" + (2 * HELD).to_bytes(8, "big")

@@ -6,7 +6,8 @@ import shutil
 import subprocess
 import sys
 
-from playing import BUILT, PROGRAM, ROOT, demand, get
+from tests.helpers.trials import ROOT, demand, get
+from tests.library.playing import BUILT, PROGRAM
 
 PYTHON = "lib/python3/dist-packages"
 # What tells Python and others where the library is, which nothing may need here.
@@ -15,7 +16,7 @@ NAMED = ("DSDARC", "DSDARC_LIBRARY", "DSDARC_FILTERS", "DSDARC_FILTER", "PYTHONP
 DEVELOPMENT = ("include/dsdarc.h", "lib/libdsdarc.a", "lib/libdsdarc.so", "lib/pkgconfig/dsdarc.pc")
 
 
-def lines_of(name, *parts):
+def lines_of(name: str, *parts: str) -> list[str]:
     """The lines of a document's programs that have one of these parts."""
     with open(os.path.join(ROOT, name), encoding="utf-8") as file:
         lines = [line[4:].rstrip("\n") for line in file if line.startswith("    ")]
@@ -25,7 +26,7 @@ def lines_of(name, *parts):
 class Users:
     """A folder with `in.dsf` and what is installed below a prefix, in which lines are run as a user does."""
 
-    def __init__(self, folder, prefix, sound, frames):
+    def __init__(self, folder: str, prefix: str, sound: str, frames: bytes) -> None:
         self.folder, self.prefix, self.frames = folder, prefix, frames
         os.mkdir(folder)
         for name in ("clients", "filters"):
@@ -37,13 +38,13 @@ class Users:
         # LLVM's libunwind, which may be there in place of Debian's, has no such file, and that of GStreamer names it.
         self.put("pc/libunwind.pc", "Name: libunwind\nDescription: none\nVersion: 1\n")
 
-    def put(self, name, text):
+    def put(self, name: str, text: str) -> None:
         path = os.path.join(self.folder, name)
         os.makedirs(os.path.dirname(path), exist_ok=True)
         with open(path, "w", encoding="utf-8") as file:
             file.write(text)
 
-    def run(self, *words, **more):
+    def run(self, *words: str, **more: str) -> tuple[int, bytes]:
         """Status of a command and what it prints; it knows nothing of the clone."""
         given = {name: value for name, value in os.environ.items() if name not in NAMED}
         given |= {
@@ -57,7 +58,7 @@ class Users:
         done = subprocess.run(words, cwd=self.folder, env=given | more, capture_output=True, check=False)
         return done.returncode, done.stdout + done.stderr
 
-    def follow(self, what, lines, count, made):
+    def follow(self, what: str, lines: list[str], count: int, made: str) -> None:
         """Runs these lines, of which there are so many, and asks for the frames in a file."""
         demand(len(lines) == count, f"{what}: {len(lines)} lines are there, not {count}: {lines}")
         for line in lines:
@@ -67,7 +68,7 @@ class Users:
         is_right = os.path.exists(path) and get(path) == self.frames
         demand(is_right, f"{what}: other frames in {made}")
 
-    def plays(self, source, script):
+    def plays(self, source: str, script: str) -> None:
         """The players of the documents, in C, over ALSA and by GStreamer, and the script in Python."""
         self.put("play.c", source)
         self.put("script.py", script)
@@ -83,7 +84,7 @@ class Users:
             self.follow("the element", lines, 2, "out.pcm")
         self.runs_script("Python, installed", sys.executable, PYTHONPATH=f"{self.prefix}/{PYTHON}")
 
-    def runs_script(self, what, python, **more):
+    def runs_script(self, what: str, python: str, **more: str) -> None:
         """README's script in Python, and where its package is found."""
         status, said = self.run(python, "script.py", **more)
         is_right = status == 0 and said.startswith(b"Info(samplerate=88200, channels=")
@@ -95,7 +96,7 @@ class Users:
         demand(status == 0 and is_own, f"{what}: {said[-300:]}")
 
 
-def beside(folder):
+def beside(folder: str) -> dict[str, str]:
     """The program with the library beside it, as `bin/build` leaves them."""
     os.mkdir(folder)
     shutil.copy(PROGRAM, f"{folder}/dsdarc")
@@ -105,11 +106,11 @@ def beside(folder):
     return {"DSDARC": f"{folder}/dsdarc"}
 
 
-def files_below(folder):
+def files_below(folder: str) -> set[str]:
     return {os.path.relpath(os.path.join(at, name), folder) for at, folders, names in os.walk(folder) for name in names}
 
 
-def below_local(folder, users, given):
+def below_local(folder: str, users: Users, given: dict[str, str]) -> None:
     """Below /usr/local the Python package is where Debian's Python looks for it, and finds the library and filters."""
     words = 'import site; print(*[it for it in site.getsitepackages() if it.startswith("/usr/local/")][:1])'
     status, said = users.run("/usr/bin/python3", "-I", "-c", words)
@@ -123,7 +124,7 @@ def below_local(folder, users, given):
     users.runs_script("Python, below /usr/local", sys.executable, PYTHONPATH=place, LD_LIBRARY_PATH="")
 
 
-def files_of_packages(folder, users, made):
+def files_of_packages(folder: str, users: Users, made: list[str]) -> str:
     """Each file that is installed is in one of the packages, and the library where Debian has libraries."""
     there = []
     for number, name in enumerate(made):
@@ -145,7 +146,7 @@ def files_of_packages(folder, users, made):
     return place
 
 
-def packages(folder, users, given):
+def packages(folder: str, users: Users, given: dict[str, str]) -> None:
     """The packages: each file is in one of them, from all together a program is built, and lintian has no errors."""
     if not shutil.which("dpkg-deb"):
         print("left out: the packages, as dpkg-deb isn't here")
@@ -166,14 +167,14 @@ def packages(folder, users, given):
             "debian/control", "Source: packaged\n\nPackage: packaged\nArchitecture: any\nDepends: ${shlibs:Depends}\n"
         )
         status, said = users.run("dpkg-shlibdeps", "-O", f"-S{folder}/1", f"-l{place}", "packaged")
-        is_named = status == 0 and b"libdsdarc0 (>= 0.1.0)" in said and b"libc6" in said
+        is_named = status == 0 and b"libdsdarc0 (>= 0.2.0)" in said and b"libc6" in said
         demand(is_named, f"dpkg-shlibdeps of a program: status {status}, {said[-300:]}")
     if shutil.which("lintian"):
         status, said = users.run("lintian", "--no-cfg", "--allow-root", "--fail-on", "error", *made)
         demand(status == 0, f"lintian: status {status}, {said[-900:]}")
 
 
-def by_pip(folder, users):
+def by_pip(folder: str, users: Users) -> None:
     """`pip install .` in a copy of the clone, in a virtual environment that sees Debian's packages."""
     clone, python = f"{folder}/clone", f"{folder}/venv/bin/python3"
     status, said = users.run("/usr/bin/python3", "-m", "venv", "--system-site-packages", f"{folder}/venv")
@@ -195,7 +196,7 @@ def by_pip(folder, users):
     users.runs_script("Python, by pip", python, LD_LIBRARY_PATH="")
 
 
-def try_installed(folder, sound, frames, source, script):
+def try_installed(folder: str, sound: str, frames: bytes, source: str, script: str) -> None:
     """All of it, of a DSF file with the frames that `play` makes of it by 88200/24; and README's programs."""
     os.mkdir(folder)
     given = beside(f"{folder}/built")

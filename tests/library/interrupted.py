@@ -10,8 +10,17 @@ import sys
 import tempfile
 import threading
 import time
+from collections.abc import Callable, Iterator
+from types import FrameType
+from typing import TYPE_CHECKING, Any
 
-from playing import ROOT, demand, get, played, run
+from tests.helpers.trials import ROOT, demand, get
+from tests.helpers.trials import said as run
+from tests.library.playing import played
+
+if TYPE_CHECKING:
+    from dsdarc import Sound
+    from numpy import ndarray
 
 MOST_SECONDS = 60  # what doesn't come to its end is stopped then
 
@@ -23,24 +32,24 @@ class Stop(KeyboardInterrupt):
 class Failing(io.BytesIO):
     """A file whose n-th call fails; a count tells how many there were."""
 
-    def __init__(self, data, at):
+    def __init__(self, data: bytes, at: int) -> None:
         super().__init__(data)
         self.left = at
 
-    def _called(self):
+    def _called(self) -> None:
         self.left -= 1
         if self.left == 0:
             raise OSError(5, "a call that fails")
 
-    def read(self, *words):
+    def read(self, *words: int | None) -> bytes:
         self._called()
         return super().read(*words)
 
-    def seek(self, *words):
+    def seek(self, *words: int) -> int:
         self._called()
         return super().seek(*words)
 
-    def tell(self):
+    def tell(self) -> int:
         self._called()
         return super().tell()
 
@@ -48,11 +57,11 @@ class Failing(io.BytesIO):
 class Growing(io.BytesIO):
     """A file that has more each time it is read."""
 
-    def read(self, size=-1):
-        return super().read(size) or bytes(max(size, 1))
+    def read(self, size: int | None = -1) -> bytes:
+        return super().read(size) or bytes(max(size or 1, 1))
 
 
-def numbers_of(frames, align, width):
+def numbers_of(frames: bytes, align: int, width: int) -> "ndarray":
     """The samples of the frames of a WAVE file, a row each."""
     import numpy
 
@@ -62,7 +71,7 @@ def numbers_of(frames, align, width):
     return (wide.view("<i4") >> (32 - 8 * width)).reshape(-1, align // width)
 
 
-def is_next(sound, whole, count=50):
+def is_next(sound: "Sound", whole: "ndarray", count: int = 50) -> bool:
     """Whether the next frames are those that belong to `tell()`; or a fault says that there are none."""
     import dsdarc
     import numpy
@@ -77,7 +86,7 @@ def is_next(sound, whole, count=50):
     return numpy.array_equal(read, whole[at : at + count])
 
 
-def steps(sound, count):
+def steps(sound: "Sound", count: int) -> Iterator[Callable[[], object]]:
     """Reads and seeks, one after the other."""
     yield lambda: sound.read(count // 3, "native")
     yield lambda: sound.seek(count // 2)
@@ -88,7 +97,7 @@ def steps(sound, count):
     yield lambda: list(sound.blocks(count // 2))
 
 
-def each_call_fails(name, filter, whole):
+def each_call_fails(name: str, filter: str, whole: "ndarray") -> None:
     """An OSError at each call of the file in turn."""
     import dsdarc
 
@@ -116,14 +125,14 @@ def each_call_fails(name, filter, whole):
     demand(wrong == 0, f"Python: {wrong} of {tried} reads after a failed call gave other frames")
 
 
-def each_place_raises(name, filter, whole, stride):
+def each_place_raises(name: str, filter: str, whole: "ndarray", stride: int) -> None:
     """An interrupt at each place of the package's code in turn: at every line, call and return, and within lines."""
     import dsdarc
 
     folder = os.path.dirname(dsdarc.__file__)
     left = [0]
 
-    def trace(frame, event, _):
+    def trace(frame: FrameType, event: str, _: object) -> Callable[..., Any] | None:
         if not frame.f_code.co_filename.startswith(folder) or frame.f_code.co_name in ("__del__", "drop"):
             return None
         frame.f_trace_opcodes = True
@@ -152,11 +161,11 @@ def each_place_raises(name, filter, whole, stride):
     demand(wrong == 0, f"Python: {wrong} of {tried} reads after an interrupt at a place gave other frames")
 
 
-def at_any_time(name, filter, whole, count):
+def at_any_time(name: str, filter: str, whole: "ndarray", count: int) -> None:
     """Interrupts at random times."""
     import dsdarc
 
-    def stop(*_):
+    def stop(*_: object) -> None:
         raise Stop
 
     tried = wrong = 0
@@ -184,14 +193,14 @@ def at_any_time(name, filter, whole, count):
     demand(wrong == 0, f"Python: {wrong} of {tried} interrupted reads were followed by other frames")
 
 
-def within(name, filter, whole, count):
+def within(name: str, filter: str, whole: "ndarray", count: int) -> None:
     """Handlers of signals that read the same sound amid a read, which is refused then, or goes on; and those that raise
     after that."""
     import dsdarc
 
     chance, wrong, refused = random.Random(6), [], 0
 
-    def reads(*_):
+    def reads(*_: object) -> None:
         sound.seek(chance.randrange(len(whole)))
         wrong.extend([] if is_next(sound, whole) else ["in a handler"])
         if chance.random() < 0.3:
@@ -221,7 +230,7 @@ def within(name, filter, whole, count):
     demand(not wrong, f"Python: a sound that a handler of a signal reads: other frames {wrong[:3]}")
 
 
-def shared(name, filter, whole):
+def shared(name: str, filter: str, whole: "ndarray") -> None:
     """Sounds that share a file object, one after the other and side by side, and who else moves it."""
     import dsdarc
 
@@ -234,7 +243,7 @@ def shared(name, filter, whole):
                 right = right and is_next(one, whole, 500) and is_next(other, whole)
                 wrong = []
 
-                def reads(sound):
+                def reads(sound: "Sound") -> None:
                     for at in range(0, len(whole), max(len(whole) // 40, 1)):
                         sound.seek(at)
                         if not is_next(sound, whole, 300):
@@ -250,7 +259,7 @@ def shared(name, filter, whole):
                 demand(not wrong, f"Python: sounds that share a {kind}, in threads: {len(wrong)} wrong reads")
 
 
-def forked(name, filter, whole):
+def forked(name: str, filter: str, whole: "ndarray") -> None:
     """A process that is forked, also while another thread reads: both read on, or the new one is refused."""
     import dsdarc
 
@@ -259,7 +268,7 @@ def forked(name, filter, whole):
         held.seek(9)
         going = threading.Event()
 
-        def reads():
+        def reads() -> None:
             while not going.is_set():
                 busy.seek(0)
                 busy.read(-1, "float32")
@@ -289,12 +298,13 @@ def forked(name, filter, whole):
             thread.join()
 
 
-def copies(name, filter):
+def copies(name: str, filter: str) -> None:
     """What copies a sound is refused, and the sound goes on."""
     import dsdarc
 
     with dsdarc.open(name, filter) as sound:
-        for way in (copy.copy, copy.deepcopy, pickle.dumps):
+        ways: tuple[Any, ...] = copy.copy, copy.deepcopy, pickle.dumps
+        for way in ways:
             try:
                 way(sound)
                 demand(False, f"Python: {way.__name__} makes a second sound")
@@ -305,11 +315,11 @@ def copies(name, filter):
     demand((fault.name, str(fault)) == ("FileRefused", "FileRefused: in.dsf"), f"Python: a pickled fault: {fault}")
 
 
-def grows(name, filter, whole):
+def grows(name: str, filter: str, whole: "ndarray") -> None:
     """A file that grows comes to an end, and its frames are given."""
     import dsdarc
 
-    def stop(*_):
+    def stop(*_: object) -> None:
         raise Stop
 
     before = signal.signal(signal.SIGALRM, stop)
@@ -325,7 +335,7 @@ def grows(name, filter, whole):
         signal.signal(signal.SIGALRM, before)
 
 
-def comes_first(folder, cut, name, filter, whole):
+def comes_first(folder: str, cut: str, name: str, filter: str, whole: "ndarray") -> None:
     """Of a file that ends early the frames that C gives are given, and then the fault, whatever is read at once."""
     import dsdarc
 
@@ -363,7 +373,7 @@ def comes_first(folder, cut, name, filter, whole):
                 demand(why.name == "FileRefused", f"Python: a file that ends early: {why}")
 
 
-def closes(name, filter):
+def closes(name: str, filter: str) -> None:
     """Reads all at once, and closes."""
     import dsdarc
 
@@ -372,13 +382,14 @@ def closes(name, filter):
     sound.close()
 
 
-def filters(folder, name):
+def filters(folder: str, name: str) -> None:
     """Filters by an index, the warning of one for another rate, and what is no filter."""
     import warnings
 
     import dsdarc
 
-    for filter in (88200, 88200.24):
+    wrong: tuple[Any, ...] = 88200, 88200.24
+    for filter in wrong:
         try:
             dsdarc.open(name, filter)
             demand(False, f"Python: {filter} is a filter")
@@ -417,7 +428,7 @@ def filters(folder, name):
     demand(plus.endswith("/dsd64-to-88200-24-plus6.toml"), f"Python: the louder filter is {plus}")
 
 
-def try_interrupted(folder, cut, interrupts):
+def try_interrupted(folder: str, cut: str, interrupts: int) -> None:
     """All of these, over files with the frames of WAVE files."""
     with tempfile.TemporaryDirectory(dir=folder) as room:
         dff, dsf, filter, frames, align = played(room, "long", 300_001)

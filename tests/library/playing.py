@@ -1,28 +1,16 @@
 """What the trials of the library share: the program, what is built beside it, and how they say what they find."""
 import os
 import random
-import subprocess
-import sys
 
-ROOT = os.path.dirname(os.path.dirname(os.path.dirname(os.path.abspath(__file__))))
-sys.path += [os.path.join(ROOT, it) for it in ("scripts/common", "python")]
+from dsdarc_scripts.dsdiffs import dsdiff
+from tests.helpers.trials import ROOT, demand, get
+from tests.helpers.trials import said as run
+
 BUILT = os.path.join(ROOT, "crates", "dsdarc", "out")
 PROGRAM = os.environ.get("DSDARC") or os.path.join(BUILT, "dsdarc")
-found = []
 
 
-def demand(holds, why):
-    if not holds:
-        found.append(why)
-        print(f"  FOUND: {why}", flush=True)
-
-
-def run(*words):
-    done = subprocess.run(words, stdout=subprocess.PIPE, stderr=subprocess.STDOUT, check=False)
-    return done.returncode, done.stdout.decode()
-
-
-def frames_of(wave):
+def frames_of(wave: bytes) -> tuple[bytes, int]:
     """The frames of a WAVE file, and how many bytes one has."""
     at, align = 12, 0
     while wave[at : at + 4] != b"data":
@@ -32,16 +20,9 @@ def frames_of(wave):
     return wave[at + 8 : at + 8 + int.from_bytes(wave[at + 4 : at + 8], "little")], align
 
 
-def get(name):
-    with open(name, "rb") as file:
-        return file.read()
-
-
-def played(folder, name, size):
+def played(folder: str, name: str, size: int) -> tuple[str, str, str, bytes, int]:
     """Files of two channels of random sound, of which each has so many bytes, with a filter, the frames that `play` makes
     of them, and how many bytes one has."""
-    from dsdiffs import dsdiff
-
     dff, dsf, wave = (os.path.join(folder, f"{name}.{it}") for it in ("dff", "dsf", "wav"))
     filter = os.path.join(ROOT, "filters", "dsd64-to-88200-24.toml")
     with open(dff, "wb") as file:
@@ -51,7 +32,7 @@ def played(folder, name, size):
     return dff, dsf, filter, *frames_of(get(wave))
 
 
-def compiled(source, *words):
+def compiled(source: str, *words: str) -> None:
     status, said = run(
         os.environ.get("CC", "cc"), "-I", os.path.join(ROOT, "library"), os.path.join(ROOT, source), *words
     )

@@ -177,7 +177,7 @@ static void try_seeks(void) {
     at = to_sound(player, &info);
     dsdarc_player_push(player, bytes + at, size - at, &taken);
     SAYS("behind the end a seek changes nothing",
-         dsdarc_player_seek(player, info.frames + 1, &offset) == DSDARC_BEHIND_END && offset == 5);
+         dsdarc_player_seek(player, info.frames + 1, &offset) == DSDARC_PAST_END && offset == 5);
     SAYS("frames that wait are dropped", dsdarc_player_seek(player, 3, &offset) == DSDARC_OK && pulled(player) == 0);
     SAYS("a seek goes to any frame, and to their number", dsdarc_player_seek(player, info.frames, &offset) == DSDARC_OK);
     if (dsdarc_player_seek(player, 0, &offset) != DSDARC_OK) exit(3);

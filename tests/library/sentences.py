@@ -3,14 +3,19 @@ on a processor that lacks what the library was built for."""
 import os
 import shutil
 
-from dsdiffs import dsdiff
-from playing import BUILT, PROGRAM, ROOT, compiled, demand, get, run
+from dsdarc_scripts.dsdiffs import dsdiff
+from tests.helpers.trials import ROOT, demand, get
+from tests.helpers.trials import said as run
+from tests.library.playing import BUILT, PROGRAM, compiled
 
 SOURCES = [os.path.join(ROOT, "library", f"{it}.c") for it in ("dsdarc", "filters", "channels")]
 ARCHIVE = os.path.join(BUILT, "libdsdarc.a")
 
+# The C library counts what it keeps of freed memory for the next request as held, unless it keeps nothing.
+KEEPING_NOTHING = os.environ | {"GLIBC_TUNABLES": "glibc.malloc.tcache_count=0"}
 
-def three_channels(folder):
+
+def three_channels(folder: str) -> tuple[str, str]:
     """Files with a channel of ones, one of zeros and one of both in turn."""
     dff, dsf = (os.path.join(folder, f"three.{it}") for it in ("dff", "dsf"))
     with open(dff, "wb") as file:
@@ -19,13 +24,13 @@ def three_channels(folder):
     return dff, dsf
 
 
-def try_sentences(folder):
+def try_sentences(folder: str) -> None:
     """All sentences, and the calls that need no player."""
     made = os.path.join(folder, "sentences")
     compiled("tests/library/sentences.c", "-O2", "-Wall", "-Wextra", "-Werror", ARCHIVE, "-o", made)
     files = three_channels(folder)
     for filter in ("dsd64-to-88200-24", "dsd64-to-44100-16"):
-        status, said = run(made, os.path.join(ROOT, "filters", f"{filter}.toml"), *files)
+        status, said = run(made, os.path.join(ROOT, "filters", f"{filter}.toml"), *files, env=KEEPING_NOTHING)
         demand(status == 0 and said == "", f"dsdarc.h, by {filter}: status {status}\n{said}")
     made = os.path.join(folder, "pure")
     words = ["-g", "-fsanitize=address,undefined", "-fno-sanitize-recover", "-Wall", "-Wextra", "-Werror"]
@@ -34,7 +39,7 @@ def try_sentences(folder):
     demand(status == 0 and said == "", f"calls without a player: status {status}\n{said}")
 
 
-def try_processor(folder, filter, name):
+def try_processor(folder: str, filter: str, name: str) -> None:
     """A processor that lacks what the library was built for gets a status, and no other ends by a signal."""
     made, out = os.path.join(folder, "lacking"), os.path.join(folder, "lacking.pcm")
     for level in ("2", "3"):

@@ -5,16 +5,19 @@ import signal
 import subprocess
 import threading
 import time
+from typing import Any
 
-from dsdiffs import dsdiff
-from playing import PROGRAM, ROOT, compiled, demand, get, run
+from dsdarc_scripts.dsdiffs import dsdiff
+from tests.helpers.trials import ROOT, demand, get, stream
+from tests.helpers.trials import said as run
+from tests.library.playing import PROGRAM, compiled
 
 MOST_SECONDS = 60  # what doesn't come to its end is killed then
 SECONDS_AFTER_ERRORS = 20  # what may wait for ever is killed then
 SURROUND = [b"MLFT", b"MRGT", b"C   ", b"LFE ", b"LS  ", b"RS  "]
 
 
-def launched(*words, **how):
+def launched(*words: str, **how: Any) -> tuple[int | None, str]:
     """Status and words of gst-launch. The status is None if it didn't end by itself: after an error before the first
     buffer its loop may wait for ever, with `wavparse` too."""
     try:
@@ -26,7 +29,7 @@ def launched(*words, **how):
     return done.returncode, (done.stdout + done.stderr).decode()
 
 
-def await_handler(child):
+def await_handler(child: subprocess.Popen[str]) -> None:
     """Waits until a program catches SIGINT, or has ended."""
     while child.poll() is None:
         caught = re.search(rb"^SigCgt:\s*(\w+)", get(f"/proc/{child.pid}/status"), re.MULTILINE)
@@ -35,7 +38,7 @@ def await_handler(child):
         time.sleep(0.01)
 
 
-def interrupted(words, when="New clock", **how):
+def interrupted(words: list[str], when: str = "New clock", **how: Any) -> tuple[int | None, str]:
     """Status and words of gst-launch that is interrupted once it says this, as it plays, and asked to end its stream
     then (-e)."""
     child = subprocess.Popen(
@@ -44,7 +47,7 @@ def interrupted(words, when="New clock", **how):
     killing = threading.Timer(MOST_SECONDS, child.kill)
     killing.start()
     said = ""
-    for line in child.stdout:
+    for line in stream(child.stdout):
         said += line
         if when in line:
             await_handler(child)
@@ -54,12 +57,12 @@ def interrupted(words, when="New clock", **how):
     return status, said
 
 
-def is_stopped(status, said):
+def is_stopped(status: int | None, said: str) -> bool:
     """Whether a stream that the application ended came to its end without an error."""
     return status == 0 and "ERROR" not in said and "Forcing EOS" in said and "EOS received" in said
 
 
-def ends(long, short):
+def ends(long: str, short: str) -> None:
     """Stops before the end of a file are no errors; a file that ends early is one."""
     dec = ["!", "dsdarcdec", "filter=88200/24", "!"]
     for name in (long, long.replace(".dff", ".dsf")):
@@ -72,7 +75,7 @@ def ends(long, short):
         demand(is_stopped(status, said), f"dsdarcdec: stopped at a file's number: {status}, {said[-400:]}")
         with subprocess.Popen(["cat", name], stdout=subprocess.PIPE) as pipe:
             status, said = interrupted(["fdsrc", *dec, "fakesink", "sync=true"], stdin=pipe.stdout)
-            pipe.stdout.close()
+            stream(pipe.stdout).close()
         demand(is_stopped(status, said), f"dsdarcdec: stopped at a pipe: {status}, {said[-400:]}")
         with subprocess.Popen(["sleep", "60"], stdout=subprocess.PIPE) as pipe:
             status, said = interrupted(["fdsrc", *dec, "fakesink"], "Pipeline is PREROLLING", stdin=pipe.stdout)
@@ -82,8 +85,8 @@ def ends(long, short):
             status, said = launched(*source, *sink)
             is_right = status == 0 and "ERROR" not in said
             demand(is_right, f"dsdarcdec: stopped by {sink[0]}: status {status}, {said[-400:]}")
-    early = [(["filesrc", f"location={short}"], {}), (["fdsrc"], {"input": get(short)})]
-    empty = [(["fdsrc"], {"input": b""}), (["filesrc", "location=/dev/null"], {})]
+    early: list[Any] = [(["filesrc", f"location={short}"], {}), (["fdsrc"], {"input": get(short)})]
+    empty: list[Any] = [(["fdsrc"], {"input": b""}), (["filesrc", "location=/dev/null"], {})]
     for ways, how in (*early, *empty):
         status, said = launched(*ways, *dec, "fakesink", **how)
         is_ended = status == 1 or (status is None and (ways, how) in empty)
@@ -91,7 +94,7 @@ def ends(long, short):
         demand(is_right, f"dsdarcdec: a file that ends early, by {ways[0]}: status {status}, {said[-400:]}")
 
 
-def segments(folder, words, long, out, whole):
+def segments(folder: str, words: list[str], long: str, out: str, whole: bytes) -> None:
     """Segments are answered in time, with and without a flush, and go on without a gap."""
     made = os.path.join(folder, "segments")
     compiled("tests/library/segments.c", *words, "-o", made)
@@ -103,7 +106,7 @@ def segments(folder, words, long, out, whole):
             demand(is_right, f"dsdarcdec: the segment {first} to {stop}, {times} times: status {status}, {said[-300:]}")
 
 
-def caps_of(name):
+def caps_of(name: str) -> tuple[int | None, int | None, str]:
     """What the element says of the channels of a file."""
     ways = ["-v", "filesrc", f"location={name}", "!", "dsdarcdec", "name=dec", "!", "fakesink", "num-buffers=1"]
     status, said = launched(*ways)
@@ -112,7 +115,7 @@ def caps_of(name):
     return int(mask[1], 16) if mask else None, status, said
 
 
-def loudspeakers(folder):
+def loudspeakers(folder: str) -> None:
     """Masks by the channel types of DSF and the IDs of DSDIFF; those that go to no loudspeakers have none."""
     name = os.path.join(folder, "channels.dsf")
     dff = os.path.join(folder, "channels.dff")
@@ -136,8 +139,9 @@ def loudspeakers(folder):
         demand(status == 0 and found == mask, f"dsdarcdec: channels {ids}: mask {found}, not {mask}: {said[-300:]}")
 
 
-def names(folder, long):
+def names(folder: str, long: str) -> None:
     """The element, its type, its debug category and its origin have names of its own."""
+    status: int | None
     status, said = run("gst-inspect-1.0", "dsdarcdec")
     is_right = status == 0 and "+----DsdarcDec\n" in said and "example" not in said
     demand(is_right, f"dsdarcdec: its names: {said[:900]}")
@@ -157,7 +161,7 @@ def names(folder, long):
         demand(is_right and is_warned == ("WARNING" in said), f"dsdarcdec: the warning of {filter}: {said[-300:]}")
 
 
-def try_stopped(folder, words, long, out, whole):
+def try_stopped(folder: str, words: list[str], long: str, out: str, whole: bytes) -> None:
     """All of these; `whole` has the frames of the file that is named."""
     short = os.path.join(folder, "short.dff")
     with open(short, "wb") as file:

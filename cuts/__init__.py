@@ -1,0 +1,1 @@
+"""What the scripts of cuts/ share, and albums."""

@@ -1,0 +1,83 @@
+"""What the scripts that change projects are asked for, and what they do alike."""
+import argparse
+import os
+import sys
+from collections.abc import Callable, Iterator
+from pathlib import Path
+
+from cuts import masters
+from cuts.projects import Project, Spot
+from dsdarc_scripts.explained import shown_name
+from dsdarc_scripts.outputs import Refused
+
+
+def usual(words: argparse.ArgumentParser) -> None:
+    """The words of both."""
+    words.add_argument("project", type=Path)
+    words.add_argument("-o", "--output", type=Path, required=True, metavar="NEW")
+    words.add_argument("--take", type=Path, metavar="FILE", help="the take of seams, DSDIFF (NEW.seams.dff)")
+    words.add_argument("--cut", type=int, nargs="+", metavar="N", help="these cuts alone, counted from 0")
+    going = "leave the cuts that are refused as they are; the status is 1 then"
+    words.add_argument("--keep-going", action="store_true", help=going)
+
+
+def parsed(words: argparse.ArgumentParser) -> argparse.Namespace:
+    """What is asked for, with the name of the take of seams."""
+    asked = words.parse_args()
+    asked.take = asked.take or Path(f"{os.path.splitext(asked.output)[0]}.seams.dff")
+    try:
+        str(asked.take).encode()
+    except UnicodeEncodeError:
+        raise Refused(f"--take: {shown_name(str(asked.take))} is no text in UTF-8, so no project can name it") from None
+    return asked
+
+
+def goes_on(project: Project, spot: Spot) -> bool:
+    """Whether a take goes on at a cut, as where a cue begins for its title alone."""
+    before, after = project.cues[spot.before], project.cues[spot.after]
+    is_same = project.names[before["take"]] == project.names[after["take"]]
+    return spot.role == "plain" and is_same and before["stop"] == after["start"]
+
+
+def cuts_of(project: Project, wished: list[int] | None, staying: set[str], what: str) -> list[int]:
+    """The cuts that are asked for. Those of some kinds stay: a line and where a take goes on always, and what was made
+    before unless it is asked for by its number."""
+    spots = project.spots()
+    for it in wished or ():
+        if not 0 <= it < len(spots):
+            raise Refused(f"there is no cut {it}: the project has {len(spots)}, counted from 0")
+    found = []
+    for number in sorted(set(range(len(spots)) if wished is None else wished)):
+        role = spots[number].role
+        if role == "line" or wished is None and role in staying:
+            why = "its bridge goes in a line" if role == "line" else f"it has a {role}; --cut {number} makes it anew"
+            print(f"cut {number}: stays, as {why}")
+        elif goes_on(project, spots[number]):
+            print(f"cut {number}: stays, as its take goes on there")
+        else:
+            found.append(number)
+    if not found:
+        raise Refused(f"there is no cut to {what}")
+    return found
+
+
+def tried(project: Project, cuts: list[int], make: Callable[[int], None], keeps_going: bool) -> Iterator[int]:
+    """Makes each cut, or leaves it as it was and prints why; yields the numbers of those that are made."""
+    for number in cuts:
+        try:
+            make(number)
+        except Refused as error:
+            if not keeps_going:
+                raise Refused(f"cut {number}: {error}; --keep-going leaves it as it is") from None
+            print(f"{masters.script()}: cut {number}: {error}; it stays as it was", file=sys.stderr)
+        else:
+            yield number
+    end_with_a_byte(project)
+
+
+def end_with_a_byte(project: Project) -> None:
+    """If the master was to be whole bytes long, it will be so again."""
+    spare = project.end_with_a_byte() if project.was_whole else 0
+    if spare:
+        bits = "1 bit" if spare == 1 else f"{spare} bits"
+        print(f"the last cue ends {bits} earlier, so that DSDIFF files hold the master")

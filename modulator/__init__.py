@@ -1,0 +1,1 @@
+"""The modulator, by its program in C."""

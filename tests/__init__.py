@@ -1,0 +1,1 @@
+"""What tries the built program and the scripts."""

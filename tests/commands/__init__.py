@@ -1,0 +1,1 @@
+"""Rows that are asked of the built program."""

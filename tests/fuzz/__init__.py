@@ -1,0 +1,1 @@
+"""Broken files, and what the program has to say of them."""

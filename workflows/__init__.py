@@ -1,0 +1,1 @@
+"""What the scripts over whole archives share."""

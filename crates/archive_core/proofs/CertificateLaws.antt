@@ -15,16 +15,15 @@ use Rattle.cut_core.specs.Cuts.{CutContent, cue_bits, master_length, take_channe
 use Rattle.cut_core.specs.Keeping.{CanCut}
 use Rattle.cut_core.proofs.ZipLaws.{zip_at, zip_number, zip_numbers_long, zip_range}
 use Rattle.master_core.specs.Certificates.{cert_of}
-use Rattle.judge_core.specs.Checking.{HoldCues, IsMasterOf, rebuilt}
-use Rattle.judge_core.specs.Claims.{IsCertOf, claim_at, claims}
-use Rattle.judge_core.specs.Masters.{AreLeastChannels, AreMasterChannels, IsLeastChannel, IsLeastPart, IsMasterChannel, channel_numbers, part_at, parts_of, total_cost}
+use Rattle.cut_core.specs.Masters.{HoldCues, IsMasterOf, rebuilt, AreLeastChannels, AreMasterChannels, IsLeastChannel, IsLeastPart, IsMasterChannel, channel_numbers, part_at, parts_of, total_cost}
+use Rattle.cut_core.specs.Claims.{IsCertOf, claim_at, claims}
 use Rattle.master_core.proofs.CertLaws.{IsShowable, text_is_cert}
-use Rattle.judge_core.proofs.ChannelLaws.{before_long, bridge_in_channel, is_rebuilt, part_is, part_number, whole_length}
-use Rattle.judge_core.specs.Cutting.{SaysCut}
+use Rattle.cut_core.proofs.ChannelLaws.{before_long, bridge_in_channel, is_rebuilt, part_is, part_number, whole_length}
+use Rattle.request_core.specs.Cutting.{SaysCut}
 use Rattle.archive_core.specs.Laws.{LeastIsAccepted, OneCertificate}
 use Rattle.judge_core.proofs.AcceptedLaws.{cut_can, places_from, plain_cut, window_within}
 use Rattle.judge_core.proofs.CheckLaws.{one_held}
-use Rattle.judge_core.proofs.CuttingLaws.{one_cut, says_cut}
+use Rattle.request_core.proofs.CuttingLaws.{one_cut, says_cut}
 
 -- ---- a project and files come to one cut, and a file holds one recording
 same_cut : (project : List ℕ) (files : List (List ℕ)) (s t : CutContent) → SaysCut project files None s → SaysCut project files None t → s ≡ t

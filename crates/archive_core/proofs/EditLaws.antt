@@ -13,14 +13,13 @@ use Rattle.form_core.specs.Writing.{HoldsSound}
 use Rattle.cut_core.specs.Cuts.{CutContent, master_length}
 use Rattle.cut_core.specs.Opening.{IsWhole}
 use Rattle.master_core.specs.Certificates.{cert_of}
-use Rattle.judge_core.specs.Checking.{HoldCues, IsMasterOf}
-use Rattle.judge_core.specs.Claims.{IsCertOf, windows_total}
+use Rattle.cut_core.specs.Masters.{HoldCues, IsMasterOf, AreMasterChannels, CostLeast, channel_numbers, total_cost}
+use Rattle.cut_core.specs.Claims.{IsCertOf, windows_total}
 use Rattle.master_core.specs.Best.{AreBestChannels, IsBestMaster, master_of}
-use Rattle.judge_core.specs.Masters.{AreMasterChannels, CostLeast, channel_numbers, total_cost}
 use Rattle.master_core.proofs.MasterLaws.{one_master}
 use Rattle.judge_core.specs.Accepting.{Accepts, CostsLeast, CostsWindows, IsMaster}
 use Rattle.archive_core.specs.Editing.{IsCertificate}
-use Rattle.judge_core.specs.Cutting.{SaysCut}
+use Rattle.request_core.specs.Cutting.{SaysCut}
 
 -- where no form is asked for, none is refused
 no_form : (form : Form) → None ≡ Some form → ⊥

@@ -7,10 +7,10 @@ use Rattle.cut_core.specs.Cuts.{CutContent}
 use Rattle.master_core.specs.Certificates.{cert_of}
 use Rattle.master_core.specs.Best.{IsBestMaster}
 use Rattle.archive_core.specs.declared.editing.Edited.{Edited}
-use Rattle.transfer_core.specs.declared.fault.Fault.{Fault}
-use Rattle.transfer_core.specs.declared.fault.Fault.TheVariants.{Memory}
+use Rattle.request_core.specs.declared.fault.Fault.{Fault}
+use Rattle.request_core.specs.declared.fault.Fault.TheVariants.{Memory}
 use Rattle.judge_core.specs.Accepting.{Accepts, CostsWindows}
-use Rattle.judge_core.specs.Cutting.{SaysCut}
+use Rattle.request_core.specs.Cutting.{SaysCut}
 
 -- these bytes are the file of the master whose every bridge is the first least one, and this is its cost
 pub record Edits (project : List ℕ) (files : List (List ℕ)) (form : Form) (master : List ℕ) (cost : ℕ) : Type 0 where

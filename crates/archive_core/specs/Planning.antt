@@ -7,11 +7,11 @@ use Rattle.master_core.specs.Choosing.{AreBridgesOf}
 use Rattle.master_core.specs.Filing.{AreMasterEnds}
 use Rattle.master_core.specs.Best.{AreBestChannels, master_of}
 use Rattle.master_core.specs.Writing.{IsRoomFor}
-use Rattle.transfer_core.specs.declared.fault.Fault.{Fault}
-use Rattle.transfer_core.specs.declared.fault.Fault.TheVariants.{Memory}
+use Rattle.request_core.specs.declared.fault.Fault.{Fault}
+use Rattle.request_core.specs.declared.fault.Fault.TheVariants.{Memory}
 use Rattle.cut_core.specs.Cuts.{CutContent}
 use Rattle.judge_core.specs.Accepting.{Accepts, CostsLeast, CostsWindows, IsMaster}
-use Rattle.judge_core.specs.Cutting.{SaysCut}
+use Rattle.request_core.specs.Cutting.{SaysCut}
 use Rattle.archive_core.specs.Editing.{Edits, IsCertificate}
 use Rattle.archive_core.specs.declared.planning.PlannedMaster.{PlannedMaster}
 

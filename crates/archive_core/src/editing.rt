@@ -4,16 +4,15 @@ ghost use Rattle.std.specs.Prelude.{◌≡◌, IfErr, IfOk, List, Some, ℕ};
 ghost use Rattle.judge_core.specs.Accepting.{CostsLeast, IsMaster};
 ghost use Rattle.archive_core.specs.Editing.{AcceptsEdited, AnswersEdited, CertifiesEdited, ForEdits, IsEdited, SumsEdited};
 ghost use Rattle.archive_core.specs.Planning.{CertifiesPlanned, IsFileOf, IsPlanned, IsSamePlan};
-ghost use Rattle.judge_core.specs.Cutting.{IsFaultOfCut};
+ghost use Rattle.request_core.specs.Cutting.{IsFaultOfCut};
 ghost use Rattle.cut_core.specs.Opening.{file_bytes};
 
 use crate::planning::{PlannedMaster, plan_master};
 use chunk_core::Outlet;
 use form_core::Form;
-use judge_core::cut_files;
 use master_core::Unwatched;
+use request_core::{Fault, cut_files};
 use std::alloc::{AllocError, Global};
-use transfer_core::Fault;
 
 /// A master that was cut.
 #[derive(Drop)]

@@ -1,8 +1,9 @@
 //! How the words of the contracts are related. The functions do nothing: a caller's proof cites what they ensure.
 
-ghost use Rattle.judge_core.specs.Laws.{SaysCutInOrder};
+ghost use Rattle.request_core.specs.Cutting.{SaysCutInOrder};
 ghost use Rattle.archive_core.specs.Laws.{LeastIsAccepted, OneCertificate};
-ghost use Rattle.transfer_core.specs.Laws.{ConvertsInOrder, PlaysInOrder, SaysTakesInOrder};
+ghost use Rattle.request_core.specs.Projects.{SaysTakesInOrder};
+ghost use Rattle.transfer_core.specs.Laws.{ConvertsInOrder, PlaysInOrder};
 
 /// Reading in the order of the refusals returns what a file converts to, what project and file play, which takes a text
 /// cuts, and which cut it makes.

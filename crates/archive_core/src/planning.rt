@@ -13,9 +13,9 @@ use form_core::{Ends, Form};
 use master_core::{
     CertifyingRoom, ChosenBridges, MasterRoom, Planned, Watch, certify, plan, write_master,
 };
+use request_core::Fault;
 use std::alloc::Global;
 use std::io::Write;
-use transfer_core::Fault;
 
 /// A master whose bridges are chosen, with all memory that writing its file and its certificate takes. Its channels are
 /// never in memory: while they are written, they are put together from the parts of the takes that the cut kept.

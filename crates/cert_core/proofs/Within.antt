@@ -1,14 +1,14 @@
 -- Rows that exceed nothing, eight states at a time.
-use Rattle.std.proofs.Common.{◌≡◌, ℕ, ◌+◌, ◌*◌, ◌/◌, ◌^◌, ◌<◌, ◌≤◌, List, take, drop, length, get_or, sym, ap, ◌∙◌, inl, inr, arith}
+use Rattle.std.proofs.Common.{◌≡◌, ℕ, ◌+◌, ◌*◌, ◌/◌, ◌<◌, ◌≤◌, List, take, drop, length, get_or, sym, ap, ◌∙◌, inl, inr, arith}
 use Rattle.cost_core.specs.Trellis.{Trellis, states, newest, before_by_1, IsBounded}
 use Rattle.cost_core.specs.Bridges.{Bridging}
 use Rattle.cost_core.specs.StateCosts.{step_of, step_row, trellis_of}
-use Rattle.cost_core.specs.Rows.{sums, twice, lower, upper}
+use Rattle.cost_core.specs.Rows.{sums}
 use Rattle.cost_core.proofs.Lanes.{length-sums}
 use Rattle.cost_core.proofs.Chunks.{at_sums}
 use Rattle.cost_core.proofs.StepRows.{high_is}
 use Rattle.cost_core.proofs.WayLaws.{high_sum, low_sum}
-use Rattle.cert_core.specs.Reasons.{RowBounded, Exceeds}
+use Rattle.cert_core.specs.Reasons.{Exceeds}
 use Rattle.cert_core.specs.Within.{WithinBoth}
 use Rattle.cert_core.proofs.Marks.{marked, none_over, lane}
 use Rattle.cert_core.proofs.Steps.{one_exceeds}

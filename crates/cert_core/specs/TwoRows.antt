@@ -1,5 +1,5 @@
 -- Two rows of a window, one after the other, as they are held.
-use Rattle.std.specs.Prelude.{◌≡◌, ℕ, ◌+◌, ◌<◌, ◌≤◌, List, Bool, Option, MatchOption, length, slice_index}
+use Rattle.std.specs.Prelude.{ℕ, ◌+◌, ◌<◌, ◌≤◌, List, Bool, Option, MatchOption, length, slice_index}
 use Rattle.cost_core.specs.Trellis.{Trellis, states}
 use Rattle.cost_core.specs.StateCosts.{trellis_of}
 use Rattle.cost_core.specs.declared.rows.Ways.{Ways}

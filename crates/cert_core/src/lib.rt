@@ -14,7 +14,7 @@
 //! steps and ends for eight states at a time; it goes state by state for the rest, and where something is wrong
 //! (`rows`). This crate knows nothing of the search.
 //!
-//! The words of its contracts, all over lists and numbers without bounds:
+//! Definitions that contracts use, all over lists and numbers without bounds:
 //!
 //! - `cert_text version weights entries` is the whole text: a `cert_head`, and a `cert_entry` for each `Entry`
 //!   (`specs/Text.antt`). `row_text version row` is the text of a row. `HoldsRow version m bytes row rest` says that

@@ -28,8 +28,8 @@ chunk_at bytes = record { id = take 4 bytes; content = take (size_of bytes) (dro
 pub first_ok : (at : ℕ) (bytes : List ℕ) (c : Chunk) → first_of at bytes ≡ Ok c → First bytes c
 unfolding first_of
 first_ok at bytes c e =
-    let a = guard_ok (ltb (length bytes) 12) (HeadCut at) (cond (ltb (length bytes - 12) (size_of bytes)) (Err (DataCut at)) (Ok (chunk_at bytes))) c e in
-    let b = guard_ok (ltb (length bytes - 12) (size_of bytes)) (DataCut at) (Ok (chunk_at bytes)) c a.1 in
+    let a = guard_ok (ltb (length bytes) 12) (HeadCut at) (cond (ltb (length bytes - 12) (size_of bytes)) (Err (DataCut at (take 4 bytes) (size_of bytes))) (Ok (chunk_at bytes))) c e in
+    let b = guard_ok (ltb (length bytes - 12) (size_of bytes)) (DataCut at (take 4 bytes) (size_of bytes)) (Ok (chunk_at bytes)) c a.1 in
     let l1 : 12 ≤ length bytes = ltb-false _ _ a.0 in
     let l2 : size_of bytes ≤ length bytes - 12 = ltb-false _ _ b.0 in
     let same : chunk_at bytes ≡ c = cc (b.1) in

@@ -37,8 +37,8 @@ ends : (e : ChunkFault) (prefix : List Chunk) (at : ℕ) (rest : List ℕ) (tota
 ends Memory prefix at rest total some h so_far = tt
 ends (HeadCut k) prefix at rest total some h so_far =
     let one : with_prefix prefix (walk_of at rest) ≡ Err (HeadCut k) = rw (walk_step at rest some, h) refl in sym so_far ∙ one
-ends (DataCut k) prefix at rest total some h so_far =
-    let one : with_prefix prefix (walk_of at rest) ≡ Err (DataCut k) = rw (walk_step at rest some, h) refl in sym so_far ∙ one
+ends (DataCut k id size) prefix at rest total some h so_far =
+    let one : with_prefix prefix (walk_of at rest) ≡ Err (DataCut k id size) = rw (walk_step at rest some, h) refl in sym so_far ∙ one
 
 -- no bytes are left
 is_done : (prefix : List Chunk) (at : ℕ) (rest : List ℕ) (total : Result (List Chunk) ChunkFault) → length rest ≡ 0 → with_prefix prefix (walk_of at rest) ≡ total → total ≡ Ok prefix
@@ -51,7 +51,7 @@ spans_fail : (xs : List ℕ) (start stop : ℕ) (e : ChunkFault) → Fails e (wa
 unfolding spans_in
 spans_fail xs start stop Memory h = tt
 spans_fail xs start stop (HeadCut at) h = rw h refl
-spans_fail xs start stop (DataCut at) h = rw h refl
+spans_fail xs start stop (DataCut at id size) h = rw h refl
 
 -- what the loop keeps: what was found and what is still found make up the walk, and the spans are at their places
 pub record IsWalked (xs : List ℕ) (start at stop : ℕ) (spans : List Span) : Type 0 where

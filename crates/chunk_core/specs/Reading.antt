@@ -20,7 +20,7 @@ chunk_of id size bytes = record { id = id; content = take size (drop 12 bytes) }
 unfoldable pub first_of : ℕ → List ℕ → Result Chunk ChunkFault
 first_of at bytes =
     if nat_lt (length bytes) 12 then Err (HeadCut at)
-    else if nat_lt (length bytes - 12) (size_of bytes) then Err (DataCut at)
+    else if nat_lt (length bytes - 12) (size_of bytes) then Err (DataCut at (take 4 bytes) (size_of bytes))
     else Ok (record { id = take 4 bytes; content = take (size_of bytes) (drop 12 bytes) })
 
 -- the chunks of bytes that lie at a given place, in at most n steps

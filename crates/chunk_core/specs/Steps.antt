@@ -13,7 +13,7 @@ abbrev pub ◌>>=◌ : {A B E : Type 0} → Result A E → (A → Result B E) �
 abbrev pub Fails : {Y : Type 0} → ChunkFault → Result Y ChunkFault → Type 0
 Fails Memory reading = Unit {0}
 Fails (HeadCut at) reading = reading ≡ Err (HeadCut at)
-Fails (DataCut at) reading = reading ≡ Err (DataCut at)
+Fails (DataCut at id size) reading = reading ≡ Err (DataCut at id size)
 
 -- what a function returned, its value as `view` shows it, is the reading, unless memory ran out
 abbrev pub Gives : {X Y : Type 0} → (X → Y) → Result X ChunkFault → Result Y ChunkFault → Type 0

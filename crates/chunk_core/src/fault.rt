@@ -14,8 +14,14 @@ pub enum ChunkFault {
     #[error("HeadCut {0}")]
     HeadCut(usize),
     /// The data of the chunk at this place extend past the end of the range.
-    #[error("DataCut {0}")]
-    DataCut(usize),
+    #[error("DataCut {place}")]
+    DataCut {
+        place: usize,
+        /// The ID in the chunk's header.
+        id: [u8; 4],
+        /// The size there, in bytes.
+        size: u64,
+    },
     /// Out of memory.
     #[error("Memory")]
     Memory,

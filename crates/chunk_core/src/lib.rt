@@ -59,7 +59,7 @@
 //! push_chunk(&mut bytes, *b"AAAA", &[0xff])?;   // 41414141 0000000000000001 ff 00
 //! walk(alloc, &bytes, 0, 14)                    // Ok, one span AAAA, start 12, size 1
 //! walk(alloc, &bytes, 0, 13)                    // the same: the last pad may be missing
-//! walk(alloc, &bytes, 0, 12)                    // Err(ChunkFault::DataCut(0))
+//! walk(alloc, &bytes, 0, 12)                    // Err(ChunkFault::DataCut { place: 0, .. })
 //!
 //! let mut inlet = Inlet::new(b"abc".as_slice());
 //! inlet.pull(&mut buffer)?;                     // as many bytes as the reader gave, at the front

@@ -8,7 +8,7 @@ ghost use Rattle.chunk_core.specs.Steps.{Gives};
 
 use crate::fault::ChunkFault;
 use crate::heads::head;
-use crate::layout::Span;
+use crate::layout::{Head, Span};
 use crate::numbers::Order;
 use std::alloc::Global;
 
@@ -16,7 +16,8 @@ use std::alloc::Global;
 /// the whole slice. A pad may have any value, and the last one may be missing.
 ///
 /// Refusals, at the first place without a whole chunk: `HeadCut` if fewer than 12 bytes are left for its header,
-/// `DataCut` if its data extend past `stop`. Each has the place of the header. `Memory` may come in place of either.
+/// `DataCut` if its data extend past `stop`. Each has the place of the header, `DataCut` also the ID and the size there.
+/// `Memory` may come in place of either.
 pub fn walk(alloc: Global, bytes: &[u8], start: usize, stop: usize) -> Result<Vec<Span>, ChunkFault>
     requires { (start ≤ stop) × (stop ≤ length bytes.now) }
     // The range is made of the chunks that are found, and they are at these places.
@@ -63,13 +64,17 @@ fn span_at(here: &[u8], at: usize) -> Result<Span, ChunkFault>
     let Some(found) = head(Order::Big, here, 0) else {
         return Err(ChunkFault::HeadCut(at));
     };
-    if ((here.len() - 12) as u64) < found.size {
-        return Err(ChunkFault::DataCut(at));
+    let Head { id, size } = found;
+    if ((here.len() - 12) as u64) < size {
+        return Err(ChunkFault::DataCut {
+            place: at,
+            id,
+            size,
+        });
     }
-    let id = found.id;
     Ok(Span {
         id,
         start: at + 12,
-        size: found.size as usize,
+        size: size as usize,
     })
 }

@@ -10,8 +10,8 @@ use Rattle.transfer_commands.specs.Outlining.{IsUnread}
 use Rattle.transfer_commands.specs.Sources.{AreSources, SourcesUnread}
 use Rattle.transfer_commands.specs.declared.fault.CommandFault.{CommandFault}
 use Rattle.transfer_commands.specs.declared.fault.CommandFault.TheVariants as faults
-use Rattle.transfer_core.specs.declared.fault.Fault.{Fault}
-use Rattle.transfer_core.specs.declared.fault.Fault.TheVariants.{Memory}
+use Rattle.request_core.specs.declared.fault.Fault.{Fault}
+use Rattle.request_core.specs.declared.fault.Fault.TheVariants.{Memory}
 use Rattle.judge_core.specs.declared.verdict.Verdict.{Verdict}
 use Rattle.command_core.specs.Commands.{CheckComesTo, CostsAtLeast, Cut, CutRefused, CutsFile, EditComesTo, EditsFiles, IsLeastIfAccepted, IsNoCommand, JudgesBy, Judges}
 use Rattle.command_core.specs.Outcomes.{of_words}
@@ -20,8 +20,11 @@ use Rattle.words_core.specs.declared.fault.WordsFault.TheVariants as words
 
 -- what is printed for words that ask for nothing
 pub no_command : (fault : WordsFault) → IsNoCommand (of_words fault)
-no_command words.WrongWords = tt
-no_command words.UnknownFormName = tt
+no_command words.NoCommand = tt
+no_command (words.UnknownCommand word) = tt
+no_command (words.WrongUsage command misfit) = tt
+no_command (words.NoText word) = tt
+no_command (words.UnknownForm command form) = tt
 no_command words.Memory = tt
 
 -- a master is cut, and could not be written

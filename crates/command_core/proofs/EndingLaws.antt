@@ -1,7 +1,7 @@
 -- What words come to over a disk.
 use Rattle.std.proofs.Common.{◌≡◌, ◌⊎◌, inl, inr, subst, sym}
 use Rattle.folder_core.specs.Files.{unknown_view}
-use Rattle.transfer_core.specs.declared.fault.Fault.TheVariants.{Memory}
+use Rattle.request_core.specs.declared.fault.Fault.TheVariants.{Memory}
 use Rattle.command_core.specs.Commands.{ComesTo}
 use Rattle.command_core.specs.Endings.{ComesToOnDisk}
 use Rattle.command_core.specs.declared.outcome.Outcome.{Outcome}

@@ -3,7 +3,7 @@ use Rattle.std.proofs.Common.{◌≡◌, ℕ, Err, List, [], IfOk, IfSome, Optio
 use Rattle.std.specs.Io.Buffered.{reader_buffer, reader_capacity, reader_inner, reader_remaining}
 use Rattle.std.specs.declared.io.buffered.BufReader.{BufReader}
 use Rattle.judge_core.specs.Accepting.{Accepts, CostsLeast, CostsWindows, IfMasterAccepted, IfMasterRejected, IsLeastMaster, IsMaster, RejectsFirst}
-use Rattle.transfer_core.specs.declared.fault.Fault.{Fault}
+use Rattle.request_core.specs.declared.fault.Fault.{Fault}
 use Rattle.judge_core.specs.declared.verdict.Verdict.{Verdict}
 use Rattle.judge_core.specs.declared.verdict.Verdict.TheVariants.{Accepted, Rejected}
 use Rattle.command_core.specs.Commands.{IsLeastIfAccepted, JudgesBy}

@@ -9,12 +9,12 @@ use Rattle.cut_core.specs.declared.excerpts.Excerpts.{Excerpts}
 use Rattle.cut_core.specs.Excerpts.{AreOfTakes}
 use Rattle.cut_core.specs.Opening.{ReturnsAllExcerpts, IsOfTakes, takes_of}
 use Rattle.cut_core.proofs.OpeningLaws.{files_are}
-use Rattle.transfer_core.specs.declared.fault.Fault.{Fault}
-use Rattle.transfer_core.specs.declared.fault.Fault.TheVariants.{Memory}
-use Rattle.transfer_core.specs.Faults.{fault_of_cut}
+use Rattle.request_core.specs.declared.fault.Fault.{Fault}
+use Rattle.request_core.specs.declared.fault.Fault.TheVariants.{Memory}
+use Rattle.request_core.specs.Faults.{fault_of_cut}
 use Rattle.transfer_commands.specs.declared.sources.Sources.{Sources}
-use Rattle.judge_core.specs.Cutting.{AreTakes, said_cut}
-use Rattle.judge_core.proofs.CuttingLaws.{unexcerpted}
+use Rattle.request_core.specs.Cutting.{AreTakes, said_cut}
+use Rattle.request_core.proofs.CuttingLaws.{unexcerpted}
 use Rattle.command_core.specs.Sources.{AreExcerptsOf}
 
 module _ (s : Sources) where

@@ -1,13 +1,13 @@
 -- What a command does to a folder, by the names that it gets. What it says of bytes holds of some that were read, in
 -- any folder, and of those that openings of the names give, if the folder's bytes are known.
 use Rattle.std.specs.Prelude.{◌≡◌, ◌≢◌, ℕ, List, IfSome, IsTrue, Option, None, Some, ◌⊎◌, Result, Ok, Err}
-use Rattle.transfer_core.specs.declared.fault.Fault as calls
-use Rattle.transfer_core.specs.declared.fault.Fault.TheVariants.{Memory}
+use Rattle.request_core.specs.declared.fault.Fault as calls
+use Rattle.request_core.specs.declared.fault.Fault.TheVariants.{Memory}
 use Rattle.form_core.specs.declared.form.Form.{Form}
 use Rattle.judge_core.specs.declared.verdict.Verdict.{Verdict}
 use Rattle.judge_core.specs.declared.verdict.Verdict.TheVariants as verdicts
 use Rattle.judge_core.specs.Accepting.{Accepts, CostsLeast, CostsWindows, IsLeastMaster, IsMaster, RejectsFirst}
-use Rattle.judge_core.specs.Cutting.{said_cut}
+use Rattle.request_core.specs.Cutting.{said_cut}
 use Rattle.form_core.specs.Steps.{FailsUnless}
 use Rattle.archive_core.specs.Editing.{Edits, IsCertificate}
 use Rattle.folder_core.specs.Files.{OpensAs, IsPutInPart, IsPut, IsReadOf, KeepsAllBut, KeepsOthers, View}
@@ -20,9 +20,10 @@ use Rattle.transfer_commands.specs.declared.fault.CommandFault.TheVariants as fa
 use Rattle.transfer_commands.specs.PartPlaying.{PlayPartComesTo}
 use Rattle.transfer_commands.specs.declared.parts.PartFault.{PartFault}
 use Rattle.command_core.specs.Outcomes.{outcome_of, part_outcome_of, verdict_of}
-use Rattle.command_core.specs.Parts.{span_of}
+use Rattle.command_core.specs.SumEndings.{EndsSums}
 use Rattle.command_core.specs.declared.outcome.Outcome.{Outcome}
-use Rattle.command_core.specs.declared.outcome.Outcome.TheVariants.{Played, Converted, Edited, Info, Fault, WrongWords, UnknownFormName}
+use Rattle.command_core.specs.declared.outcome.Outcome.TheVariants.{Played, Converted, Edited, Info, Summed, Fault, WrongWords, UnknownFormName}
+use Rattle.command_core.specs.declared.sum_status.SumStatus.{SumStatus}
 use Rattle.words_core.specs.declared.task.Task.{Task}
 use Rattle.words_core.specs.declared.task.Task.TheVariants as tasks
 
@@ -161,11 +162,12 @@ SaysPart P outcome = (came : Result ℕ PartFault) × (outcome ≡ part_outcome_
 -- folder keeps old files, no fault replaces one by a prefix
 abbrev pub TaskComesTo : Task → View → View → Outcome → Type 0
 TaskComesTo (tasks.Play project input output) old new = Says Played (PlayComesTo project.now input.now output.now old new)
-TaskComesTo (tasks.PlayPart project input output from to) old new = SaysPart (PlayPartComesTo project.now input.now output.now (span_of from to) old new)
+TaskComesTo (tasks.PlayPart project input output from to) old new = SaysPart (PlayPartComesTo project.now input.now output.now (record { from = from; to = to }) old new)
 TaskComesTo (tasks.Convert form input output) old new = Says Converted (ConvertComesTo form input.now output.now old new)
 TaskComesTo (tasks.Edit form project master cert) old new = Says Edited (EditComesTo (cut_into form project.now master.now cert.now) old new)
 TaskComesTo (tasks.Check project master cert) old new = Says verdict_of (CheckComesTo project.now master.now cert.now old new)
 TaskComesTo (tasks.Info file) old new = Says Info (ReportComesTo file.now old new)
+TaskComesTo (tasks.Sum is_check files) old new = λ outcome. (new ≡ old) × ((status : SumStatus) × (outcome ≡ Summed status) × EndsSums is_check files.now status)
 
 -- the words are no command or name no form, or memory ran out
 abbrev pub IsNoCommand : Outcome → Type 0

@@ -1,15 +1,11 @@
 -- What the program's status says of a command whose outcome was printed.
 use Rattle.std.specs.Prelude.{◌≡◌, ◌<◌, ◌⊎◌, ℕ}
 use Rattle.folder_core.specs.Files.{unknown_view}
-use Rattle.transfer_core.specs.declared.fault.Fault.TheVariants.{Memory}
-use Rattle.words_core.specs.declared.sums.SumTask.{SumTask}
+use Rattle.request_core.specs.declared.fault.Fault.TheVariants.{Memory}
 use Rattle.command_core.specs.Commands.{ComesTo}
 use Rattle.command_core.specs.Outcomes.{status_of}
-use Rattle.command_core.specs.SumEndings.{EndsSums}
 use Rattle.command_core.specs.declared.outcome.Outcome.{Outcome}
 use Rattle.command_core.specs.declared.outcome.Outcome.TheVariants.{Fault, WriteFailed}
-use Rattle.command_core.specs.declared.program.Came.{Came}
-use Rattle.command_core.specs.declared.program.Came.TheVariants.{Ran, Summed}
 
 -- the outcome once it was printed: it is the same, or memory for its line ran out, or standard output didn't take the
 -- line of what was done or judged
@@ -24,11 +20,6 @@ EndsAfter outcome status = (told : Outcome) × IsToldAs outcome told × (status 
 abbrev pub ComesToOnDisk : Outcome → Type 0
 ComesToOnDisk outcome = (outcome ≡ Fault Memory) ⊎ ComesTo unknown_view unknown_view outcome
 
--- words came to this outcome, or, if they ask for sums, to this status
-abbrev pub CameTo : Came → Type 0
-CameTo (Ran ran) = ComesToOnDisk ran.outcome
-CameTo (Summed status) = (task : SumTask) × EndsSums task status
-
--- the status is that of an outcome that words came to, once it was printed, or of sums
+-- the status is that of an outcome that words came to, once it was printed
 abbrev pub EndsWith : ℕ → Type 0
-EndsWith status = ((outcome : Outcome) × ComesToOnDisk outcome × EndsAfter outcome status) ⊎ ((task : SumTask) × EndsSums task status)
+EndsWith status = (outcome : Outcome) × ComesToOnDisk outcome × EndsAfter outcome status

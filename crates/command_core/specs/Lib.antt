@@ -4,6 +4,5 @@ pub mod Outcomes
 pub mod Sources
 pub mod Summing
 pub mod Writing
-pub mod Parts
 pub mod Endings
 pub mod SumEndings

@@ -1,7 +1,9 @@
 -- What is printed of an outcome, and the status that the program ends with.
-use Rattle.std.specs.Prelude.{◌≡◌, ℕ, List, ◌++◌, codes, Result, Ok, Err}
+use Rattle.std.specs.Prelude.{◌≡◌, ℕ, List, [], ◌++◌, codes, Result, Ok, Err}
 use Rattle.std.specs.Fmt.{decimal}
 use Rattle.command_core.specs.declared.outcome.Outcome.{Outcome}
+use Rattle.command_core.specs.declared.sum_status.SumStatus.{SumStatus}
+use Rattle.command_core.specs.declared.sum_status.SumStatus.TheVariants as sums
 use Rattle.form_core.specs.Infos.{info_text}
 use Rattle.judge_core.specs.declared.verdict.Verdict.{Verdict}
 use Rattle.judge_core.specs.declared.verdict.Verdict.TheVariants as verdicts
@@ -11,8 +13,8 @@ use Rattle.transfer_commands.specs.declared.parts.PartFault.{PartFault}
 use Rattle.transfer_commands.specs.declared.parts.PartFault.TheVariants as parts
 use Rattle.words_core.specs.declared.fault.WordsFault.{WordsFault}
 use Rattle.words_core.specs.declared.fault.WordsFault.TheVariants as words
-use Rattle.transfer_core.specs.declared.fault.Fault.TheVariants.{Memory}
-use Rattle.command_core.specs.declared.outcome.Outcome.TheVariants.{Played, Converted, Edited, Accepted, Rejected, Info, Fault, NoPart, ReadFailed, WriteFailed, WrongWords, UnknownFormName}
+use Rattle.request_core.specs.declared.fault.Fault.TheVariants.{Memory}
+use Rattle.command_core.specs.declared.outcome.Outcome.TheVariants.{Played, Converted, Edited, Accepted, Rejected, Info, Summed, Fault, NoPart, ReadFailed, WriteFailed, WrongWords, UnknownFormName}
 
 -- a line begins with these bytes
 abbrev pub BeginsWith : List ℕ → List ℕ → Type 0
@@ -20,7 +22,8 @@ BeginsWith beginning line = (rest : List ℕ) × (line ≡ beginning ++ rest)
 
 -- what the printed line says: for a file that was played its number of bytes, for one that was converted what was
 -- dropped, for a master that was cut or accepted its cost, for one that was rejected `rejected ` and a text, for a file
--- that was read the lines that describe its recording, and for a fault `fault: ` and its name, or a text
+-- that was read the lines that describe its recording, for `sum` nothing more than its lines, and for a fault `fault: `
+-- and its name, or a text
 abbrev pub ShowsOutcome : Outcome → List ℕ → Type 0
 ShowsOutcome (Played n) line = line ≡ codes "played " ++ decimal n ++ codes " bytes"
 ShowsOutcome (Converted n) line = line ≡ codes "converted dropped " ++ decimal n
@@ -28,6 +31,7 @@ ShowsOutcome (Edited n) line = line ≡ codes "edited total " ++ decimal n
 ShowsOutcome (Accepted n) line = line ≡ codes "accepted total " ++ decimal n
 ShowsOutcome (Rejected reason) line = BeginsWith (codes "rejected ") line
 ShowsOutcome (Info reported) line = line ≡ info_text reported.form reported.description
+ShowsOutcome (Summed status) line = line ≡ []
 ShowsOutcome (Fault fault) line = BeginsWith (codes "fault: ") line
 ShowsOutcome (NoPart fault) line = BeginsWith (codes "fault: ") line
 ShowsOutcome ReadFailed line = line ≡ codes "fault: ReadFailed"
@@ -35,7 +39,13 @@ ShowsOutcome WriteFailed line = line ≡ codes "fault: WriteFailed"
 ShowsOutcome WrongWords line = line ≡ codes "fault: WrongWords"
 ShowsOutcome UnknownFormName line = line ≡ codes "fault: UnknownFormName"
 
--- done: 0; a master that is rejected: 1; a fault: 2; words that are no command or name no form: 3
+-- the number of a status of `sum`
+abbrev pub sum_number : SumStatus → ℕ
+sum_number sums.Done = 0
+sum_number sums.NotAsListed = 1
+sum_number sums.Failed = 2
+
+-- done: 0; a master that is rejected, or a file that isn't as listed: 1; a fault: 2; words that are no command or name no form: 3
 abbrev pub status_of : Outcome → ℕ
 status_of (Played n) = 0
 status_of (Converted n) = 0
@@ -43,6 +53,7 @@ status_of (Edited n) = 0
 status_of (Accepted n) = 0
 status_of (Rejected reason) = 1
 status_of (Info reported) = 0
+status_of (Summed status) = sum_number status
 status_of (Fault f) = 2
 status_of (NoPart f) = 2
 status_of ReadFailed = 2
@@ -78,6 +89,9 @@ part_outcome_of (Err fault) = of_part fault
 
 -- the outcome of words that ask for nothing
 abbrev pub of_words : WordsFault → Outcome
-of_words words.WrongWords = WrongWords
-of_words words.UnknownFormName = UnknownFormName
+of_words words.NoCommand = WrongWords
+of_words (words.UnknownCommand word) = WrongWords
+of_words (words.WrongUsage command misfit) = WrongWords
+of_words (words.NoText word) = WrongWords
+of_words (words.UnknownForm command form) = UnknownFormName
 of_words words.Memory = Fault Memory

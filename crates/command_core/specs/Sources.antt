@@ -2,7 +2,7 @@
 use Rattle.std.specs.Prelude.{ℕ, List}
 use Rattle.splice_core.specs.Splices.{splice_content}
 use Rattle.cut_core.specs.Opening.{ReturnsAllExcerpts, takes_of}
-use Rattle.transfer_core.specs.Projects.{SaysSplice}
+use Rattle.request_core.specs.Projects.{SaysSplice}
 use Rattle.transfer_commands.specs.declared.sources.Sources.{Sources}
 
 -- the project's text describes the splice, and this was read of the files of its takes, or is the first fault of what

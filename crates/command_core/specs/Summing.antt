@@ -9,7 +9,7 @@ use Rattle.transfer_commands.specs.Summing.{SumComesTo, SumsRead}
 use Rattle.transfer_commands.specs.declared.summing.Sums.{Sums}
 use Rattle.transfer_commands.specs.declared.fault.CommandFault.{CommandFault}
 
--- a digest behind a blank, each byte as two hexadecimal digits
+-- a digest after a blank, each byte as two hexadecimal digits
 abbrev pub digest_text : List ℕ → List ℕ
 digest_text digest = codes " " ++ flat_map hexadecimal digest
 
@@ -29,7 +29,7 @@ escape byte = if byte == 92 then 92 ∷ 92 ∷ [] else (if byte == 10 then 92 �
 abbrev pub name_text : List ℕ → List ℕ
 name_text name = flat_map escape name
 
--- the line of a file's sums: the name stands behind two blanks
+-- the line of a file's sums: the name is after two blanks
 abbrev pub sum_text : Sums → List ℕ → List ℕ
 sum_text sums name = fields_text sums ++ codes "  " ++ name_text name
 

@@ -1,7 +1,7 @@
 //! Judges a master by a certificate that is opened and read to its end.
 
 ghost use Rattle.std.specs.Prelude.{IfErr, IfOk, IfSome, List, None, ℕ};
-ghost use Rattle.judge_core.specs.Cutting.{SaysCut};
+ghost use Rattle.request_core.specs.Cutting.{SaysCut};
 ghost use Rattle.judge_core.specs.Finding.{FindsHeld, IsFoundHeld, IsFoundInSome};
 ghost use Rattle.transfer_commands.specs.Outlining.{IsUnread};
 ghost use Rattle.command_core.specs.Commands.{IsLeastIfAccepted, JudgesBy};

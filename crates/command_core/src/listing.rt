@@ -1,15 +1,14 @@
 //! The lines of lists of sums.
 
+use dsd_bits::MOST_CHANNELS;
 use std::alloc::{AllocError, Global};
 
 // The rate and the number of samples, before the digests of a line.
 const NUMBERS: usize = 2;
 
-const MOST_CHANNELS: usize = 6;
-
 const DIGEST_DIGITS: usize = 64;
 
-/// The name that a line of a list has behind its sums, as it was before it was put on one line. None for a line that
+/// The name that a line of a list has after its sums, as it was before it was put on one line. None for a line that
 /// has none, or whose sums aren't two numbers and a SHA-256 for each of 1 to 6 channels.
 pub(crate) fn listed_name(alloc: Global, line: &str) -> Result<Option<String>, AllocError> {
     match line.split_once("  ") {
@@ -55,7 +54,7 @@ fn is_digest(word: &str) -> bool {
     word.len() == DIGEST_DIGITS
 }
 
-// The name that was put on one line. None where a backslash stands before any other byte than those that it may.
+// The name that was put on one line. None where a backslash is before any other byte than those that it may.
 fn name_of(alloc: Global, shown: &str) -> Result<Option<String>, AllocError> {
     let mut name = String::new(alloc);
     let mut is_escaped = false;
@@ -94,7 +93,7 @@ fn is_hexadecimal(letter: char) -> bool {
     matches!(letter, '0'..='9' | 'a'..='f')
 }
 
-// What a letter behind a backslash stands for: `x` for the NUL before the two digits of a byte that isn't UTF-8.
+// What a letter after a backslash stands for: `x` for the NUL before the two digits of a byte that isn't UTF-8.
 fn meant_by(letter: char) -> Option<char> {
     match letter {
         '\\' => Some('\\'),

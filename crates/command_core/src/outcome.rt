@@ -4,6 +4,7 @@ ghost use Rattle.std.specs.Prelude.{◌≡◌, ◌≤◌, IfOk, string_bytes};
 ghost use Rattle.command_core.specs.Outcomes.{BeginsWith, ShowsOutcome, of_command, of_part, of_words, status_of};
 ghost use Rattle.command_core.specs.declared.outcome.Outcome.TheVariants as outcomes;
 
+use crate::sum_status::SumStatus;
 use archive_core::{Fault, Reason};
 use form_core::info_lines;
 use std::alloc::{AllocError, Global};
@@ -27,6 +28,8 @@ pub enum Outcome {
     Rejected(Reason),
     /// A file was read; this is what is reported of it, its form and its recording.
     Info(Reported),
+    /// Files were summed, or judged by lists of sums; their lines are printed as it goes.
+    Summed(SumStatus),
     /// The call was refused.
     Fault(Fault),
     /// There is no such part in the recording.
@@ -72,19 +75,22 @@ impl From<PartFault> for Outcome {
     }
 }
 
-impl From<WordsFault> for Outcome {
+impl From<WordsFault<'_>> for Outcome {
     ghost from_gives = { λ fault outcome. outcome ≡ of_words fault };
 
-    fn from(fault: WordsFault) -> Outcome {
+    fn from(fault: WordsFault<'_>) -> Outcome {
         match fault {
-            WordsFault::WrongWords => Outcome::WrongWords,
-            WordsFault::UnknownFormName => Outcome::UnknownFormName,
+            WordsFault::NoCommand
+            | WordsFault::UnknownCommand(_)
+            | WordsFault::WrongUsage(_, _)
+            | WordsFault::NoText(_) => Outcome::WrongWords,
+            WordsFault::UnknownForm(_, _) => Outcome::UnknownFormName,
             WordsFault::Memory => Outcome::Fault(Fault::Memory),
         }
     }
 }
 
-/// The line or lines that are printed, without the end of the last. Err is out of memory.
+/// The line or lines that are printed, without the end of the last; none for `sum`. Err is out of memory.
 pub fn outcome_line(alloc: Global, outcome: &Outcome) -> Result<String, AllocError>
     ensures { IfOk result (λ line. ShowsOutcome outcome.now (string_bytes line)) }
 {
@@ -95,6 +101,7 @@ pub fn outcome_line(alloc: Global, outcome: &Outcome) -> Result<String, AllocErr
         Outcome::Accepted(total) => format!(in alloc; "accepted total {total}"),
         Outcome::Rejected(reason) => line_from(alloc, "rejected ", reason),
         Outcome::Info(reported) => info_lines(alloc, reported.form, &reported.description),
+        Outcome::Summed(_) => Ok(String::new(alloc)),
         Outcome::Fault(fault) => line_from(alloc, "fault: ", fault),
         Outcome::NoPart(fault) => line_from(alloc, "fault: ", fault),
         Outcome::ReadFailed => format!(in alloc; "fault: ReadFailed"),
@@ -112,8 +119,8 @@ fn line_from<D: Display>(alloc: Global, beginning: &str, value: &D) -> Result<St
     format!(in alloc; "{beginning}{text}")
 }
 
-/// The program's exit status: 0 if the command was done, 1 for a master that is rejected, 2 for a fault, 3 for words
-/// that are no command or name no form.
+/// The program's exit status: 0 if the command was done, 1 for a master that is rejected or a file that is not as it is
+/// listed, 2 for a fault, 3 for words that are no command or name no form.
 pub fn status(outcome: &Outcome) -> u8
     ensures value { result ≡ status_of outcome.now }
     ensures limit { result ≤ 3 }
@@ -125,6 +132,7 @@ pub fn status(outcome: &Outcome) -> u8
         | Outcome::Accepted(_)
         | Outcome::Info(_) => 0,
         Outcome::Rejected(_) => 1,
+        Outcome::Summed(status) => status.number(),
         Outcome::Fault(_) | Outcome::NoPart(_) | Outcome::ReadFailed | Outcome::WriteFailed => 2,
         Outcome::WrongWords | Outcome::UnknownFormName => 3,
     }

@@ -2,22 +2,24 @@
 
 ghost use Rattle.std.specs.Prelude.{◌≡◌};
 ghost use Rattle.command_core.specs.Commands.{CheckComesTo, EditComesTo, TaskComesTo, cut_into};
-ghost use Rattle.command_core.specs.Outcomes.{outcome_of, verdict_of};
+ghost use Rattle.command_core.specs.Outcomes.{outcome_of, part_outcome_of, verdict_of};
 ghost use Rattle.command_core.specs.declared.outcome.Outcome.TheVariants as outcomes;
 
 use crate::ending::fault_after;
 use crate::judging::judge_opened;
 use crate::masters::find_named;
 use crate::outcome::Outcome;
-use crate::parts::{played_part, span_of};
 use crate::sources::{cut_of, cut_sources};
+use crate::sum_status::Sum;
 use crate::writing::{write_certificate, write_master};
 use archive_core::{Form, Verdict};
 use folder_core::Folder;
 use std::alloc::Global;
 use transfer_commands::{
-    CommandFault, Reported, convert_file, open_file, play_file, play_part_file, source_excerpts,
+    CommandFault, PartFault, Reported, convert_file, open_file, play_file, play_part_file,
+    source_excerpts,
 };
+use transfer_core::Span;
 use words_core::Task;
 
 /// Does a command over the files of a folder, and returns its outcome: the first fault, if there is one.
@@ -45,7 +47,9 @@ use words_core::Task;
 ///
 /// After a fault of playing, or of such a conversion, the file that was created may hold a prefix of what was due. It
 /// never replaces an old file if the folder keeps old files.
-pub fn perform<F: Folder>(alloc: Global, task: Task, folder: &mut F) -> Outcome
+///
+/// `sums` does `Sum`, each file in a folder of its own.
+pub fn perform<F: Folder, S: Sum>(alloc: Global, task: Task, folder: &mut F, sums: &S) -> Outcome
     ensures { TaskComesTo task.entry (F.view folder.old) (F.view folder.new) result }
 {
     match task {
@@ -60,7 +64,7 @@ pub fn perform<F: Folder>(alloc: Global, task: Task, folder: &mut F) -> Outcome
             output,
             from,
             to,
-        } => played_part(play_part_file(alloc, folder, project, input, output, span_of(from, to))),
+        } => played_part(play_part_file(alloc, folder, project, input, output, Span { from, to })),
         Task::Convert {
             form,
             input,
@@ -78,6 +82,7 @@ pub fn perform<F: Folder>(alloc: Global, task: Task, folder: &mut F) -> Outcome
             cert,
         } => judged(check_files(alloc, folder, project, master, cert)),
         Task::Info { file } => reported(open_file(alloc, folder, file)),
+        Task::Sum { is_check, files } => Outcome::Summed(sums.sum(is_check, files)),
     }
 }
 
@@ -128,6 +133,16 @@ fn check_files<F: Folder>(
 // The outcome of a command that played.
 fn played(came: Result<u64, CommandFault>) -> Outcome
     ensures { result ≡ outcome_of outcomes.Played came }
+{
+    match came {
+        Ok(count) => Outcome::Played(count),
+        Err(fault) => fault.into(),
+    }
+}
+
+// The outcome of a command that played a part.
+fn played_part(came: Result<u64, PartFault>) -> Outcome
+    ensures { result ≡ part_outcome_of came }
 {
     match came {
         Ok(count) => Outcome::Played(count),

@@ -4,14 +4,14 @@ ghost use Rattle.std.specs.Prelude.{◌≡◌, List, ℕ, IfErr, IfOk, Some, len
 ghost use Rattle.splice_core.specs.Splices.{splice_content};
 ghost use Rattle.form_core.specs.Steps.{FailsUnless};
 ghost use Rattle.cut_core.specs.Opening.{IsOfTakes};
-ghost use Rattle.judge_core.specs.Cutting.{SaysCut, said_cut};
+ghost use Rattle.request_core.specs.Cutting.{SaysCut, said_cut};
 ghost use Rattle.archive_core.specs.Planning.{IsPlanned, Plans};
 ghost use Rattle.command_core.specs.Sources.{AreExcerptsOf};
 
 use archive_core::{Fault, Form, PlannedMaster, Watch, plan_master};
 use cut_core::Cut;
 use folder_core::{Folder, Work};
-use judge_core::cut_excerpts;
+use request_core::cut_excerpts;
 use std::alloc::Global;
 use transfer_commands::Sources;
 

@@ -51,16 +51,12 @@ fn push_first<'a>(text: &mut String, bytes: &'a [u8]) -> Result<&'a [u8], AllocE
     }
 }
 
-/// The words of the program, each as such a text, without the one that asks to explain.
-pub(crate) fn spelled_words<R: Env + AllocGlobal>(
-    rt: &R,
-    is_asked: bool,
-) -> Result<Vec<String>, AllocError> {
+/// The words of the program, each as such a text.
+pub(crate) fn spelled_words<R: Env + AllocGlobal>(rt: &R) -> Result<Vec<String>, AllocError> {
     let mut words = Vec::new(rt.alloc());
     let mut room = vec![in rt.alloc(); 0u8; ROOM]?;
     for number in 0..MOST_WORDS {
         match rt.arg(number, room.as_mut_slice()) {
-            Ok(_) if is_asked && number == 1 => {}
             Ok(count) => push_word(rt.alloc(), &mut words, room.as_slice(), count)?,
             Err(FillError::NotPresent) => break,
             Err(FillError::TooLong) => return Err(AllocError),

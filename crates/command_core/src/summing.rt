@@ -11,8 +11,8 @@ use std::fmt::Write;
 use transfer_commands::{CommandFault, Sums, sum_file};
 
 /// The line of a file: its rate in hertz, how many bits each channel has, the SHA-256 of each channel's packed bits in
-/// hexadecimal digits, two blanks and its name. In the name a backslash stands as `\\`, a line feed as `\n` and a
-/// carriage return as `\r`. A NUL, which no file's name has, stands as `\x`. The line has no end.
+/// hexadecimal digits, two blanks and its name. In the name a backslash is written as `\\`, a line feed as `\n` and a
+/// carriage return as `\r`. A NUL, which no file's name has, is written as `\x`. The line has no end.
 ///
 /// Refusals: those of [`sum_file`]; `Memory`.
 pub fn sum_line<F: Folder>(
@@ -55,7 +55,7 @@ fn line_of(alloc: Global, sums: &Sums, name: &str) -> Result<Vec<u8>, AllocError
     Ok(line)
 }
 
-// What stands before the name.
+// What is before the name.
 fn fields_of(alloc: Global, sums: &Sums) -> Result<String, AllocError>
     ensures { IfOk result (λ text. string_bytes text ≡ fields_text sums.now) }
 {
@@ -73,7 +73,7 @@ fn numbers_of(alloc: Global, sums: &Sums) -> Result<String, AllocError>
     format!(in alloc; "{rate} {count}")
 }
 
-// Appends digests, each behind a blank.
+// Appends digests, each after a blank.
 fn push_digests(text: &mut String, digests: &[[u8; 32]]) -> Result<(), AllocError>
     ensures { OnOk result (string_bytes text.new ≡ string_bytes text.old ++ flat_map digest_text digests.now) }
 {
@@ -83,7 +83,7 @@ fn push_digests(text: &mut String, digests: &[[u8; 32]]) -> Result<(), AllocErro
     Ok(())
 }
 
-// Appends a digest behind a blank.
+// Appends a digest after a blank.
 fn push_digest(text: &mut String, digest: &[u8; 32]) -> Result<(), AllocError>
     ensures { OnOk result (string_bytes text.new ≡ string_bytes text.old ++ digest_text digest.now) }
 {

@@ -33,7 +33,7 @@ windows_cost [] xs = 0
 windows_cost (p ∷ ps) [] = 0
 windows_cost (p ∷ ps) (x ∷ xs) = unless_cut p.bridging (bridge_cost p.bridging x) + windows_cost ps xs
 
--- a bridge's window is made of the ends of the cues that it joins, and a weight reads no further
+-- a bridge's window is built from the ends of the cues that it joins, and a weight reads no further
 pub record Joins (cue : List Bool) (p : Part) : Type 0 where
   pub as_many : length p.bridging.weights ≡ suc (length p.bridging.preceding)
   pub before_in : length p.bridging.preceding ≤ length cue

@@ -30,8 +30,8 @@ pub fn places_are_windows()
     ensures { PlacesAreWindows }
 {}
 
-/// The window of the bridge after a cue, whatever its target, is made of the end of that cue and the start of the next
-/// one.
+/// The window of the bridge after a cue, whatever its target, is built from the end of that cue and the start of the
+/// next one.
 pub fn fades_join()
     ensures { FadesJoin }
 {}

@@ -11,12 +11,12 @@
 //! target reads are there.
 //!
 //! A [`Window`] holds what decides the cost of one bridge in one channel. [`Window::cost_of`] returns the cost of any
-//! bits. A trellis search as of Viterbi needs the same cost step by step, over the states that the last bits make.
+//! bits. A trellis search such as Viterbi's needs the same cost step by step, over the states that the last bits make.
 //! [`Window::step_cost`] and [`Window::tail_cost`] return it for one state, [`Window::step_costs`] and
 //! [`Window::tail_costs`] for all states at once. [`sums_into`] adds a level's steps to the row before it, sixteen
 //! states at a time. A [`LevelSink`] takes the rows of such a search, a level at a time.
 //!
-//! The words of the contracts, all over lists and numbers without bounds:
+//! Definitions that contracts use, all over lists and numbers without bounds:
 //!
 //! - `weighted w z n` is the sum over `k` of `w[k] * sign(z[n - k])`.
 //! - `targets_of` is the targets of a bridge's places by its cue's target, `fade` the target of one place of a fade,
@@ -37,8 +37,8 @@
 //!   `HandsOverPart` that a prefix of one more row followed.
 //! - `channel` is a whole channel of cues and bridges, `channel_cost` the sum over all its places.
 //!
-//! What it promises: a window is what `bridging` makes of the splice and the bits, and is refused exactly if there is
-//! no room for it, or memory runs out. Every cost is exactly that of its definition, and none exceeds its type.
+//! What it promises: a window is what `bridging` builds from the splice and the bits, and is refused exactly if there
+//! is no room for it, or memory runs out. Every cost is exactly that of its definition, and none exceeds its type.
 //! Functions that do nothing carry the laws: [`steps_are_cost`], [`costs_in_bounds`], [`least_from_valid`],
 //! [`capped_is_valid`], [`places_are_windows`], [`fades_join`] and [`least_together`].
 //!

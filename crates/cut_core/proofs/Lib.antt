@@ -1,8 +1,12 @@
 pub mod BridgeLaws
+pub mod ChannelLaws
 pub mod CutLaws
 pub mod ExcerptLaws
 pub mod KeepingLaws
+pub mod LeastLaws
 pub mod OpeningLaws
+pub mod SliceLaws
 pub mod Steps
 pub mod TitleLaws
+pub mod TotalLaws
 pub mod ZipLaws

@@ -1,8 +1,10 @@
 pub mod Bridges
+pub mod Claims
 pub mod Cuts
 pub mod Excerpts
 pub mod Keeping
 pub mod Laws
+pub mod Masters
 pub mod Opening
 pub mod Rooms
 pub mod Titles

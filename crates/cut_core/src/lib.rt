@@ -16,6 +16,11 @@
 //! `AreExcerpts splice takes hs` says that `hs` was read from these takes (`specs/Excerpts.antt`). `bridges cut` is the
 //! places of all bridges in their one order (`specs/Bridges.antt`).
 //!
+//! What a master of a cut is, is said here too, for those that make it and those that judge it. `IsMasterOf cut form
+//! recording` says that a recording is one, whatever its bridges, and `total_cost` is the sum over its whole channels
+//! (`specs/Masters.antt`). `claims cut channels` is what a certificate must show for these channels, bridge by bridge.
+//! `IsCertOf` says that it does, and `windows_total` is the sum over the bridges (`specs/Claims.antt`).
+//!
 //! ```text
 //! let cut = Cut::open(alloc, splice, &files, Some(Form::Dsdiff))?;
 //! for place in cut.bridges(alloc)?.iter() {

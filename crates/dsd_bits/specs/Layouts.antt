@@ -2,7 +2,7 @@
 -- channels, 6 five channels, 7 five channels and a low-frequency one.
 use Rattle.std.specs.Prelude.{ℕ, ◌+◌, ◌-◌, nat_lt, if◌then◌else◌}
 
--- the number of channels of a layout, or 0 for a number that is no layout
+-- the number of channels of a layout, or 0 for a number that isn't a layout
 abbrev pub layout_channels : ℕ → ℕ
 layout_channels layout = if nat_lt layout 5 then layout else if nat_lt layout 8 then layout - 1 else 0
 

@@ -1,6 +1,10 @@
 -- The limits of a recording, and the blocks of DSF 1.01.
 use Rattle.std.specs.Prelude.{ℕ, ◌^◌, ◌≤◌}
 
+-- the most channels of a recording: 6
+abbrev pub most_channels : ℕ
+most_channels = 6
+
 -- the most bits of a channel: 2 ^ 36
 abbrev pub most_bits : ℕ
 most_bits = 2 ^ 36

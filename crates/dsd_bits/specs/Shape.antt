@@ -7,7 +7,7 @@ use Rattle.dsd_bits.specs.Channels.{IsLevel, count_of}
 use Rattle.dsd_bits.specs.Contents.{Content, Described, OtherContent}
 use Rattle.dsd_bits.specs.Ids.{same_id, FVER, PROP, SND, FS, CHNL, CMPR, DSD, DIIN, MARK}
 use Rattle.dsd_bits.specs.Layouts.{layout_channels}
-use Rattle.dsd_bits.specs.Limits.{most_bits, least_rate, greatest_rate}
+use Rattle.dsd_bits.specs.Limits.{most_bits, most_channels, least_rate, greatest_rate}
 
 -- two places of kept chunks are the same
 abbrev pub same_place : Place → Place → Bool
@@ -31,7 +31,7 @@ pub record HasShape (r : Content) : Type 0 where
   pub rate_low : least_rate ≤ r.rate
   pub rate_high : r.rate ≤ greatest_rate
   pub some_channel : 1 ≤ length r.channels
-  pub six_channels : length r.channels ≤ 6
+  pub six_channels : length r.channels ≤ most_channels
   pub level : IsLevel r.channels
   pub in_limit : count_of r.channels ≤ most_bits
   pub id_for_each : length r.ids ≡ length r.channels
@@ -45,7 +45,7 @@ pub record IsDescription (d : Described) : Type 0 where
   pub rate_low : least_rate ≤ d.rate
   pub rate_high : d.rate ≤ greatest_rate
   pub some_channel : 1 ≤ length d.ids
-  pub six_channels : length d.ids ≤ 6
+  pub six_channels : length d.ids ≤ most_channels
   pub in_limit : d.count ≤ most_bits
   pub layout_fits : layout_channels d.layout ≡ length d.ids
   pub short_texts : All (λ mark. length mark.text < 2 ^ 32) d.marks

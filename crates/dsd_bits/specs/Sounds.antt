@@ -9,7 +9,7 @@ use Rattle.dsd_bits.specs.Blocks.{blocks_size, unblocked_all}
 use Rattle.dsd_bits.specs.Channels.{count_of}
 use Rattle.dsd_bits.specs.Contents.{Content}
 use Rattle.dsd_bits.specs.Lacing.{unlaced_all}
-use Rattle.dsd_bits.specs.Limits.{most_bits, least_rate, greatest_rate}
+use Rattle.dsd_bits.specs.Limits.{most_bits, most_channels, least_rate, greatest_rate}
 
 -- the channels are in blocks
 abbrev pub has_blocks : Interleaving → Bool
@@ -31,7 +31,7 @@ pub record IsSound (s : Sound) : Type 0 where
   pub rate_low : least_rate ≤ s.rate
   pub rate_high : s.rate ≤ greatest_rate
   pub some_channel : 1 ≤ s.channels
-  pub six_channels : s.channels ≤ 6
+  pub six_channels : s.channels ≤ most_channels
   pub in_limit : s.count ≤ most_bits
   pub size : s.size ≡ sound_size s.interleaving s.channels s.count
 

@@ -3,7 +3,7 @@
 ghost use Rattle.std.specs.Prelude.{◌≡◌, ◌≤◌};
 ghost use Rattle.dsd_bits.specs.Layouts as layouts;
 
-/// How many channels a layout has. It is 0 for a number that is no layout.
+/// How many channels a layout has. It is 0 for a number that isn't a layout.
 pub fn layout_channels(layout: u32) -> u32
     ensures { result ≡ layouts.layout_channels layout }
 {

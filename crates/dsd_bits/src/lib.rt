@@ -19,10 +19,11 @@
 //! number. A [`Sound`] says what the sound of a file is, how its channels are interleaved ([`Interleaving`]) and where
 //! its bytes are. A [`SoundAt`] is what the first bytes of a file say about it.
 //!
-//! [`MOST_BITS`], [`LEAST_RATE`] and [`GREATEST_RATE`] are the limits of a recording, [`BLOCK_BYTES`] and
-//! [`BLOCK_BITS`] the size of a block. Contracts have words of the same names (`specs/Limits.antt`).
+//! [`MOST_CHANNELS`], [`MOST_BITS`], [`LEAST_RATE`] and [`GREATEST_RATE`] are the limits of a recording,
+//! [`BLOCK_BYTES`] and [`BLOCK_BITS`] the size of a block. Contracts have definitions of the same names
+//! (`specs/Limits.antt`).
 //!
-//! The words of the contracts:
+//! Definitions that contracts use:
 //!
 //! - `unpacked bytes n` is the list of the first `n` bits of some bytes, and `packed bits` the bytes of a list.
 //!   `IsTight bytes n` says that bytes hold exactly `n` bits.
@@ -37,7 +38,7 @@
 //! - `Content` is what a recording holds. `HasShape` names the rules that it obeys, and `layout_channels` is the table
 //!   of layouts.
 //! - `Described` is what a description says, and `IsDescription` names the rules that it obeys. `described r` is the
-//!   description of a recording, and `with_channels d channels` the recording made of a description and channels.
+//!   description of a recording, and `with_channels d channels` the recording built from a description and channels.
 //! - `stretches_of channels ranges` is the bits of the channels in each range ([`BitRange`]), `silent r` a recording
 //!   without its bits.
 //! - `IsSound s` names the limits of a sound. `HasSound file r s` says that the bytes of the sound in a file hold the
@@ -84,7 +85,7 @@ pub use fault::{BitsFault, LaceFault};
 pub use interleaving::Interleaving;
 pub use lacing::{lace_bytes, laced_channels_are_read_again, push_laced, unlace_bytes};
 pub use layouts::{layout_channels, usual_layout};
-pub use limits::{BLOCK_BITS, BLOCK_BYTES, GREATEST_RATE, LEAST_RATE, MOST_BITS};
+pub use limits::{BLOCK_BITS, BLOCK_BYTES, GREATEST_RATE, LEAST_RATE, MOST_BITS, MOST_CHANNELS};
 pub use marks::{Mark, Other, Place};
 pub use packing::byte_from;
 pub use planes::{frames_to_planes, planes_to_frames};

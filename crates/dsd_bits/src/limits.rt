@@ -1,5 +1,8 @@
 //! The limits of a recording, and the size of a block of DSF 1.01.
 
+/// The most channels that a recording has.
+pub const MOST_CHANNELS: usize = 6;
+
 /// The most bits that a channel has.
 pub const MOST_BITS: usize = 1 << 36;
 

@@ -78,7 +78,7 @@ pub(crate) fn append_bytes(
     Ok(())
 }
 
-// Writes the bits of `source` from bit `at` on over the bytes from `kept` on. Each is made of two neighbouring bytes;
+// Writes the bits of `source` from bit `at` on over the bytes from `kept` on. Each combines two neighbouring bytes;
 // the last may lack the second.
 fn shift_into(to: &mut [u8], kept: usize, source: &[u8], at: usize)
     requires some { kept < length to.old }

@@ -1,41 +1,22 @@
 -- What a player that pauses has played, and what it goes on to.
-use Rattle.std.proofs.Common.{◌≡◌, ℕ, ◌+◌, ◌≤◌, List, ◌++◌, length, drop, sym, ap, ◌∙◌, arith, append_assoc}
-use Rattle.std.specs.Prelude.{slice_range}
+use Rattle.std.proofs.Common.{◌≡◌, ℕ, ◌+◌, ◌≤◌, List, ◌++◌, length, sym, ap, ◌∙◌, arith, append_assoc}
 use Rattle.dsd_bits.specs.declared.sound.Sound.{Sound}
 use Rattle.fir_core.specs.Decimator.{Decimator}
-use Rattle.player_core.specs.Due.{all_bytes, due_bytes}
 use Rattle.player_core.specs.Laws.{total_frames}
-use Rattle.player_core.specs.PartView.{IsPartFed, IsPartOf, IsPartPlayer, IsSamePart, part_all, part_due, part_fed, part_filter, part_rest, part_start}
+use Rattle.player_core.specs.PartView.{IsPartFed, IsPartPlayer, IsSamePart, part_all, part_due, part_fed, part_filter, part_rest}
 use Rattle.player_core.specs.PausedView.{IsPausedPart, IsSamePlace}
-use Rattle.player_core.specs.PlayerView.{filter_of, sound_of}
 use Rattle.player_core.specs.declared.parts.PartPlayer.{PartPlayer}
 use Rattle.player_core.specs.declared.pausing.PausedPart.{PausedPart}
+use Rattle.player_core.proofs.PieceLaws.{all_same, due_same}
+use Rattle.player_core.proofs.PieceLaws.{plays_on as part_on}
 use Rattle.dsdarc_c.specs.Playing.{HasPlayed}
 
 -- ---- players of the same part
 abbrev Bytes : Type 0
 Bytes = List ℕ
 
-between : (f : Decimator → Sound → Bytes → Bytes) (d e : Decimator) (s t : Sound) (k l m n : ℕ) (bs : Bytes) → d ≡ e → s ≡ t → k ≡ l → m ≡ n → slice_range (f d s bs) k m ≡ slice_range (f e t bs) l n
-between f d e s t k l m n bs de st kl mn =
-    ap (λ x. slice_range (f x s bs) k m) de ∙ ap (λ x. slice_range (f e x bs) k m) st ∙ ap (λ x. slice_range (f e t bs) x m) kl ∙ ap (λ x. slice_range (f e t bs) l x) mn
-
-pub due_same : (p r : PartPlayer) (bs : Bytes) → IsSamePart p r → part_due r bs ≡ part_due p bs
-due_same p r bs e = between due_bytes (filter_of r.player) (filter_of p.player) (sound_of r.player) (sound_of p.player) r.skip p.skip r.stop p.stop bs e.filter e.rest e.skip e.stop
-
-pub all_same : (p r : PartPlayer) (bs : Bytes) → IsSamePart p r → part_all r bs ≡ part_all p bs
-all_same p r bs e = between all_bytes (filter_of r.player) (filter_of p.player) (sound_of r.player) (sound_of p.player) r.skip p.skip r.stop p.stop bs e.filter e.rest e.skip e.stop
-
 pub then_same : (p r n : PartPlayer) → IsSamePart p r → IsSamePart r n → IsSamePart p n
 then_same p r n e f = record { filter = f.filter ∙ e.filter; rest = f.rest ∙ e.rest; start = f.start ∙ e.start; skip = f.skip ∙ e.skip; stop = f.stop ∙ e.stop }
-
-pub part_same : (d : Decimator) (s : Sound) (a b : ℕ) (p n : PartPlayer) → IsSamePart p n → IsPartOf d s a b p → IsPartOf d s a b n
-part_same d s a b p n e of = record {
-  filter_is = e.filter ∙ of.filter_is;
-  rest_is = e.rest ∙ of.rest_is;
-  start_is = e.start ∙ of.start_is;
-  gives = λ bytes long. all_same p n (drop (part_start n) bytes) e ∙ ap (λ k. part_all p (drop k bytes)) e.start ∙ of.gives bytes long;
-}
 
 -- ---- the player that goes on is the one that paused
 pub record Resumed (d : Decimator) (q : PausedPart) (r : PartPlayer) : Type 0 where
@@ -62,10 +43,10 @@ module _ (d : Decimator) (s : Sound) (start : ℕ) (before given : Bytes) (p : P
     all_on = then_same p r new same_on same
 
     pub due_on : part_due new (before ++ bytes) ≡ given ++ more
-    due_on = due_same r new (before ++ bytes) same ∙ (gives before fed_on).1 ∙ ap (λ xs. xs ++ more) (due_same p r before same_on ∙ h.due)
+    due_on = due_same r new same (before ++ bytes) ∙ (gives before fed_on).1 ∙ ap (λ xs. xs ++ more) (due_same p r same_on before ∙ h.due)
 
     pub plays_on : (t : PausedPart) → IsPausedPart new t → IsPartPlayer new → HasPlayed d s start (before ++ bytes) (given ++ more) new t
-    plays_on t paused ready = record { paused = paused; part = part_same d s start (total_frames d s) p new all_on h.part; ready = ready; fed = (gives before fed_on).0; due = due_on }
+    plays_on t paused ready = record { paused = paused; part = part_on d s start (total_frames d s) p new all_on h.part; ready = ready; fed = (gives before fed_on).0; due = due_on }
 
     pub ends_on : (rest : Bytes) → ((bs : Bytes) → IsPartFed new bs → part_all new bs ≡ part_due new bs ++ rest) → given ++ (more ++ rest) ≡ part_all p (before ++ bytes)
-    ends_on rest all = sym (sym (all_same p new (before ++ bytes) all_on) ∙ all (before ++ bytes) (gives before fed_on).0 ∙ ap (λ xs. xs ++ rest) due_on ∙ append_assoc given more rest)
+    ends_on rest all = sym (sym (all_same p new all_on (before ++ bytes)) ∙ all (before ++ bytes) (gives before fed_on).0 ∙ ap (λ xs. xs ++ rest) due_on ∙ append_assoc given more rest)

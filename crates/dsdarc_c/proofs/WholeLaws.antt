@@ -15,8 +15,8 @@ use Rattle.player_core.specs.PausedView.{IsPausedPart}
 use Rattle.player_core.specs.Parts.{frames_apart, groups_apart, groups_before}
 use Rattle.player_core.specs.declared.parts.PartPlayer.{PartPlayer}
 use Rattle.player_core.specs.declared.pausing.PausedPart.{PausedPart}
-use Rattle.player_core.proofs.PartPieceLaws.{part_header}
-use Rattle.player_core.proofs.PartSinkLaws.{due_at_first}
+use Rattle.player_core.proofs.PieceLaws.{due_first}
+use Rattle.player_core.proofs.SinkLaws.{due_at_first}
 use Rattle.player_core.proofs.SliceLaws.{slices_meet}
 use Rattle.dsdarc_c.specs.Playing.{HasPlayed, PlaysOn}
 use Rattle.dsdarc_c.specs.Pushing.{IsAtStage, IsPushedHeader, IsPushing, IsWithinSound}
@@ -92,7 +92,7 @@ module _ (d : Decimator) (file : List ℕ) (start : ℕ) (out header : List ℕ)
       let rest = slice_range file place (s.start + s.size) in
       let on : before ++ rest ≡ slice_range file from (s.start + s.size) = joined is.after in
       let long : length (before ++ rest) ≡ (part_rest is.player).size = omega (arith, is.long, stands, whole, length-append before rest, length-take ((s.start + s.size) - place) (drop place file), length-drop place file) in
-      let more = part_header is.player is.played.ready before rest long in
+      let more = due_first is.player is.played.ready before rest long in
       (more.0, all_frames whole ∙ ap (part_all is.player) (sym on) ∙ more.1 ∙ ap (λ xs. xs ++ more.0) is.played.due)
     where
       joined : (from ≤ place) ⊎ (left ≡ 0) → before ++ slice_range file place (s.start + s.size) ≡ slice_range file from (s.start + s.size)

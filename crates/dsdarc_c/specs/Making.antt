@@ -13,13 +13,13 @@ use Rattle.dsdarc_c.specs.declared.pushing.Stage.TheVariants as stages
 abbrev pub status_of_project : ProjectFault → ℕ
 status_of_project faults.Memory = 3
 status_of_project faults.NotToml = 11
-status_of_project faults.UnknownKey = 12
-status_of_project (faults.MissingKey key) = 13
-status_of_project (faults.WrongKind key) = 14
-status_of_project (faults.OutOfLimit key) = 15
-status_of_project (faults.NoTake cue) = 16
-status_of_project (faults.ShortCue cue) = 17
-status_of_project faults.LastBridge = 18
+status_of_project (faults.UnknownKey table) = 12
+status_of_project (faults.MissingKey key table) = 13
+status_of_project (faults.WrongKind key table) = 14
+status_of_project (faults.OutOfLimit key table) = 15
+status_of_project (faults.NoTake cue take takes) = 16
+status_of_project (faults.ShortCue cue start stop weights) = 17
+status_of_project (faults.LastBridge cue bridge) = 18
 
 -- the status of a project, by its filter: 0 if it has one, and otherwise 10
 abbrev pub status_of_filter : Option Decimator → ℕ

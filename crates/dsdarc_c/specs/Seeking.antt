@@ -21,6 +21,6 @@ pub record GoesTo (p : Pushing) (frame place : ℕ) : Type 0 where
 abbrev pub RefusesSeek : Pushing → ℕ → PlayFault → Type 0
 RefusesSeek p frame faults.NotYet = IsInHeader p.stage
 RefusesSeek p frame faults.AfterFault = p.stage ≡ stages.Failed
-RefusesSeek p frame faults.BehindEnd = (s : Sound) × IsPushedHeader p.header.items s × (total_frames p.taps s < frame)
+RefusesSeek p frame faults.PastEnd = (s : Sound) × IsPushedHeader p.header.items s × (total_frames p.taps s < frame)
 RefusesSeek p frame faults.Memory = ⊤
 RefusesSeek p frame _ = ⊥

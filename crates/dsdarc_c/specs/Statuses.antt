@@ -8,7 +8,7 @@ abbrev pub status_of : PlayFault → ℕ
 status_of faults.Memory = 3
 status_of faults.AfterFault = 4
 status_of faults.NotYet = 5
-status_of faults.BehindEnd = 6
+status_of faults.PastEnd = 6
 status_of faults.FileRefused = 7
 status_of faults.RateNotDivided = 8
 status_of faults.TooLong = 9

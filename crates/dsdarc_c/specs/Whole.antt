@@ -67,8 +67,8 @@ abbrev pub KeepsForm : List ℕ → List ℕ → Sound → ℕ → List ℕ → 
 KeepsForm file header s place back = s.interleaving ≡ Bytes → back ≡ form_bytes file header s place
 
 -- the file has come to the end of its sound
-abbrev pub IsBehind : Stage → Type 0
-IsBehind stage = (s : Sound) × (back : _) × (stage ≡ stages.After s back)
+abbrev pub IsPastSound : Stage → Type 0
+IsPastSound stage = (s : Sound) × (back : _) × (stage ≡ stages.After s back)
 
 -- ---- a player and a file
 -- a player that pauses got the bytes of the file's sound that it reads, up to this place, and gave these bytes of

@@ -5,7 +5,7 @@ ghost use Rattle.dsdiff_core.specs.Headers.{left_after};
 ghost use Rattle.sound_core.specs.Files.{HoldsSomeRecording, IsHeaderOf};
 ghost use Rattle.dsdarc_c.specs.Ending.{AcceptsEnd, EndsAfterSound, IsAtEndOf, RefusesEnd};
 ghost use Rattle.dsdarc_c.specs.Pushing.{IsPushing};
-ghost use Rattle.dsdarc_c.specs.Whole.{EndsFile, IsBehind, PlaysPushedFile, still_kept};
+ghost use Rattle.dsdarc_c.specs.Whole.{EndsFile, IsPastSound, PlaysPushedFile, still_kept};
 
 use crate::fault::PlayFault;
 use crate::pushing::{Pushing, Stage};
@@ -40,7 +40,7 @@ pub(crate) fn end(alloc: Global, p: &mut Pushing) -> Result<(), PlayFault>
 // Whether a file that ends here holds a recording.
 fn is_closed(alloc: Global, p: &Pushing) -> Result<bool, PlayFault>
     requires { IsPushing p.now }
-    ensures behind { IfOk result (λ closed. closed ≡ true → IsBehind p.now.stage) }
+    ensures behind { IfOk result (λ closed. closed ≡ true → IsPastSound p.now.stage) }
     ensures closed { IfOk result (λ closed. (file : List ℕ) → IsAtEndOf file p.now
         → (closed ≡ true) ↔ HoldsSomeRecording file) }
     ensures refused { IfErr result (λ fault. ((fault ≡ PlayFault.AfterFault) × (p.now.stage ≡ Stage.Failed))
@@ -73,7 +73,7 @@ fn fail(p: &mut Pushing, fault: PlayFault) -> Result<(), PlayFault>
 }
 
 /// Whether a file of `total` bytes holds a recording that begins with `header`, which ends where its sound starts, and
-/// whose DSDIFF form has `back` behind the sound.
+/// whose DSDIFF form has `back` after the sound.
 pub(crate) fn closes(
     alloc: Global,
     sound: &Sound,

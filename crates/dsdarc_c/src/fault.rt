@@ -21,7 +21,7 @@ pub enum PlayFault {
     /// The sound isn't known yet.
     NotYet,
     /// There is no such frame.
-    BehindEnd,
+    PastEnd,
     /// Out of memory.
     Memory,
 }

@@ -1,4 +1,4 @@
-//! A player in the heap, as C holds it: a pointer, behind which it stands until it is dropped.
+//! A player in the heap, as C holds it: a pointer to it, until it is dropped.
 
 ghost use Rattle.std.specs.Prelude.{◌≡◌};
 ghost use Rattle.std.specs.Box.Ownership.{box_owns};
@@ -36,7 +36,7 @@ pub(crate) fn into_pointer(player: Box<PushPlayer>) -> *mut u8 {
     address(Box::leak(player))
 }
 
-// Where a player stands.
+// Where a player is.
 fn address(player: &mut PushPlayer) -> *mut u8
     ensures { player.new ≡ player.old }
 {

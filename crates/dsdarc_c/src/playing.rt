@@ -10,7 +10,7 @@ use fir_core::Taps;
 use player_core::PausedPart;
 use std::alloc::AllocError;
 
-/// Plays the next bytes of a sound of which so many are left, and appends the bytes of frames that are due; behind the
+/// Plays the next bytes of a sound of which so many are left, and appends the bytes of frames that are due; after the
 /// last byte those of all others too, and then no player is left.
 pub(crate) fn play_on(
     taps: &Taps,

@@ -14,9 +14,9 @@ use std::alloc::Global;
 pub(crate) struct Pushing {
     /// The filter.
     pub(crate) taps: Taps,
-    /// Where in the file the next byte stands.
+    /// Where in the file the next byte is.
     pub(crate) place: usize,
-    /// What stands before the sound.
+    /// What is before the sound.
     pub(crate) header: Vec<u8>,
     /// How far the file has come.
     pub(crate) stage: Stage,
@@ -35,7 +35,7 @@ pub(crate) enum Stage {
     Header(usize),
     /// So many bytes of this sound are left to be played.
     Sound(Sound, PausedPart, usize),
-    /// This sound is played; these bytes are kept of what stands behind it.
+    /// This sound is played; these bytes are kept of what is after it.
     After(Sound, Vec<u8>),
     /// A call was refused.
     Failed,

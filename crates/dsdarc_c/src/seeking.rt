@@ -15,7 +15,7 @@ use std::alloc::Global;
 
 /// Goes to a frame: the byte of the file from which on it is pushed then.
 ///
-/// Refusals: `NotYet` before the sound is known, `AfterFault` after another refusal, `BehindEnd` if the sound has no
+/// Refusals: `NotYet` before the sound is known, `AfterFault` after another refusal, `PastEnd` if the sound has no
 /// such frame; these change nothing. `Memory` is the last answer.
 pub(crate) fn seek(alloc: Global, p: &mut Pushing, frame: u64) -> Result<u64, PlayFault>
     requires { IsPushing p.old }
@@ -34,12 +34,12 @@ pub(crate) fn seek(alloc: Global, p: &mut Pushing, frame: u64) -> Result<u64, Pl
 {
     let sound = sound_with_head(p)?;
     if frame > sound.count.div_ceil(p.taps.factor() as usize) as u64 {
-        return Err(PlayFault::BehindEnd);
+        return Err(PlayFault::PastEnd);
     }
     seek_in(alloc, p, sound, frame as usize)
 }
 
-// The sound that stands behind the prefix of a file.
+// The sound that is after the prefix of a file.
 fn sound_with_head(p: &Pushing) -> Result<Sound, PlayFault>
     requires { IsPushing p.now }
     ensures header { IfOk result (IsPushedHeader p.now.header.items) }

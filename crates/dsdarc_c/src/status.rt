@@ -16,7 +16,7 @@ const AFTER_FAULT: u32 = 4;
 
 const NOT_YET: u32 = 5;
 
-const BEHIND_END: u32 = 6;
+const PAST_END: u32 = 6;
 
 const FILE_REFUSED: u32 = 7;
 
@@ -69,7 +69,7 @@ pub(crate) fn status_of(fault: PlayFault) -> u32
         PlayFault::TooMuchHeld => TOO_MUCH_HELD,
         PlayFault::AfterFault => AFTER_FAULT,
         PlayFault::NotYet => NOT_YET,
-        PlayFault::BehindEnd => BEHIND_END,
+        PlayFault::PastEnd => PAST_END,
         PlayFault::Memory => MEMORY,
     }
 }
@@ -80,13 +80,13 @@ pub(crate) fn status_of_project(fault: ProjectFault) -> u32
 {
     match fault {
         ProjectFault::NotToml => NOT_TOML,
-        ProjectFault::UnknownKey => UNKNOWN_KEY,
-        ProjectFault::MissingKey(_) => MISSING_KEY,
-        ProjectFault::WrongKind(_) => WRONG_KIND,
-        ProjectFault::OutOfLimit(_) => OUT_OF_LIMIT,
-        ProjectFault::NoTake(_) => NO_TAKE,
-        ProjectFault::ShortCue(_) => SHORT_CUE,
-        ProjectFault::LastBridge => LAST_BRIDGE,
+        ProjectFault::UnknownKey(_) => UNKNOWN_KEY,
+        ProjectFault::MissingKey(..) => MISSING_KEY,
+        ProjectFault::WrongKind(..) => WRONG_KIND,
+        ProjectFault::OutOfLimit(..) => OUT_OF_LIMIT,
+        ProjectFault::NoTake { .. } => NO_TAKE,
+        ProjectFault::ShortCue { .. } => SHORT_CUE,
+        ProjectFault::LastBridge { .. } => LAST_BRIDGE,
         ProjectFault::Memory => MEMORY,
     }
 }

@@ -27,7 +27,7 @@ const MOST_HALF: usize = 1 << 61;
 // So many bytes, and no more, are held of what precedes the sound, and of what follows it.
 const MOST_HELD: usize = 1 << 28;
 
-/// Takes bytes of the file, from the place on where the next one stands, and returns how many: of the first 65,536 all
+/// Takes bytes of the file, from the place on where the next one is, and returns how many: of the first 65,536 all
 /// of them, but at most those up to where the sound starts or ends. None are taken while frames wait to be pulled.
 ///
 /// Refusals: `AfterFault` after another refusal, `TooLong` after `2^62` bytes, then what the bytes before the sound
@@ -135,7 +135,7 @@ fn push_header(
     }
 }
 
-// Takes bytes behind the sound: those of a DSDIFF form are kept.
+// Takes bytes after the sound: those of a DSDIFF form are kept.
 fn push_after(
     p: &mut Pushing,
     sound: Sound,

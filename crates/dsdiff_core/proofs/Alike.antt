@@ -68,7 +68,7 @@ module _ (F G : List ℕ) where
   find_alike (s ∷ ss) a = rw (property_alike s a.0, find_alike ss a.1) refl
 
   -- ---- the version, and kinds that occur once
-  no_version : (H : List ℕ) (s : Span) (cs : List Chunk) → span_has DSD s ≡ true → known_version (span_chunk H s ∷ cs) ≡ Err faults.NoVersion
+  no_version : (H : List ℕ) (s : Span) (cs : List Chunk) → span_has DSD s ≡ true → known_version (span_chunk H s ∷ cs) ≡ Err (faults.NoVersion (Some s.id))
   no_version H s cs y = rw (not_both DSD FVER (span_chunk H s) refl y) refl
 
   pub version_alike : (ss : List Span) → Alike ss → known_version (map (span_chunk F) ss) ≡ known_version (map (span_chunk G) ss)

@@ -50,7 +50,7 @@ taken_alike : (leads : Bool) (bytes other : List ℕ) (n : ℕ) (f g : List ℕ 
     → (bytes_of_sound leads (Some other) n >>= f) ≡ read_with_sound other (bytes_of_sound leads (Some bytes) n >>= g)
 taken_alike leads bytes other n f g e h = rw e (by leads (not (eqb (length bytes % n) 0)) (ltb (2 ^ 36) (8 * (length bytes / n))))
   where
-    by : (a b c : Bool) → (cond a (Err faults.SoundBeforeProperty) (cond b (Err faults.PartFrame) (cond c (Err faults.TooLong) (Ok other))) >>= f) ≡ read_with_sound other (cond a (Err faults.SoundBeforeProperty) (cond b (Err faults.PartFrame) (cond c (Err faults.TooLong) (Ok bytes))) >>= g)
+    by : (a b c : Bool) → (cond a (Err faults.SoundBeforeProperty) (cond b (Err (faults.PartFrame (length bytes) n)) (cond c (Err (faults.TooLong (length bytes) n)) (Ok other))) >>= f) ≡ read_with_sound other (cond a (Err faults.SoundBeforeProperty) (cond b (Err (faults.PartFrame (length bytes) n)) (cond c (Err (faults.TooLong (length bytes) n)) (Ok bytes))) >>= g)
     by true b c = refl
     by false true c = refl
     by false false true = refl

@@ -1,21 +1,21 @@
 -- Files that are cut inside a chunk of the form, and bytes after the form.
-use Rattle.std.proofs.Common.{◌≡◌, ℕ, ◌+◌, ◌-◌, ◌≤◌, ◌<◌, inl, inr, min, true, false, cond, ltb, eqb, not, List, [], ◌∷◌, ◌++◌, length, map, take, drop, Option, Result, Ok, Err, refl, sym, ap, subst, ◌∙◌, arith}
+use Rattle.std.proofs.Common.{◌≡◌, ℕ, ◌+◌, ◌-◌, ◌≤◌, ◌<◌, inl, inr, min, cond, ltb, not, List, [], ◌++◌, length, map, take, drop, Result, Ok, Err, refl, sym, ap, ap₂, subst, ◌∙◌, arith}
 use Rattle.std.specs.Prelude.{filter, slice_range}
 use Rattle.std.proofs.lemmas.Bool.{cases_lt, lt-ltb, le-ltb}
-use Rattle.std.proofs.lemmas.List.{length-append, length-drop, length-take}
+use Rattle.std.proofs.lemmas.List.{length-append, length-drop, length-take, take-take}
 use Rattle.byteorder.specs.Endian.{big_number}
 use Rattle.byteorder.specs.Numbers.{big_from-take}
 use Rattle.chunk_core.specs.declared.fault.ChunkFault.{ChunkFault}
 use Rattle.chunk_core.specs.declared.fault.ChunkFault.TheVariants.{DataCut}
 use Rattle.chunk_core.specs.declared.layout.Span.{Span}
-use Rattle.chunk_core.specs.Chunks.{Chunk, chunks, width}
+use Rattle.chunk_core.specs.Chunks.{Chunk, chunks}
 use Rattle.chunk_core.specs.Places.{places, span_chunk}
-use Rattle.chunk_core.specs.Reading.{first_of, size_of, spans_in, walk_of}
+use Rattle.chunk_core.specs.Reading.{first_of, size_of, spans_in}
 use Rattle.chunk_core.specs.Steps.{◌>>=◌}
 use Rattle.chunk_core.proofs.Ranges.{range_inner}
 use Rattle.chunk_core.proofs.ReadingLaws.{walk_step}
 use Rattle.dsd_bits.specs.declared.marks.Place.TheVariants.{Property, Master, Form}
-use Rattle.dsd_bits.specs.Contents.{Content, MarkContent, OtherContent}
+use Rattle.dsd_bits.specs.Contents.{Content}
 use Rattle.dsd_bits.specs.Ids.{same_id, DSD, MARK}
 use Rattle.dsd_bits.specs.Lacing.{unlaced_all}
 use Rattle.dsd_bits.specs.Layouts.{usual_layout}
@@ -23,8 +23,8 @@ use Rattle.dsdiff_core.specs.declared.fault.DsdiffFault.{DsdiffFault}
 use Rattle.dsdiff_core.specs.declared.fault.DsdiffFault.TheVariants as faults
 use Rattle.dsdiff_core.specs.Cuts.{CutIsRefused, EndsAtChunk, FormIsRead, cut_fault, last_size}
 use Rattle.dsdiff_core.specs.Fields.{form_end, form_size}
-use Rattle.dsdiff_core.specs.Forms.{form_end_in, top_of, known_version}
-use Rattle.dsdiff_core.specs.Headers.{place_after, size_at}
+use Rattle.dsdiff_core.specs.Forms.{cut_form, form_end_in, top_of}
+use Rattle.dsdiff_core.specs.Headers.{data_cut, size_at}
 use Rattle.dsdiff_core.specs.Kinds.{FRM8, has_id}
 use Rattle.dsdiff_core.specs.Located.{EndsAtHead}
 use Rattle.dsdiff_core.specs.Marks.{mark_in}
@@ -33,7 +33,7 @@ use Rattle.dsdiff_core.specs.Others.{kept}
 use Rattle.dsdiff_core.specs.Properties.{PropertyFields, property_of}
 use Rattle.dsdiff_core.specs.Reading.{marks_of, kept_others, recording_of}
 use Rattle.dsdiff_core.specs.Sounds.{sound_leads, bytes_of_sound}
-use Rattle.dsdiff_core.specs.Spans.{data_with, once_each, top_kinds}
+use Rattle.dsdiff_core.specs.Spans.{data_with}
 use Rattle.dsdiff_core.specs.Steps.{walked}
 use Rattle.dsdiff_core.proofs.Alike.{bind_same, inner_same, masters_same, once_alike, parts_same, property_same, same_alike, spans_same, version_alike}
 use Rattle.dsdiff_core.proofs.FormLaws.{IsForm, end_again, end_ok, form_cut, same_again, top_ok}
@@ -44,18 +44,19 @@ use Rattle.dsdiff_core.proofs.Steps.{walked_ok}
 use Rattle.dsdiff_core.proofs.WalkLaws.{after, walk_over}
 
 -- ---- a chunk whose data go past the end
-data_cut : (at : ℕ) (bytes : List ℕ) → 12 ≤ length bytes → length bytes - 12 < size_of bytes → first_of at bytes ≡ Err (DataCut at)
+first_cut : (at : ℕ) (bytes : List ℕ) → 12 ≤ length bytes → length bytes - 12 < size_of bytes → first_of at bytes ≡ Err (DataCut at (take 4 bytes) (size_of bytes))
 unfolding first_of
-data_cut at bytes head short = rw (le-ltb (length bytes) 12 head, lt-ltb (length bytes - 12) (size_of bytes) short) refl
+first_cut at bytes head short = rw (le-ltb (length bytes) 12 head, lt-ltb (length bytes - 12) (size_of bytes) short) refl
 
-pub spans_cut : (file : List ℕ) (at stop : ℕ) → at + 12 ≤ stop → stop ≤ length file → stop < at + 12 + size_at file at → spans_in file at stop ≡ Err (DataCut at)
+pub spans_cut : (file : List ℕ) (at stop : ℕ) → at + 12 ≤ stop → stop ≤ length file → stop < at + 12 + size_at file at → spans_in file at stop ≡ Err (DataCut at (take 4 (drop at file)) (size_at file at))
 unfolding spans_in
 spans_cut file at stop head inside short =
     let bytes : List ℕ = slice_range file at stop in
     let long : length bytes ≡ stop - at = omega (arith, length-take (stop - at) (drop at file), length-drop at file) in
     let size : size_of bytes ≡ size_at file at =
     sym (big_from-take 0 8 8 (drop 4 bytes) (omega arith)) ∙ ap (big_number 8) (range_inner file at stop 4 8 (omega arith)) ∙ big_from-take 0 8 8 (drop (at + 4) file) (omega arith) in
-    rw (walk_step at bytes (omega (arith, long, head)), data_cut at bytes (omega (arith, long, head)) (omega (arith, long, size, short))) refl
+    rw (walk_step at bytes (omega (arith, long, head)), first_cut at bytes (omega (arith, long, head)) (omega (arith, long, size, short)))
+    (ap₂ (λ (id : List ℕ) (n : ℕ). let r : Result (List Span) ChunkFault = Err (DataCut at id n) in r) (take-take 4 (stop - at) (drop at file) (omega arith)) size)
 
 pub top_fails : (file : List ℕ) (e : ChunkFault) (stop : ℕ) → form_end_in file ≡ Ok stop → spans_in file 16 stop ≡ Err e → recording_of file ≡ (walked (Err e) >>= λ (u : Unit {0}). Err faults.Memory)
 unfolding recording_of top_of
@@ -81,7 +82,7 @@ module _ (prefix rest : List ℕ) (h : EndsAtChunk prefix) where
   not_form = (part_header 4 0 prefix rest (omega (arith, long)), part_header 4 12 prefix rest (omega (arith, long)))
 
   -- the form ends in the file
-  ended : 12 + form_size file ≤ length file + 1 → form_end file < length prefix + last_size prefix → recording_of file ≡ Err (faults.Chunk (DataCut (length prefix - 12)))
+  ended : 12 + form_size file ≤ length file + 1 → form_end file < length prefix + last_size prefix → recording_of file ≡ Err (data_cut prefix (length prefix - 12))
   ended fits short =
       let last : size_at file h.at ≡ last_size prefix = number_prefix 8 (h.at + 4) prefix rest (omega (arith, h.ends)) ∙ ap (size_at prefix) (sym here) in
       let low : 16 ≤ h.at = omega (arith, after_on 16 h.before, h.no_gap) in
@@ -94,16 +95,19 @@ module _ (prefix rest : List ℕ) (h : EndsAtChunk prefix) where
         holds_type = omega (arith, low, h.head_in_form, size);
         in_file = fits;
       } in
-      let spans : spans_in file 16 (form_end file) ≡ Err (DataCut h.at) =
+      let id : take 4 (drop h.at file) ≡ take 4 (drop (length prefix - 12) prefix) = part_header 4 h.at prefix rest (omega (arith, h.ends)) ∙ ap (λ (n : ℕ). take 4 (drop n prefix)) (sym here) in
+      let cut : ChunkFault = DataCut h.at (take 4 (drop h.at file)) (size_at file h.at) in
+      let spans : spans_in file 16 (form_end file) ≡ Err cut =
       walk_over file 16 h.at (form_end file) h.before (omega (arith, head)) (subst (λ (bs : List ℕ). chunks bs h.before) (sym range) h.are_before) h.no_gap
       ∙ ap (after (places 16 h.before)) (spans_cut file h.at (form_end file) head (omega arith) (omega (arith, short, last, h.ends))) in
-      top_fails file (DataCut h.at) (form_end file) (end_again file form) spans ∙ ap (λ (n : ℕ). let r : Result Content DsdiffFault = Err (faults.Chunk (DataCut n)) in r) (sym here)
+      top_fails file cut (form_end file) (end_again file form) spans ∙ (λ i. let r : Result Content DsdiffFault = Err (faults.Chunk (DataCut (sym here i) (id i) (last i))) in r)
 
   cut_is : form_end file < length prefix + last_size prefix → recording_of file ≡ Err (cut_fault prefix (length file))
   cut_is short = elim (cases_lt (length file + 1) (12 + form_size prefix)) [
     | inl less ↦
         rw (lt-ltb (length file + 1) (12 + form_size prefix) less)
-        (end_is_read file faults.FormCut (form_cut file (omega (arith, long, total)) (same_again (take 4 file) FRM8 refl (not_form.0 ∙ h.form)) (same_again (take 4 (drop 12 file)) DSD refl (not_form.1 ∙ h.kind)) (inr (omega (arith, less, size)))))
+        (end_is_read file (cut_form (form_size file) (length file)) (form_cut file (omega (arith, long, total)) (same_again (take 4 file) FRM8 refl (not_form.0 ∙ h.form)) (same_again (take 4 (drop 12 file)) DSD refl (not_form.1 ∙ h.kind)) (omega (arith, less, size)))
+        ∙ ap (λ (n : ℕ). let r : Result Content DsdiffFault = Err (cut_form n (length file)) in r) size)
     | inr enough ↦ rw (le-ltb (length file + 1) (12 + form_size prefix) enough) (ended (omega (arith, enough, size)) short)
   ]
 
@@ -146,7 +150,7 @@ module _ (file rest : List ℕ) (long : 16 ≤ length file) (whole : 12 + form_s
         le-ltb (length F + 1) (12 + form_size file) (omega (arith, whole, length-append file rest)),
         le-ltb (length file + 1) (12 + form_size file) (omega (arith, whole)),
       )
-      (ap (λ (n : ℕ). let r : Result ℕ DsdiffFault = cond (not (same_id (take 4 file) FRM8)) (Err faults.NotDsdiff) (cond (not (same_id (take 4 (drop 12 file)) DSD)) (Err faults.NotDsdiff) (cond (ltb (form_size file) 4) (Err faults.FormCut) (Ok n))) in r) mins)
+      (ap (λ (n : ℕ). let r : Result ℕ DsdiffFault = cond (not (same_id (take 4 file) FRM8)) (Err faults.NotDsdiff) (cond (not (same_id (take 4 (drop 12 file)) DSD)) (Err faults.NotDsdiff) (cond (ltb (form_size file) 4) (Err (faults.FormCut (form_size file) 0)) (Ok n))) in r) mins)
 
   range_same : (stop : ℕ) → stop ≤ length file → slice_range F 16 stop ≡ slice_range file 16 stop
   range_same stop le = part_header (stop - 16) 16 file rest (omega (arith, le, long))

@@ -6,7 +6,6 @@ use Rattle.chunk_core.specs.declared.layout.Span.{Span}
 use Rattle.chunk_core.specs.Places.{span_chunk}
 use Rattle.chunk_core.specs.Steps.{◌>>=◌}
 use Rattle.dsdiff_core.specs.declared.fault.DsdiffFault.{DsdiffFault}
-use Rattle.dsdiff_core.specs.declared.fault.DsdiffFault.TheVariants as faults
 use Rattle.dsdiff_core.specs.declared.faulty.FaultyStart.{FaultyStart}
 use Rattle.dsd_bits.specs.Ids.{FVER, DSD, same_id}
 use Rattle.dsdiff_core.specs.Faulty.{AreJudged, TellFault, fault_with, first_fault, judged, kinds_of}

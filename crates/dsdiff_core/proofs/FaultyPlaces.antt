@@ -1,15 +1,18 @@
 -- Where the first chunks of a form end, and what follows them.
-use Rattle.std.proofs.Common.{◌≡◌, ℕ, ◌+◌, ◌-◌, ◌%◌, ◌≤◌, ◌<◌, ◌⊎◌, inl, inr, min, Bool, true, false, ◌&&◌, nat_eq, List, [], ◌∷◌, ◌++◌, length, map, take, drop, is_some, Result, Ok, Err, refl, sym, ap, ap₂, subst, ◌∙◌, arith}
-use Rattle.std.specs.Prelude.{find, slice_range}
+use Rattle.std.proofs.Common.{◌≡◌, ℕ, ◌+◌, ◌-◌, ◌%◌, ◌≤◌, ◌<◌, ◌⊎◌, inl, inr, min, Bool, true, false, ◌&&◌, nat_eq, List, [], ◌∷◌, ◌++◌, length, map, take, drop, Option, Some, None, is_some, Result, Ok, Err, refl, sym, ap, ap₂, subst, ◌∙◌, arith}
+use Rattle.std.specs.Prelude.{MatchOption, find, slice_range}
 use Rattle.std.proofs.lemmas.List.{append-nil, drop-append-le, drop-drop, length-append, length-drop, length-take, take-append-le, take-take}
 use Rattle.std.proofs.lemmas.Bool.{cases_lt, lt-ltb}
 use Rattle.std.specs.List.{starts_with}
 use Rattle.byteorder.specs.Endian.{big_number}
 use Rattle.chunk_core.specs.declared.fault.ChunkFault.{ChunkFault}
 use Rattle.chunk_core.specs.declared.fault.ChunkFault.TheVariants.{HeadCut, DataCut}
+use Rattle.chunk_core.specs.declared.layout.Head.{Head}
 use Rattle.chunk_core.specs.declared.layout.Span.{Span}
+use Rattle.chunk_core.specs.declared.numbers.Order.TheVariants.{Big}
 use Rattle.chunk_core.specs.Chunks.{Chunk, chunks, width}
-use Rattle.chunk_core.specs.Places.{places, span_chunk}
+use Rattle.chunk_core.specs.Heads.{IsHeadAt}
+use Rattle.chunk_core.specs.Places.{span_chunk}
 use Rattle.chunk_core.specs.Reading.{first_of, spans_in}
 use Rattle.chunk_core.specs.Steps.{◌>>=◌}
 use Rattle.chunk_core.proofs.PlaceLaws.{spans_found}
@@ -19,9 +22,9 @@ use Rattle.dsd_bits.specs.Ids.{FVER, PROP, SND, DSD, same_id}
 use Rattle.dsdiff_core.specs.declared.fault.DsdiffFault.{DsdiffFault}
 use Rattle.dsdiff_core.specs.declared.fault.DsdiffFault.TheVariants as faults
 use Rattle.dsdiff_core.specs.declared.faulty.FaultyStart.{FaultyStart}
-use Rattle.dsdiff_core.specs.Faulty.{AreJudged, AreNext, EndsInNext, IsFaulty, IsSeen, TellFault, first_fault, judged, kinds_of, next_place}
+use Rattle.dsdiff_core.specs.Faulty.{AreJudged, AreNext, EndsInNext, IsFaulty, IsNextHead, IsSeen, TellFault, first_fault, judged, kinds_of, next_place}
 use Rattle.dsdiff_core.specs.Fields.{form_end, form_size}
-use Rattle.dsdiff_core.specs.Forms.{form_end_in, known_version, top_of}
+use Rattle.dsdiff_core.specs.Forms.{cut_form, form_end_in, known_version, top_of}
 use Rattle.dsdiff_core.specs.Headers.{form_of, place_after, size_at}
 use Rattle.dsdiff_core.specs.Kinds.{FRM8, is_property}
 use Rattle.dsdiff_core.specs.Properties.{property_of}
@@ -194,6 +197,21 @@ module _ (file : List ℕ) (s : FaultyStart) (bytes : List ℕ) (next : AreNext 
           judges = j;
         }
 
+-- the head of the next chunk is that of these bytes
+pub next_head : (file : List ℕ) (s : FaultyStart) (bytes : List ℕ) (next : Option Head) → AreNext file s bytes → MatchOption next (length bytes < 12) (IsHeadAt Big bytes 0) → IsNextHead file s next
+next_head file s bytes (Some h) next is = record {
+  whole = next_inside file s bytes next is.whole;
+  id = is.id ∙ sym (id_next file s bytes next is.whole);
+  size = is.size ∙ size_next file s bytes next is.whole;
+}
+next_head file s bytes None next short = elim next.enough [
+  | inl long ↦ absurd (omega (arith, long, short))
+  | inr rest ↦ elim rest [
+    | inl none ↦ omega (arith, short, ap length none, ap length next.are, length-drop (next_place s) file, length-append bytes next.more)
+    | inr form ↦ omega (arith, form, short)
+  ]
+]
+
 -- the form ends in the next chunk, if its size goes past that
 ends_by : (stop at n form m : ℕ) → stop ≤ 12 + form → n ≡ m → (form < at) ⊎ (form < at + n) → at + 12 ≤ stop → stop < at + 12 + m
 ends_by stop at n form m le same (inl past) fits = absurd (omega (arith, le, past, fits))
@@ -242,10 +260,12 @@ module _ (file : List ℕ) (s : FaultyStart) (h : IsFaulty file s) where
   pub long_file : 16 ≤ length file
   long_file = omega (arith, h.low, h.inside)
 
-  pub start_fails : length file + 1 < 12 + form_size file → recording_of file ≡ Err faults.FormCut
-  start_fails cut =
+  pub start_fails : (total missing : ℕ) → IsSeen file total → total + 1 < 12 + form_size file → missing ≡ s.form - (total - 12) → recording_of file ≡ Err (faults.FormCut s.form missing)
+  start_fails total missing (inr seen) cut left = absurd (omega (arith, seen.0, cut))
+  start_fails total missing (inl all) cut left =
       let f = form_ok file h.form in
-      end_is_read file faults.FormCut (form_cut file long_file (same_again (take 4 file) FRM8 refl f.0) (same_again (take 4 (drop 12 file)) DSD refl f.1) (inr cut))
+      end_is_read file (cut_form (form_size file) (length file)) (form_cut file long_file (same_again (take 4 file) FRM8 refl f.0) (same_again (take 4 (drop 12 file)) DSD refl f.1) (omega (arith, all, cut)))
+      ∙ ap₂ (λ (size few : ℕ). let r : Result Content DsdiffFault = Err (faults.FormCut size few) in r) (sym h.size) (omega (arith, all, left, h.size))
 
   module _ (whole : 12 + form_size file ≤ length file + 1) where
     end_is : form_end_in file ≡ Ok (form_end file)
@@ -267,18 +287,17 @@ module _ (file : List ℕ) (s : FaultyStart) (h : IsFaulty file s) where
     pub start_head_cut : next_place s < form_end file → form_end file < next_place s + 12 → recording_of file ≡ Err (faults.Chunk (HeadCut (next_place s)))
     start_head_cut some short = top_fails file (HeadCut (next_place s)) (form_end file) end_is (spans_fail (HeadCut (next_place s)) (head_cut file (next_place s) (form_end file) some short (omega arith)))
 
-    pub start_data_cut : next_place s + 12 ≤ form_end file → EndsInNext file s → recording_of file ≡ Err (faults.Chunk (DataCut (next_place s)))
-    start_data_cut head cut = top_fails file (DataCut (next_place s)) (form_end file) end_is (spans_fail (DataCut (next_place s)) (spans_cut file (next_place s) (form_end file) head (omega arith) (cut head)))
+    pub start_data_cut : (place : ℕ) (head : Head) → next_place s ≡ place → IsHeadAt Big file (next_place s) head → next_place s + 12 ≤ form_end file → EndsInNext file s → recording_of file ≡ Err (faults.Chunk (DataCut place head.id head.size))
+    start_data_cut place head at is fits cut =
+        let e : ChunkFault = DataCut (next_place s) (take 4 (drop (next_place s) file)) (size_at file (next_place s)) in
+        top_fails file e (form_end file) end_is (spans_fail e (spans_cut file (next_place s) (form_end file) fits (omega arith) (cut fits)))
+        ∙ (λ i. let r : Result Content DsdiffFault = Err (faults.Chunk (DataCut (at i) (sym is.id i) (sym is.size i))) in r)
 
   pub left_is : (total : ℕ) → IsSeen file total → min (s.form - (s.end - 12)) (total - s.end) ≡ form_end file - s.end
   left_is total (inl all) = omega (arith, all, h.size, h.low, h.inside)
   left_is total (inr seen) = omega (arith, seen.0, seen.1, h.size, h.low, h.inside)
 
--- so many bytes are too few, or enough
-pub seen_cut : (file : List ℕ) (total : ℕ) → IsSeen file total → total + 1 < 12 + form_size file → length file + 1 < 12 + form_size file
-seen_cut file total (inl all) cut = omega (arith, all, cut)
-seen_cut file total (inr seen) cut = absurd (omega (arith, seen.0, cut))
-
+-- so many bytes are enough
 pub seen_whole : (file : List ℕ) (total : ℕ) → IsSeen file total → 12 + form_size file ≤ total + 1 → 12 + form_size file ≤ length file + 1
 seen_whole file total (inl all) whole = omega (arith, all, whole)
 seen_whole file total (inr seen) whole = omega (arith, seen.0, seen.1)

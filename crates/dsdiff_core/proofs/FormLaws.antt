@@ -1,5 +1,5 @@
 -- The form and its chunks, in both directions.
-use Rattle.std.proofs.Common.{◌≡◌, ℕ, ◌+◌, ◌-◌, ◌≤◌, ◌<◌, ◌⊎◌, inl, inr, true, false, ltb, not, List, [], ◌∷◌, length, map, take, drop, Ok, Err, refl, arith}
+use Rattle.std.proofs.Common.{◌≡◌, ℕ, ◌+◌, ◌-◌, ◌≤◌, ◌<◌, true, false, not, List, [], ◌∷◌, length, map, take, drop, Ok, Err, refl, arith}
 use Rattle.std.specs.Prelude.{slice_index}
 use Rattle.std.proofs.lemmas.Bool.{ltb-false, le-ltb, lt-ltb, eqb-true}
 use Rattle.chunk_core.specs.declared.layout.Span.{Span}
@@ -10,11 +10,11 @@ use Rattle.chunk_core.proofs.Steps.{bind_then, guard_ok}
 use Rattle.dsd_bits.specs.Ids.{same_id, FVER, DSD}
 use Rattle.dsdiff_core.specs.declared.fault.DsdiffFault.TheVariants as faults
 use Rattle.dsdiff_core.specs.Fields.{form_size, form_end}
-use Rattle.dsdiff_core.specs.Forms.{form_end_in, top_of, known_version}
+use Rattle.dsdiff_core.specs.Forms.{cut_form, form_end_in, top_of, known_version}
 use Rattle.dsdiff_core.specs.Kinds.{FRM8, has_id}
 use Rattle.dsdiff_core.specs.Spans.{once_each, top_kinds}
 use Rattle.dsdiff_core.specs.Steps.{walked}
-use Rattle.dsdiff_core.proofs.KindLaws.{bool_cases, id_is}
+use Rattle.dsdiff_core.proofs.KindLaws.{id_is}
 use Rattle.dsdiff_core.proofs.OnceLaws.{Once, none_yet, once_again, once_ok}
 use Rattle.dsdiff_core.proofs.Steps.{not_false, under_ok, walked_ok}
 
@@ -67,7 +67,7 @@ version_ok [] u e = absurd cc
 version_ok (c ∷ cs) u e =
     let a = guard_ok _ _ _ _ e in
     let b = guard_ok _ _ _ _ a.1 in
-    let d = under_ok _ tt u faults.BadVersion b.1 in
+    let d = under_ok _ tt u (faults.BadVersion (take 4 c.content)) b.1 in
     record { version = c; later = cs; is = refl; id = not_false _ a.0; long = ltb-false _ _ b.0; main = eqb-true _ _ d.0 }
 
 pub version_again : (cs : List Chunk) → IsVersion cs → known_version cs ≡ Ok tt
@@ -106,16 +106,16 @@ pub form_there : (file : List ℕ) → 16 ≤ length file → not (same_id (take
 unfolding form_end_in
 form_there file long id kind holds fits = rw (le-ltb (length file) 16 long, id, kind, le-ltb (form_size file) 4 holds, le-ltb (length file + 1) (12 + form_size file) fits) refl
 
--- a form whose size is too small, or goes past the file's end
-pub form_cut : (file : List ℕ) → 16 ≤ length file → not (same_id (take 4 file) FRM8) ≡ false → not (same_id (take 4 (drop 12 file)) DSD) ≡ false
-    → (form_size file < 4) ⊎ (length file + 1 < 12 + form_size file) → form_end_in file ≡ Err faults.FormCut
+-- a form whose size is too small
+pub form_small : (file : List ℕ) → 16 ≤ length file → not (same_id (take 4 file) FRM8) ≡ false → not (same_id (take 4 (drop 12 file)) DSD) ≡ false → form_size file < 4 → form_end_in file ≡ Err (faults.FormCut (form_size file) 0)
 unfolding form_end_in
-form_cut file long id kind (inl small) = rw (le-ltb (length file) 16 long, id, kind, lt-ltb (form_size file) 4 small) refl
-form_cut file long id kind (inr cut) =
-    elim (bool_cases (ltb (form_size file) 4)) [
-      | inl small ↦ rw (le-ltb (length file) 16 long, id, kind, small) refl
-      | inr enough ↦ rw (le-ltb (length file) 16 long, id, kind, enough, lt-ltb (length file + 1) (12 + form_size file) cut) refl
-    ]
+form_small file long id kind small = rw (le-ltb (length file) 16 long, id, kind, lt-ltb (form_size file) 4 small) refl
+
+-- a form that goes past the file's end
+pub form_cut : (file : List ℕ) → 16 ≤ length file → not (same_id (take 4 file) FRM8) ≡ false → not (same_id (take 4 (drop 12 file)) DSD) ≡ false → length file + 1 < 12 + form_size file
+    → form_end_in file ≡ Err (cut_form (form_size file) (length file))
+unfolding form_end_in
+form_cut file long id kind cut = rw (le-ltb (length file) 16 long, id, kind, le-ltb (form_size file) 4 (omega (arith, long, cut)), lt-ltb (length file + 1) (12 + form_size file) cut) refl
 
 -- the bytes after the form's size are fewer than it names
 pub cut_by : (file : List ℕ) (size : ℕ) → 16 ≤ length file → length file - 11 < size → size ≡ form_size file → length file + 1 < 12 + form_size file

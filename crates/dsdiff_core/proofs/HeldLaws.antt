@@ -196,10 +196,10 @@ same_spans x y e = cc
 pub after_fails : (e : ChunkFault) (prefix : List Span) (r : Result (List Span) ChunkFault) → WalkFails e r → Fails (chunk_fault e) (walked (after prefix r))
 after_fails Memory prefix r h = tt
 after_fails (HeadCut at) prefix r h = rw h refl
-after_fails (DataCut at) prefix r h = rw h refl
+after_fails (DataCut at id size) prefix r h = rw h refl
 
 -- no fault comes of chunks that are found
 pub none_fails : {A B : Type 0} (e : ChunkFault) (r : Result A ChunkFault) (x : A) (reading : Result B DsdiffFault) → r ≡ Ok x → WalkFails e r → Fails (chunk_fault e) reading
 none_fails Memory r x reading is h = tt
 none_fails (HeadCut at) r x reading is h = absurd cc
-none_fails (DataCut at) r x reading is h = absurd cc
+none_fails (DataCut at id size) r x reading is h = absurd cc

@@ -18,4 +18,4 @@ fails_then e r x f h k = rw h k
 pub walk_fails : {A : Type 0} (f : ChunkFault) (r : Result A ChunkFault) → WalkFails f r → Fails (chunk_fault f) (walked r)
 walk_fails Memory r h = tt
 walk_fails (HeadCut at) r h = rw h refl
-walk_fails (DataCut at) r h = rw h refl
+walk_fails (DataCut at id size) r h = rw h refl

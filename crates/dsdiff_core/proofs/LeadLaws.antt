@@ -5,7 +5,6 @@ use Rattle.std.proofs.lemmas.Bool.{cases_lt, lt-ltb, le-ltb}
 use Rattle.std.proofs.lemmas.List.{drop-append-le, take-append-le, length-drop, length-take, take-take}
 use Rattle.byteorder.specs.Endian.{big_number}
 use Rattle.byteorder.specs.Numbers.{big_from-take}
-use Rattle.chunk_core.specs.declared.fault.ChunkFault.TheVariants.{DataCut}
 use Rattle.chunk_core.specs.Chunks.{Chunk, chunks, width}
 use Rattle.chunk_core.specs.Reading.{size_of}
 use Rattle.chunk_core.proofs.Ranges.{range_after, range_inner}
@@ -13,7 +12,7 @@ use Rattle.chunk_core.proofs.ReadingLaws.{First, first_joins, first_parts}
 use Rattle.dsd_bits.specs.Ids.{same_id, DSD}
 use Rattle.dsdiff_core.specs.declared.fault.DsdiffFault.{DsdiffFault}
 use Rattle.dsdiff_core.specs.declared.fault.DsdiffFault.TheVariants as faults
-use Rattle.dsdiff_core.specs.Headers.{place_after, seek_for, size_at}
+use Rattle.dsdiff_core.specs.Headers.{data_cut, place_after, seek_for, size_at}
 use Rattle.dsdiff_core.specs.Kinds.{has_id}
 use Rattle.dsdiff_core.proofs.KindLaws.{bool_cases, id_is}
 
@@ -207,7 +206,7 @@ seek_ends (suc steps) from size prefix at [] h gap none id whole enough e =
     elim (cases_lt size from) [
       | inl past ↦ err_none faults.NoSound (rw (lt-ltb size from past) at e)
       | inr begins ↦ elim (cases_lt size (from + size_at prefix from)) [
-        | inl cut ↦ err_none (faults.Chunk (DataCut from)) (rw (le-ltb size from begins, whole_here, lt-ltb size (from + size_at prefix from) cut) at e)
+        | inl cut ↦ err_none (data_cut prefix from) (rw (le-ltb size from begins, whole_here, lt-ltb size (from + size_at prefix from) cut) at e)
         | inr fits ↦ some_none from (rw (le-ltb size from begins, whole_here, le-ltb size (from + size_at prefix from) fits, is_sound) at e)
       ]
     ]
@@ -221,7 +220,7 @@ seek_ends (suc steps) from size prefix at (c ∷ cs) h gap none id whole enough 
     elim (cases_lt size from) [
       | inl past ↦ err_none faults.NoSound (rw (lt-ltb size from past) at e)
       | inr begins ↦ elim (cases_lt size (from + size_at prefix from)) [
-        | inl cut ↦ err_none (faults.Chunk (DataCut from)) (rw (le-ltb size from begins, whole_here, lt-ltb size (from + size_at prefix from) cut) at e)
+        | inl cut ↦ err_none (data_cut prefix from) (rw (le-ltb size from begins, whole_here, lt-ltb size (from + size_at prefix from) cut) at e)
         | inr fits ↦
             seek_ends steps (from + width c) size prefix at cs p.1 gap passed.1 id whole (omega arith) (rw (le-ltb size from begins, whole_here, le-ltb size (from + size_at prefix from) fits, no_sound, held, next) at e)
       ]
@@ -289,7 +288,7 @@ seek_ok (suc steps) from size prefix at e = elim (cases_lt size from) [
   | inr begins ↦ elim (cases_lt (length prefix) (from + 12)) [
     | inl short ↦ absurd (none_place at (rw (le-ltb size from begins, lt-ltb (length prefix) (from + 12) short) at e))
     | inr whole ↦ elim (cases_lt size (from + size_at prefix from)) [
-      | inl cut ↦ absurd (err_place (faults.Chunk (DataCut from)) at (rw (le-ltb size from begins, le-ltb (length prefix) (from + 12) whole, lt-ltb size (from + size_at prefix from) cut) at e))
+      | inl cut ↦ absurd (err_place (data_cut prefix from) at (rw (le-ltb size from begins, le-ltb (length prefix) (from + 12) whole, lt-ltb size (from + size_at prefix from) cut) at e))
       | inr fits ↦ elim (bool_cases (same_id (take 4 (drop from prefix)) DSD)) [
         | inl y ↦
             let same = same_place from at (rw (le-ltb size from begins, le-ltb (length prefix) (from + 12) whole, le-ltb size (from + size_at prefix from) fits, y) at e) in

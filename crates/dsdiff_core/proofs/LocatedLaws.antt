@@ -1,17 +1,17 @@
 -- What a walk over the prefix of a file comes to.
-use Rattle.std.proofs.Common.{◌≡◌, ℕ, ◌+◌, ◌-◌, ◌≤◌, ◌<◌, Bool, true, false, cond, ltb, not, List, [], ◌∷◌, ◌++◌, length, take, drop, Option, Some, None, Result, Ok, Err, refl, sym, ap, subst, ◌∙◌, arith}
-use Rattle.std.proofs.lemmas.Bool.{lt-ltb, le-ltb}
+use Rattle.std.proofs.Common.{◌≡◌, ℕ, ◌+◌, ◌≤◌, ◌<◌, Bool, true, false, cond, ltb, not, List, ◌++◌, length, take, drop, Option, Some, None, Result, Ok, Err, refl, sym, ap, ◌∙◌, arith}
+use Rattle.std.proofs.lemmas.Bool.{le-ltb}
 use Rattle.std.proofs.lemmas.List.{length-append}
 use Rattle.chunk_core.specs.Steps.{◌>>=◌}
 use Rattle.dsd_bits.specs.declared.sound.Sound.{Sound}
-use Rattle.dsd_bits.specs.declared.sound.SoundAt.TheVariants.{More, Refused, Found}
+use Rattle.dsd_bits.specs.declared.sound.SoundAt.TheVariants.{More, Refused}
 use Rattle.dsd_bits.specs.Ids.{same_id, DSD}
 use Rattle.dsdiff_core.specs.declared.fault.DsdiffFault.{DsdiffFault}
 use Rattle.dsdiff_core.specs.declared.fault.DsdiffFault.TheVariants as faults
 use Rattle.dsdiff_core.specs.declared.locating.Located.{Located}
 use Rattle.dsdiff_core.specs.declared.locating.Located.TheVariants as answers
 use Rattle.dsdiff_core.specs.Fields.{form_end, form_size}
-use Rattle.dsdiff_core.specs.Forms.{form_end_in, top_of}
+use Rattle.dsdiff_core.specs.Forms.{cut_form, form_end_in, top_of}
 use Rattle.dsdiff_core.specs.Headers.{as_sound_at, form_of, sound_head_place, seek, sound_at, sound_with_head, sound_from, sound_in}
 use Rattle.dsdiff_core.specs.Kinds.{FRM8}
 use Rattle.dsdiff_core.specs.Reading.{recording_of}
@@ -77,18 +77,18 @@ err_in A e = Err e
 err_same : (A B : Type 0) (d e : DsdiffFault) → err_in A d ≡ err_in A e → err_in B d ≡ err_in B e
 err_same A B d e h = let same : d ≡ e = cc (h) in ap (err_in B) same
 
-end_by : (a b c d : Bool) (n : ℕ) (e : DsdiffFault) → cond (not a) (Err faults.NotDsdiff) (cond (not b) (Err faults.NotDsdiff) (cond c (Err faults.FormCut) (Ok tt))) ≡ err_in (Unit {0}) e
-    → cond (not a) (Err faults.NotDsdiff) (cond (not b) (Err faults.NotDsdiff) (cond c (Err faults.FormCut) (cond d (Err faults.FormCut) (Ok n)))) ≡ err_in ℕ e
-end_by false b c d n e h = err_same (Unit {0}) ℕ faults.NotDsdiff e h
-end_by true false c d n e h = err_same (Unit {0}) ℕ faults.NotDsdiff e h
-end_by true true true d n e h = err_same (Unit {0}) ℕ faults.FormCut e h
-end_by true true false d n e h = absurd cc
+end_by : (a b c d : Bool) (n : ℕ) (small cut e : DsdiffFault) → cond (not a) (Err faults.NotDsdiff) (cond (not b) (Err faults.NotDsdiff) (cond c (Err small) (Ok tt))) ≡ err_in (Unit {0}) e
+    → cond (not a) (Err faults.NotDsdiff) (cond (not b) (Err faults.NotDsdiff) (cond c (Err small) (cond d (Err cut) (Ok n)))) ≡ err_in ℕ e
+end_by false b c d n small cut e h = err_same (Unit {0}) ℕ faults.NotDsdiff e h
+end_by true false c d n small cut e h = err_same (Unit {0}) ℕ faults.NotDsdiff e h
+end_by true true true d n small cut e h = err_same (Unit {0}) ℕ small e h
+end_by true true false d n small cut e h = absurd cc
 
 end_refused : (file : List ℕ) (e : DsdiffFault) → 16 ≤ length file → form_of file ≡ Err e → form_end_in file ≡ Err e
 unfolding form_of form_end_in
 end_refused file e long form =
     rw (le-ltb (length file) 16 long)
-    (end_by (same_id (take 4 file) FRM8) (same_id (take 4 (drop 12 file)) DSD) (ltb (form_size file) 4) (ltb (length file + 1) (12 + form_size file)) (form_end file) e form)
+    (end_by (same_id (take 4 file) FRM8) (same_id (take 4 (drop 12 file)) DSD) (ltb (form_size file) 4) (ltb (length file + 1) (12 + form_size file)) (form_end file) (faults.FormCut (form_size file) 0) (cut_form (form_size file) (length file)) e form)
 
 pub end_is_read : (file : List ℕ) (e : DsdiffFault) → form_end_in file ≡ Err e → recording_of file ≡ Err e
 unfolding recording_of top_of

@@ -1,16 +1,15 @@
--- A chunk whose data go past the form, behind whole chunks.
+-- A chunk whose data go past the form, after whole chunks.
 use Rattle.std.proofs.Common.{◌≡◌, ℕ, zero, suc, ◌+◌, ◌-◌, ◌%◌, ◌≤◌, ◌<◌, inl, inr, List, [], ◌∷◌, ◌++◌, length, take, drop, Option, Some, None, Result, Ok, Err, refl, sym, ap, subst, ◌∙◌, arith}
 use Rattle.std.specs.Prelude.{slice_range}
 use Rattle.std.proofs.lemmas.Bool.{cases_lt, lt-ltb, le-ltb}
 use Rattle.std.proofs.lemmas.List.{length-drop, length-take, length-take-le, take-append-drop}
-use Rattle.chunk_core.specs.declared.fault.ChunkFault.TheVariants.{DataCut}
 use Rattle.chunk_core.specs.Chunks.{Chunk, chunks, width}
 use Rattle.dsd_bits.specs.Ids.{same_id, DSD}
 use Rattle.dsdiff_core.specs.declared.fault.DsdiffFault.{DsdiffFault}
 use Rattle.dsdiff_core.specs.declared.fault.DsdiffFault.TheVariants as faults
 use Rattle.dsdiff_core.specs.Cuts.{GoesPastForm, last_size}
 use Rattle.dsdiff_core.specs.Fields.{form_size}
-use Rattle.dsdiff_core.specs.Headers.{form_of, place_after, seek, seek_for, size_at}
+use Rattle.dsdiff_core.specs.Headers.{data_cut, form_of, place_after, seek, seek_for, size_at}
 use Rattle.dsdiff_core.proofs.HeadLaws.{form_ok}
 use Rattle.dsdiff_core.proofs.KindLaws.{bool_cases}
 use Rattle.dsdiff_core.proofs.LeadLaws.{At, number_prefix, part_header, range_joins}
@@ -53,33 +52,33 @@ past_on prefix from size at held s =
       past = s.past;
     }
 
-abbrev cut_at : ℕ → Result (Option ℕ) DsdiffFault
-cut_at at = Err (faults.Chunk (DataCut at))
+abbrev cut_at : List ℕ → ℕ → Result (Option ℕ) DsdiffFault
+cut_at prefix at = Err (data_cut prefix at)
 
-same_cut : (x y : ℕ) → cut_at x ≡ cut_at y → x ≡ y
-same_cut x y e = cc
+same_cut : (prefix : List ℕ) (x y : ℕ) → cut_at prefix x ≡ cut_at prefix y → x ≡ y
+same_cut prefix x y e = cc
 
-ok_cut : (x : Option ℕ) (at : ℕ) → (let r : Result (Option ℕ) DsdiffFault = Ok x in r) ≡ cut_at at → ⊥
-ok_cut x at e = cc
+ok_cut : (x : Option ℕ) (prefix : List ℕ) (at : ℕ) → (let r : Result (Option ℕ) DsdiffFault = Ok x in r) ≡ cut_at prefix at → ⊥
+ok_cut x prefix at e = cc
 
-none_cut : (at : ℕ) → (let r : Result (Option ℕ) DsdiffFault = Err faults.NoSound in r) ≡ cut_at at → ⊥
-none_cut at e = cc
+none_cut : (prefix : List ℕ) (at : ℕ) → (let r : Result (Option ℕ) DsdiffFault = Err faults.NoSound in r) ≡ cut_at prefix at → ⊥
+none_cut prefix at e = cc
 
-seek_past : (steps from size : ℕ) (prefix : List ℕ) (at : ℕ) → seek_for steps from prefix size ≡ cut_at at → Past prefix from size at
+seek_past : (steps from size : ℕ) (prefix : List ℕ) (at : ℕ) → seek_for steps from prefix size ≡ cut_at prefix at → Past prefix from size at
 unfolding seek_for
-seek_past zero from size prefix at e = absurd (ok_cut None at e)
+seek_past zero from size prefix at e = absurd (ok_cut None prefix at e)
 seek_past (suc steps) from size prefix at e = elim (cases_lt size from) [
-  | inl past ↦ absurd (none_cut at (rw (lt-ltb size from past) at e))
+  | inl past ↦ absurd (none_cut prefix at (rw (lt-ltb size from past) at e))
   | inr begins ↦ elim (cases_lt (length prefix) (from + 12)) [
-    | inl short ↦ absurd (ok_cut None at (rw (le-ltb size from begins, lt-ltb (length prefix) (from + 12) short) at e))
+    | inl short ↦ absurd (ok_cut None prefix at (rw (le-ltb size from begins, lt-ltb (length prefix) (from + 12) short) at e))
     | inr whole ↦ elim (cases_lt size (from + size_at prefix from)) [
       | inl cut ↦
-          let same = same_cut from at (rw (le-ltb size from begins, le-ltb (length prefix) (from + 12) whole, lt-ltb size (from + size_at prefix from) cut) at e) in
+          let same = same_cut prefix from at (rw (le-ltb size from begins, le-ltb (length prefix) (from + 12) whole, lt-ltb size (from + size_at prefix from) cut) at e) in
           subst (λ (k : ℕ). Past prefix from size k) same (past_here prefix from size whole begins cut)
       | inr fits ↦ elim (bool_cases (same_id (take 4 (drop from prefix)) DSD)) [
-        | inl y ↦ absurd (ok_cut (Some from) at (rw (le-ltb size from begins, le-ltb (length prefix) (from + 12) whole, le-ltb size (from + size_at prefix from) fits, y) at e))
+        | inl y ↦ absurd (ok_cut (Some from) prefix at (rw (le-ltb size from begins, le-ltb (length prefix) (from + 12) whole, le-ltb size (from + size_at prefix from) fits, y) at e))
         | inr other ↦ elim (cases_lt (length prefix) (from + 12 + size_at prefix from)) [
-          | inl short ↦ absurd (ok_cut None at (rw (le-ltb size from begins, le-ltb (length prefix) (from + 12) whole, le-ltb size (from + size_at prefix from) fits, other, lt-ltb (length prefix) (from + 12 + size_at prefix from) short) at e))
+          | inl short ↦ absurd (ok_cut None prefix at (rw (le-ltb size from begins, le-ltb (length prefix) (from + 12) whole, le-ltb size (from + size_at prefix from) fits, other, lt-ltb (length prefix) (from + 12 + size_at prefix from) short) at e))
           | inr held ↦
               past_on prefix from size at held (seek_past steps (from + (12 + size_at prefix from + size_at prefix from % 2)) size prefix at (rw (le-ltb size from begins, le-ltb (length prefix) (from + 12) whole, le-ltb size (from + size_at prefix from) fits, other, le-ltb (length prefix) (from + 12 + size_at prefix from) held) at e))
         ]
@@ -88,7 +87,7 @@ seek_past (suc steps) from size prefix at e = elim (cases_lt size from) [
   ]
 ]
 
--- a prefix that is cut behind the head of that chunk
+-- a prefix that is cut after the head of that chunk
 cut_after : (prefix rest : List ℕ) (at : ℕ) → at + 12 ≡ length prefix → form_of (prefix ++ rest) ≡ Ok tt → Past (prefix ++ rest) 16 (form_size (prefix ++ rest)) at → GoesPastForm prefix
 cut_after prefix rest at ends form s =
     let f = form_ok (prefix ++ rest) form in
@@ -109,7 +108,7 @@ cut_after prefix rest at ends form s =
       omega (arith, ends, s.past, here, size),
     )
 
-pub past_form : (file : List ℕ) (at : ℕ) → form_of file ≡ Ok tt → seek file ≡ Err (faults.Chunk (DataCut at)) → (at + 12 ≤ length file) × GoesPastForm (take (at + 12) file)
+pub past_form : (file : List ℕ) (at : ℕ) → form_of file ≡ Ok tt → seek file ≡ Err (data_cut file at) → (at + 12 ≤ length file) × GoesPastForm (take (at + 12) file)
 unfolding seek
 past_form file at form sought =
     let s = seek_past (length file) 16 (form_size file) file at sought in

@@ -46,7 +46,7 @@ raw_ok : (o : Option (List ℕ)) (u : Unit {0}) → raw_of o ≡ Ok u → (bytes
 raw_ok None u e = absurd cc
 raw_ok (Some bytes) u e =
     let a = guard_ok _ _ _ _ e in
-    let b = under_ok (same_id (take 4 bytes) DSD) tt u faults.Compressed a.1 in (bytes, refl, id_is _ _ b.0)
+    let b = under_ok (same_id (take 4 bytes) DSD) tt u (faults.Compressed (take 4 bytes)) a.1 in (bytes, refl, id_is _ _ b.0)
 
 limits_ok : (rate n : ℕ) (u : Unit {0}) → limits_of rate n ≡ Ok u → (1000000 ≤ rate) × (rate ≤ 50000000) × (1 ≤ n) × (n ≤ 6)
 limits_ok rate n u e =

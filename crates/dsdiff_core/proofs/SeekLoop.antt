@@ -2,12 +2,11 @@
 use Rattle.std.proofs.Common.{◌≡◌, ℕ, zero, suc, ◌+◌, ◌-◌, ◌%◌, ◌≤◌, ◌<◌, true, false, cond, ltb, List, [], ◌++◌, length, take, drop, Option, Some, None, Result, Ok, Err, refl, sym, ap, subst, ◌∙◌, arith}
 use Rattle.std.proofs.lemmas.List.{append-nil, append_assoc, length-append}
 use Rattle.std.proofs.lemmas.Bool.{lt-ltb, le-ltb}
-use Rattle.chunk_core.specs.declared.fault.ChunkFault.TheVariants.{DataCut}
 use Rattle.dsd_bits.specs.Ids.{same_id, DSD}
 use Rattle.dsdiff_core.specs.declared.fault.DsdiffFault.{DsdiffFault}
 use Rattle.dsdiff_core.specs.declared.fault.DsdiffFault.TheVariants as faults
 use Rattle.dsdiff_core.specs.Fields.{form_size}
-use Rattle.dsdiff_core.specs.Headers.{seek, seek_for, size_at}
+use Rattle.dsdiff_core.specs.Headers.{data_cut, seek, seek_for, size_at}
 use Rattle.dsdiff_core.specs.Walks.{IsSought, IsWalked}
 use Rattle.dsdiff_core.proofs.LeadLaws.{number_prefix, part_header}
 
@@ -29,7 +28,7 @@ abbrev step : ℕ → ℕ → List ℕ → ℕ → Result (Option ℕ) DsdiffFau
 step steps at prefix size =
     cond (ltb size at) (Err faults.NoSound) (
     cond (ltb (length prefix) (at + 12)) (Ok None) (
-    cond (ltb size (at + size_at prefix at)) (Err (faults.Chunk (DataCut at))) (
+    cond (ltb size (at + size_at prefix at)) (Err (data_cut prefix at)) (
     cond (same_id (take 4 (drop at prefix)) DSD) (Ok (Some at)) (
     cond (ltb (length prefix) (at + 12 + size_at prefix at)) (Ok None) (
     seek_for steps (next_at prefix at) prefix size)))))
@@ -59,8 +58,8 @@ module _ (prefix : List ℕ) (at size : ℕ) (w : IsSought prefix at size) where
   pub no_head : at ≤ size → length prefix < at + 12 → seek prefix ≡ Ok None
   no_head h k = on.is ∙ rw (le-ltb size at h, lt-ltb (length prefix) (at + 12) k) refl
 
-  pub data_cut : at ≤ size → at + 12 ≤ length prefix → size < at + size_at prefix at → seek prefix ≡ Err (faults.Chunk (DataCut at))
-  data_cut h k m = on.is ∙ rw (le-ltb size at h, le-ltb (length prefix) (at + 12) k, lt-ltb size (at + size_at prefix at) m) refl
+  pub data_past : at ≤ size → at + 12 ≤ length prefix → size < at + size_at prefix at → seek prefix ≡ Err (data_cut prefix at)
+  data_past h k m = on.is ∙ rw (le-ltb size at h, le-ltb (length prefix) (at + 12) k, lt-ltb size (at + size_at prefix at) m) refl
 
   pub here : at + 12 ≤ length prefix → at + size_at prefix at ≤ size → same_id (take 4 (drop at prefix)) DSD ≡ true → seek prefix ≡ Ok (Some at)
   here k m id = on.is ∙ rw (le-ltb size at (omega arith), le-ltb (length prefix) (at + 12) k, le-ltb size (at + size_at prefix at) m, id) refl

@@ -40,7 +40,7 @@ counted : (bytes : List ℕ) (size n : ℕ) → length bytes ≡ size → (bytes
 counted bytes size n e =
     subst (λ (k : ℕ). (bytes_of_sound false (Some bytes) n >>= λ (sound : List ℕ). counts (8 * (length sound / n))) ≡ (frames_fit k n >>= λ (u : Unit {0}). counts (8 * (k / n)))) e (by (not (eqb (length bytes % n) 0)) (ltb (2 ^ 36) (8 * (length bytes / n))))
   where
-    by : (a b : Bool) → (cond a (Err faults.PartFrame) (cond b (Err faults.TooLong) (Ok bytes)) >>= λ (sound : List ℕ). counts (8 * (length sound / n))) ≡ (cond a (Err faults.PartFrame) (cond b (Err faults.TooLong) (Ok tt)) >>= λ (u : Unit {0}). counts (8 * (length bytes / n)))
+    by : (a b : Bool) → (cond a (Err (faults.PartFrame (length bytes) n)) (cond b (Err (faults.TooLong (length bytes) n)) (Ok bytes)) >>= λ (sound : List ℕ). counts (8 * (length sound / n))) ≡ (cond a (Err (faults.PartFrame (length bytes) n)) (cond b (Err (faults.TooLong (length bytes) n)) (Ok tt)) >>= λ (u : Unit {0}). counts (8 * (length bytes / n)))
     by true b = refl
     by false true = refl
     by false false = refl

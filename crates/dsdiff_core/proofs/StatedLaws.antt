@@ -70,8 +70,8 @@ form_ok prefix e =
 
 frames_ok : (size number : ℕ) (u : Unit {0}) → frames_fit size number ≡ Ok u → (size % number ≡ 0) × (8 * (size / number) ≤ 2 ^ 36)
 frames_ok size number u e =
-    let a = guard_ok (not (eqb (size % number) 0)) faults.PartFrame (cond (ltb (2 ^ 36) (8 * (size / number))) (Err faults.TooLong) (Ok tt)) u e in
-    let b = guard_ok (ltb (2 ^ 36) (8 * (size / number))) faults.TooLong (Ok tt) u a.1 in
+    let a = guard_ok (not (eqb (size % number) 0)) (faults.PartFrame size number) (cond (ltb (2 ^ 36) (8 * (size / number))) (Err (faults.TooLong size number)) (Ok tt)) u e in
+    let b = guard_ok (ltb (2 ^ 36) (8 * (size / number))) (faults.TooLong size number) (Ok tt) u a.1 in
     (eqb-true _ _ (not_false _ a.0), ltb-false _ _ b.0)
 
 same_spans : (ss rs : List Span) → (let x : Result (List Span) ChunkFault = Ok ss in x) ≡ Ok rs → ss ≡ rs

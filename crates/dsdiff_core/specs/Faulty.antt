@@ -1,7 +1,10 @@
 -- DSDIFF forms whose first chunks already show that the file holds no recording. Their fault is open while a later
 -- chunk that is the second of its kind would be reported instead of it.
-use Rattle.std.specs.Prelude.{◌≡◌, ◌≤◌, ◌<◌, ◌⊎◌, ℕ, ◌+◌, ◌%◌, Bool, true, false, ◌&&◌, ◌||◌, List, [], ◌∷◌, ◌++◌, length, map, drop, find, is_some, Result, Ok, Err}
+use Rattle.std.specs.Prelude.{◌≡◌, ◌≤◌, ◌<◌, ◌⊎◌, ℕ, ◌+◌, ◌%◌, Bool, true, false, ◌&&◌, ◌||◌, List, [], ◌∷◌, ◌++◌, length, map, drop, find, MatchOption, Option, is_some, Result, Ok, Err}
+use Rattle.chunk_core.specs.declared.layout.Head.{Head}
 use Rattle.chunk_core.specs.declared.layout.Span.{Span}
+use Rattle.chunk_core.specs.declared.numbers.Order.TheVariants.{Big}
+use Rattle.chunk_core.specs.Heads.{IsHeadAt}
 use Rattle.chunk_core.specs.Places.{span_chunk}
 use Rattle.chunk_core.specs.Reading.{spans_in}
 use Rattle.chunk_core.specs.Steps.{◌>>=◌}
@@ -100,6 +103,10 @@ IsSeen file total = (length file ≡ total) ⊎ ((12 + form_size file ≤ total)
 -- the form or the file ends before the next chunk does
 abbrev pub EndsInNext : List ℕ → FaultyStart → Type 0
 EndsInNext file s = next_place s + 12 ≤ form_end file → form_end file < next_place s + 12 + size_at file (next_place s)
+
+-- this is the header of the next chunk; without one, the form or the file ends before it does
+abbrev pub IsNextHead : List ℕ → FaultyStart → Option Head → Type 0
+IsNextHead file s next = MatchOption next (form_end file < next_place s + 12) (IsHeadAt Big file (next_place s))
 
 -- these bytes of the file begin with the next chunk: there are at least 16, or they reach the end of the file or the
 -- form

@@ -8,7 +8,7 @@ use Rattle.dsd_bits.specs.Contents.{Content}
 use Rattle.dsd_bits.specs.Ids.{FVER, FS, CHNL, CMPR, DSD, DIIN, MARK}
 use Rattle.dsd_bits.specs.Lacing.{unlaced_all}
 use Rattle.dsd_bits.specs.Layouts.{usual_layout}
-use Rattle.dsd_bits.specs.Limits.{most_bits, least_rate, greatest_rate}
+use Rattle.dsd_bits.specs.Limits.{most_bits, most_channels, least_rate, greatest_rate}
 use Rattle.dsdiff_core.specs.Fields.{form_size, form_end, ids_in}
 use Rattle.dsdiff_core.specs.Kinds.{FRM8, has_id, is_property}
 use Rattle.dsdiff_core.specs.Marks.{IsWholeMark, mark_in}
@@ -36,7 +36,7 @@ pub record StatesProperty (property : Chunk) (rate number : ℕ) : Type 0 where
   pub rate_high : rate ≤ greatest_rate
   pub number_is : number ≡ big_number 2 names.content
   pub some_channel : 1 ≤ number
-  pub six_channels : number ≤ 6
+  pub six_channels : number ≤ most_channels
   pub names_long : 2 + 4 * number ≤ length names.content
   pub raw : take 4 kinds.content ≡ DSD
 

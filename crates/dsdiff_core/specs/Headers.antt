@@ -32,6 +32,10 @@ IsAccepted file = (r : Content) × IsDsdiff file r
 abbrev pub size_at : List ℕ → ℕ → ℕ
 size_at prefix at = big_number 8 (drop (at + 4) prefix)
 
+-- the fault of the chunk whose header is at a place and whose data are cut
+abbrev pub data_cut : List ℕ → ℕ → DsdiffFault
+data_cut prefix at = ChunkFails (DataCut at (take 4 (drop at prefix)) (size_at prefix at))
+
 -- the place after chunks that follow each other from a place on, each with its pad
 abbrev pub place_after : ℕ → List Chunk → ℕ
 place_after at [] = at
@@ -88,7 +92,7 @@ seek_for zero at prefix size = Ok None
 seek_for (suc steps) at prefix size =
     if nat_lt size at then Err NoSound
     else if nat_lt (length prefix) (at + 12) then Ok None
-    else if nat_lt size (at + size_at prefix at) then Err (ChunkFails (DataCut at))
+    else if nat_lt size (at + size_at prefix at) then Err (data_cut prefix at)
     else if same_id (take 4 (drop at prefix)) DSD then Ok (Some at)
     else if nat_lt (length prefix) (at + 12 + size_at prefix at) then Ok None
     else seek_for steps (at + (12 + size_at prefix at + size_at prefix at % 2)) prefix size
@@ -102,7 +106,7 @@ unfoldable pub form_of : List ℕ → Result (Unit {0}) DsdiffFault
 form_of prefix =
     if not (same_id (take 4 prefix) FRM8) then Err NotDsdiff
     else if not (same_id (take 4 (drop 12 prefix)) DSD) then Err NotDsdiff
-    else if nat_lt (form_size prefix) 4 then Err FormCut
+    else if nat_lt (form_size prefix) 4 then Err (FormCut (form_size prefix) 0)
     else Ok tt
 
 -- the place of the header of the sound that the prefix of a file leads to; none if more bytes are needed
@@ -114,8 +118,8 @@ sound_head_place prefix = if nat_lt (length prefix) 16 then Ok None else do
 -- the size is that of whole frames of n channels, within the limit
 abbrev pub frames_fit : ℕ → ℕ → Result (Unit {0}) DsdiffFault
 frames_fit size number =
-    if not (nat_eq (size % number) 0) then Err PartFrame
-    else if nat_lt most_bits (8 * (size / number)) then Err TooLong
+    if not (nat_eq (size % number) 0) then Err (PartFrame size number)
+    else if nat_lt most_bits (8 * (size / number)) then Err (TooLong size number)
     else Ok tt
 
 -- the sound of this rate, channel number and size whose header is at a place
@@ -171,7 +175,7 @@ pub record EndsAt (prefix : List ℕ) (s : Sound) : Type 0 where
   pub found : sound_at prefix ≡ Found s
   pub start : s.start ≡ length prefix
 
--- ---- behind the sound
+-- ---- after the sound
 
 -- the number of bytes of the form after a sound of this size, of which the last may be missing
 abbrev pub left_after : List ℕ → ℕ → ℕ

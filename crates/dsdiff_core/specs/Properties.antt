@@ -6,7 +6,7 @@ use Rattle.chunk_core.specs.declared.layout.Span.{Span}
 use Rattle.chunk_core.specs.Reading.{spans_in}
 use Rattle.chunk_core.specs.Steps.{◌>>=◌}
 use Rattle.dsd_bits.specs.Ids.{same_id, FS, CHNL, CMPR, DSD}
-use Rattle.dsd_bits.specs.Limits.{least_rate, greatest_rate}
+use Rattle.dsd_bits.specs.Limits.{most_channels, least_rate, greatest_rate}
 use Rattle.dsdiff_core.specs.declared.fault.DsdiffFault.{DsdiffFault}
 use Rattle.dsdiff_core.specs.declared.fault.DsdiffFault.TheVariants.{NoProperty, NoRate, NoChannels, NoCompression, Compressed, BadRate, BadChannelNumber}
 use Rattle.dsdiff_core.specs.declared.property.SoundProperty.{SoundProperty}
@@ -43,15 +43,15 @@ raw_of None = Err NoCompression
 raw_of (Some bytes) =
     if nat_lt (length bytes) 4 then Err NoCompression
     else if same_id (take 4 bytes) DSD then Ok tt
-    else Err Compressed
+    else Err (Compressed (take 4 bytes))
 
 -- rate and channel number are within their limits
 abbrev pub limits_of : ℕ → ℕ → Result (Unit {0}) DsdiffFault
 limits_of rate number =
-    if nat_lt rate least_rate then Err BadRate
-    else if nat_lt greatest_rate rate then Err BadRate
-    else if nat_lt number 1 then Err BadChannelNumber
-    else if nat_lt 6 number then Err BadChannelNumber
+    if nat_lt rate least_rate then Err (BadRate rate)
+    else if nat_lt greatest_rate rate then Err (BadRate rate)
+    else if nat_lt number 1 then Err (BadChannelNumber number)
+    else if nat_lt most_channels number then Err (BadChannelNumber number)
     else Ok tt
 
 -- the rate and the IDs, from the data of the chunks for rate, channels and compression

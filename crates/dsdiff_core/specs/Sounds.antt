@@ -21,8 +21,8 @@ abbrev pub bytes_of_sound : Bool → Option (List ℕ) → ℕ → Result (List 
 bytes_of_sound leads None number = Err NoSound
 bytes_of_sound leads (Some bytes) number =
     if leads then Err SoundBeforeProperty
-    else if not (nat_eq (length bytes % number) 0) then Err PartFrame
-    else if nat_lt most_bits (8 * (length bytes / number)) then Err TooLong
+    else if not (nat_eq (length bytes % number) 0) then Err (PartFrame (length bytes) number)
+    else if nat_lt most_bits (8 * (length bytes / number)) then Err (TooLong (length bytes) number)
     else Ok bytes
 
 -- the number of bits of a channel of the sound among the chunks

@@ -9,7 +9,7 @@ use Rattle.dsdiff_core.specs.declared.fault.DsdiffFault.TheVariants as faults
 abbrev pub chunk_fault : ChunkFault → DsdiffFault
 chunk_fault chunk_faults.Memory = faults.Memory
 chunk_fault (chunk_faults.HeadCut at) = faults.Chunk (chunk_faults.HeadCut at)
-chunk_fault (chunk_faults.DataCut at) = faults.Chunk (chunk_faults.DataCut at)
+chunk_fault (chunk_faults.DataCut at id size) = faults.Chunk (chunk_faults.DataCut at id size)
 
 -- the result of a walk, as a step of reading a file
 abbrev pub walked : {A : Type 0} → Result A ChunkFault → Result A DsdiffFault

@@ -3,16 +3,15 @@ use Rattle.std.specs.Prelude.{◌≡◌, ◌≤◌, ◌<◌, ℕ, ◌+◌, List,
 use Rattle.dsd_bits.specs.declared.sound.Sound.{Sound}
 use Rattle.dsd_bits.specs.declared.sound.SoundAt.{SoundAt}
 use Rattle.dsd_bits.specs.declared.sound.SoundAt.TheVariants as sounds
-use Rattle.chunk_core.specs.declared.fault.ChunkFault.TheVariants.{DataCut}
 use Rattle.dsdiff_core.specs.declared.fault.DsdiffFault.{DsdiffFault}
-use Rattle.dsdiff_core.specs.declared.fault.DsdiffFault.TheVariants.{NoSound, Chunk as ChunkFails}
+use Rattle.dsdiff_core.specs.declared.fault.DsdiffFault.TheVariants.{NoSound}
 use Rattle.dsdiff_core.specs.Cuts.{GoesPastForm}
 use Rattle.dsdiff_core.specs.declared.header.Place.{Place}
 use Rattle.dsdiff_core.specs.declared.header.Place.TheVariants as places
 use Rattle.dsdiff_core.specs.declared.locating.Located.{Located}
 use Rattle.dsdiff_core.specs.declared.locating.Located.TheVariants as answers
 use Rattle.dsdiff_core.specs.Fields.{form_size}
-use Rattle.dsdiff_core.specs.Headers.{form_of, seek, seek_for, sound_at}
+use Rattle.dsdiff_core.specs.Headers.{data_cut, form_of, seek, seek_for, sound_at}
 use Rattle.dsdiff_core.specs.Located.{EndsAtHead}
 use Rattle.dsdiff_core.specs.Reading.{recording_of}
 
@@ -30,11 +29,11 @@ abbrev pub IsWalked : List ℕ → ℕ → Type 0
 IsWalked prefix at = (rest : List ℕ) → 16 ≤ length (prefix ++ rest) → IsSought (prefix ++ rest) at (form_size (prefix ++ rest))
 
 -- where a walk came to, as a place of the head of the sound
-abbrev pub sought_by : Place → Result (Option ℕ) DsdiffFault
-sought_by (places.Head at) = Ok (Some at)
-sought_by (places.More at) = Ok None
-sought_by (places.Past at) = Err (ChunkFails (DataCut at))
-sought_by places.Lost = Err NoSound
+abbrev pub sought_by : List ℕ → Place → Result (Option ℕ) DsdiffFault
+sought_by prefix (places.Head at) = Ok (Some at)
+sought_by prefix (places.More at) = Ok None
+sought_by prefix (places.Past at) = Err (data_cut prefix at)
+sought_by prefix places.Lost = Err NoSound
 
 -- where the head of a sound was found, its place has this property
 abbrev pub IfHead : Place → (ℕ → Type 0) → Type 0
@@ -42,6 +41,13 @@ IfHead (places.Head at) P = P at
 IfHead (places.More at) P = ⊤
 IfHead (places.Past at) P = ⊤
 IfHead places.Lost P = ⊤
+
+-- where the data of a chunk go past the form, its place has this property
+abbrev pub IfPast : Place → (ℕ → Type 0) → Type 0
+IfPast (places.Head at) P = ⊤
+IfPast (places.More at) P = ⊤
+IfPast (places.Past at) P = P at
+IfPast places.Lost P = ⊤
 
 -- where more bytes are wanted, the place up to which chunks were walked has this property
 abbrev pub IfWalkedTo : Place → (ℕ → Type 0) → Type 0

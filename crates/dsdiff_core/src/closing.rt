@@ -14,7 +14,8 @@ ghost use Rattle.dsdiff_core.specs.Steps.{Fails};
 
 use crate::describing::{describe, describe_around};
 use crate::fault::DsdiffFault;
-use chunk_core::{ChunkFault, Order, u64_at};
+use crate::header::data_cut;
+use chunk_core::{Order, u64_at};
 use dsd_bits::{Description, Recording};
 use std::alloc::{AllocError, Global};
 
@@ -67,7 +68,7 @@ pub fn outline(alloc: Global, prefix: &[u8], back: &[u8]) -> Result<Recording, D
 }
 
 /// The fault of a file of `total` bytes that begins with `prefix`, which ends with the head of a chunk of the form,
-/// where the data of that chunk end behind the form or the file: `FormCut` where the form does, and `Chunk` with
+/// where the data of that chunk end after the form or the file: `FormCut` where the form does, and `Chunk` with
 /// `DataCut` otherwise.
 ///
 /// It takes no memory.
@@ -88,9 +89,12 @@ fn fault_stated(prefix: &[u8], total: u64) -> DsdiffFault
 {
     let size = u64_at(Order::Big, prefix, 4);
     if total < 11 || total - 11 < size {
-        return DsdiffFault::FormCut;
+        return DsdiffFault::FormCut {
+            size,
+            missing: size - total.saturating_sub(12),
+        };
     }
-    DsdiffFault::Chunk(ChunkFault::DataCut(prefix.len() - 12))
+    data_cut(prefix, prefix.len() - 12)
 }
 
 // What is described, if it is accepted.

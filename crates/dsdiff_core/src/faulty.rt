@@ -4,7 +4,7 @@ ghost use Rattle.std.specs.Prelude.{◌≡◌, ◌≤◌, ◌<◌, ◌+◌, ◌+
 ghost use Rattle.chunk_core.specs.declared.layout.Span.{Span};
 ghost use Rattle.chunk_core.specs.Places.{LiesIn};
 ghost use Rattle.chunk_core.specs.Reading.{spans_in};
-ghost use Rattle.dsdiff_core.specs.Faulty.{AreNext, EndsInNext, HaveFault, HaveNone, IsFaulty, IsSeen, JudgesNext, TellFault, TellNone, fault_with, is_second_after, kinds_of, next_place};
+ghost use Rattle.dsdiff_core.specs.Faulty.{AreNext, EndsInNext, HaveFault, HaveNone, IsFaulty, IsNextHead, IsSeen, JudgesNext, TellFault, TellNone, fault_with, is_second_after, kinds_of, next_place};
 ghost use Rattle.dsdiff_core.specs.Fields.{form_size};
 ghost use Rattle.dsdiff_core.specs.Headers.{form_of, size_at};
 ghost use Rattle.dsdiff_core.specs.Kinds.{is_property};
@@ -48,7 +48,7 @@ pub struct FaultyStart {
 pub struct NextChunk {
     /// How many bytes of data it has.
     pub size: u64,
-    /// What is told once it is passed.
+    /// What is known once it is passed.
     pub after: FaultyStart,
 }
 
@@ -215,7 +215,7 @@ fn is_property_head(chunk: Head, bytes: &[u8]) -> bool
     chunk.id == *b"PROP" && bytes[12..12 + count].starts_with(b"SND ")
 }
 
-// What is told once one more chunk is passed, but where that ends.
+// What is known once one more chunk is passed, but where that ends.
 fn judged_after(start: FaultyStart, id: [u8; 4], is_property: bool) -> FaultyStart
     ensures { JudgesNext start id is_property result }
 {
@@ -261,13 +261,16 @@ fn either(a: bool, b: bool) -> bool
 }
 
 /// The first fault of a file whose form begins with these chunks, of which `total` bytes were read: all of it, or its
-/// form and perhaps more.
-pub fn fault_after(start: FaultyStart, total: u64) -> DsdiffFault
+/// form and perhaps more. `next` is the header of the next chunk, if it has one.
+pub fn fault_after(start: FaultyStart, next: Option<Head>, total: u64) -> DsdiffFault
     ensures { (file : List ℕ) → IsFaulty file start → IsSeen file total → EndsInNext file start
-        → recording_of file ≡ Err result }
+        → IsNextHead file start next → recording_of file ≡ Err result }
 {
     if total < 11 || total - 11 < start.form {
-        return DsdiffFault::FormCut;
+        return DsdiffFault::FormCut {
+            size: start.form,
+            missing: start.form - total.saturating_sub(12),
+        };
     }
     let end = start.end as u64;
     let in_form = start.form.saturating_sub(end.saturating_sub(12));
@@ -276,10 +279,12 @@ pub fn fault_after(start: FaultyStart, total: u64) -> DsdiffFault
     if left <= pad {
         return start.fault;
     }
-    let at = start.end.saturating_add(start.pad);
-    if left - pad < 12 {
-        DsdiffFault::Chunk(ChunkFault::HeadCut(at))
-    } else {
-        DsdiffFault::Chunk(ChunkFault::DataCut(at))
+    let place = start.end.saturating_add(start.pad);
+    match next {
+        Some(head) if left - pad >= 12 => {
+            let Head { id, size } = head;
+            DsdiffFault::Chunk(ChunkFault::DataCut { place, id, size })
+        }
+        _ => DsdiffFault::Chunk(ChunkFault::HeadCut(place)),
     }
 }

@@ -64,8 +64,17 @@ fn form_end(file: Held) -> Result<usize, DsdiffFault>
     if form.id != *b"FRM8" || id_at(file.prefix, 12) != *b"DSD " {
         return Err(DsdiffFault::NotDsdiff);
     }
-    if form.size < 4 || ((size - 11) as u64) < form.size {
-        return Err(DsdiffFault::FormCut);
+    if form.size < 4 {
+        return Err(DsdiffFault::FormCut {
+            size: form.size,
+            missing: 0,
+        });
+    }
+    if ((size - 11) as u64) < form.size {
+        return Err(DsdiffFault::FormCut {
+            size: form.size,
+            missing: form.size - (size - 12) as u64,
+        });
     }
     Ok((form.size as usize).min(size - 12) + 12)
 }
@@ -76,14 +85,14 @@ pub(crate) fn require_version(file: Held, top: &[Span]) -> Result<(), DsdiffFaul
     ensures { Gives (λ _. tt) result (known_version (map (span_chunk (held file.entry)) top.now)) }
 {
     let [first, ..] = top else {
-        return Err(DsdiffFault::NoVersion);
+        return Err(DsdiffFault::NoVersion(None));
     };
     if first.id != *b"FVER" || first.size < 4 {
-        return Err(DsdiffFault::NoVersion);
+        return Err(DsdiffFault::NoVersion(Some(first.id)));
     }
     let version = data_of(file, *first);
     if version[0] != 1 {
-        return Err(DsdiffFault::BadVersion);
+        return Err(DsdiffFault::BadVersion(id_at(version, 0)));
     }
     Ok(())
 }

@@ -2,10 +2,10 @@
 
 ghost use Rattle.std.specs.Prelude.{◌≡◌, ◌≤◌, ◌+◌, IfOk, IfSome, length};
 ghost use Rattle.dsdiff_core.specs.Fields.{form_size};
-ghost use Rattle.dsdiff_core.specs.Headers.{form_of, seek, sound_head_place, sound_with_head};
+ghost use Rattle.dsdiff_core.specs.Headers.{data_cut, form_of, seek, sound_head_place, sound_with_head};
 ghost use Rattle.dsdiff_core.specs.Held.{held};
 ghost use Rattle.dsdiff_core.specs.Steps.{Gives};
-ghost use Rattle.dsdiff_core.specs.Walks.{IfHead, IfWalkedTo, IsWalked, sought_by};
+ghost use Rattle.dsdiff_core.specs.Walks.{IfHead, IfPast, IfWalkedTo, IsWalked, sought_by};
 
 use crate::fault::DsdiffFault;
 use crate::form::leading_chunks;
@@ -42,9 +42,19 @@ pub(crate) fn find_sound(prefix: &[u8]) -> Result<Option<usize>, DsdiffFault>
     match find_head(prefix, u64_at(Order::Big, prefix, 4), 16) {
         Place::Head(at) => Ok(Some(at)),
         Place::More(_) => Ok(None),
-        Place::Past(at) => Err(DsdiffFault::Chunk(ChunkFault::DataCut(at))),
+        Place::Past(at) => Err(data_cut(prefix, at)),
         Place::Lost => Err(DsdiffFault::NoSound),
     }
+}
+
+/// The fault of the chunk whose header is at a place and whose data are cut.
+pub(crate) fn data_cut(prefix: &[u8], place: usize) -> DsdiffFault
+    requires { place + 12 ≤ length prefix.now }
+    ensures { result ≡ data_cut prefix.now place }
+{
+    let id = id_at(prefix, place);
+    let size = u64_at(Order::Big, prefix, place + 4);
+    DsdiffFault::Chunk(ChunkFault::DataCut { place, id, size })
 }
 
 /// Refuses first bytes in which no form begins.
@@ -56,19 +66,21 @@ pub(crate) fn check_form(prefix: &[u8]) -> Result<(), DsdiffFault>
     if id_at(prefix, 0) != *b"FRM8" || id_at(prefix, 12) != *b"DSD " {
         return Err(DsdiffFault::NotDsdiff);
     }
-    if u64_at(Order::Big, prefix, 4) < 4 {
-        return Err(DsdiffFault::FormCut);
+    let size = u64_at(Order::Big, prefix, 4);
+    if size < 4 {
+        return Err(DsdiffFault::FormCut { size, missing: 0 });
     }
     Ok(())
 }
 
-/// Where the head of the sound stands in a form of this size, sought from a place on up to which its chunks were
+/// Where the head of the sound is in a form of this size, sought from a place on up to which its chunks were
 /// walked.
 pub(crate) fn find_head(prefix: &[u8], size: u64, from: usize) -> Place
     requires long { 16 ≤ length prefix.now }
     requires size { size ≡ form_size prefix.now }
     requires walked { IsWalked prefix.now from }
-    ensures exact { seek prefix.now ≡ sought_by result }
+    ensures exact { seek prefix.now ≡ sought_by prefix.now result }
+    ensures past { IfPast result (λ at. at + 12 ≤ length prefix.now) }
     ensures whole { IfHead result (λ at. (16 ≤ at) × (at + 12 ≤ length prefix.now)) }
     ensures walked { IfWalkedTo result (IsWalked prefix.now) }
 {

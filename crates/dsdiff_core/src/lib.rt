@@ -15,8 +15,8 @@
 //! no file.
 //!
 //! A file can also be read and written around its sound, which is then never held: [`locate`] says where the sound
-//! starts, and goes on where it ended when more bytes came, [`outline`] gives the recording without bits by what stands
-//! before the sound and behind it, and [`write_head`] and [`write_tail`] give what the file of a recording has around
+//! starts, and goes on where it ended when more bytes came, [`outline`] gives the recording without bits by what is
+//! before the sound and after it, and [`write_head`] and [`write_tail`] give what the file of a recording has around
 //! its sound.
 //!
 //! Where the chunks before a long one tell that no file that begins so is accepted, its data need not be held:

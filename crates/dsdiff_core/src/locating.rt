@@ -1,4 +1,4 @@
-//! Where the sound of a file stands, as its prefix tells.
+//! Where the sound of a file is, as its prefix tells.
 
 ghost use Rattle.std.specs.Prelude.{◌≡◌, ◌≤◌, ◌+◌, ◌++◌, ◌%◌, List, ℕ, IfOk, length};
 ghost use Rattle.dsd_bits.specs.declared.interleaving.Interleaving.TheVariants as Interleaving;
@@ -18,25 +18,25 @@ use std::alloc::{AllocError, Global};
 /// What the first bytes of a DSDIFF 1.5 file tell of its sound.
 #[derive(Clone, Copy)]
 pub enum Located {
-    /// Where the sound stands, and what it is: that of every file that begins so and is accepted.
+    /// Where the sound is, and what it is: that of every file that begins so and is accepted.
     Found(Sound),
     /// More bytes are wanted. The chunks before this place were walked, and need not be again: none of them is the
     /// sound.
     More(usize),
     /// The fault of every file that begins so: `NotDsdiff`, or `FormCut` for a form of fewer bytes than its type has.
     Refused(DsdiffFault),
-    /// The head of the sound stands at this place, but the chunks before it do not tell what it is: no file that begins
+    /// The head of the sound is at this place, but the chunks before it do not tell what it is: no file that begins
     /// so is accepted. Which fault it has, [`crate::describe`] tells when its end is known.
     Unstated(usize),
-    /// The head of a chunk stands at this place, whose data go past the form: no file that begins so is accepted. Which
+    /// The head of a chunk is at this place, whose data go past the form: no file that begins so is accepted. Which
     /// fault it has, [`crate::cut_fault`] tells when its length is known.
     PastForm(usize),
     /// The prefix holds all chunks of the form, and none of them is a sound: no file that begins so is accepted.
     NoSound,
 }
 
-/// Where the sound of a DSDIFF 1.5 file stands, and what it is, told by the first bytes of the file alone. `from` is
-/// 16, or the place that was answered for fewer first bytes of the same file: what stands before it isn't looked at
+/// Where the sound of a DSDIFF 1.5 file is, and what it is, as the first bytes of the file alone say. `from` is
+/// 16, or the place that was answered for fewer first bytes of the same file: what is before it isn't looked at
 /// again until the sound is found.
 ///
 /// It fails for want of memory alone.
@@ -72,12 +72,12 @@ fn state_sound(alloc: Global, prefix: &[u8], at: usize) -> Result<Located, Alloc
     }
 }
 
-/// Where the sound of a DSDIFF 1.5 file stands, as [`locate`] tells it from its first byte on, without faults and
+/// Where the sound of a DSDIFF 1.5 file is, as [`locate`] tells it from its first byte on, without faults and
 /// places:
 /// - `More`: the prefix does not hold the whole head of the chunk of the sound.
 /// - `Refused`: no file that begins so is accepted by [`crate::read`].
 /// - `Found`: every file that begins so and is accepted has this sound: its rate, its channels and its count, and the
-///   bytes of the sound stand at `start`, `size` bytes.
+///   bytes of the sound are at `start`, `size` bytes.
 ///
 /// It fails for want of memory alone.
 pub fn sound_at(alloc: Global, prefix: &[u8]) -> Result<SoundAt, AllocError>

@@ -12,7 +12,7 @@ use crate::held::{Held, walk_inside};
 use crate::once::refuse_second_in_property;
 use crate::spans::{data_with, first_sound_property};
 use chunk_core::{Order, Span, id_at, u16_at, u32_at};
-use dsd_bits::{GREATEST_RATE, LEAST_RATE};
+use dsd_bits::{GREATEST_RATE, LEAST_RATE, MOST_CHANNELS};
 use std::alloc::Global;
 
 /// What the property of the sound says.
@@ -117,7 +117,7 @@ fn refuse_compression(bytes: Option<&[u8]>) -> Result<(), DsdiffFault>
     if id_at(bytes, 0) == *b"DSD " {
         Ok(())
     } else {
-        Err(DsdiffFault::Compressed)
+        Err(DsdiffFault::Compressed(id_at(bytes, 0)))
     }
 }
 
@@ -127,10 +127,10 @@ fn check_limits(rate: u32, number: u16) -> Result<(), DsdiffFault>
     ensures number { IfOk result (λ _. (1 ≤ number) × (number ≤ 6)) }
 {
     if rate < LEAST_RATE || GREATEST_RATE < rate {
-        return Err(DsdiffFault::BadRate);
+        return Err(DsdiffFault::BadRate(rate));
     }
-    if number < 1 || 6 < number {
-        return Err(DsdiffFault::BadChannelNumber);
+    if number < 1 || MOST_CHANNELS < number as usize {
+        return Err(DsdiffFault::BadChannelNumber(number));
     }
     Ok(())
 }

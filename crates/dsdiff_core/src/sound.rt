@@ -40,10 +40,16 @@ pub(crate) fn check_frames(size: u64, number: usize) -> Result<(), DsdiffFault>
     ensures { Gives (λ _. tt) result (frames_fit size number) }
 {
     if size % number as u64 != 0 {
-        return Err(DsdiffFault::PartFrame);
+        return Err(DsdiffFault::PartFrame {
+            size,
+            channels: number,
+        });
     }
     if size / number as u64 > (MOST_BITS / 8) as u64 {
-        return Err(DsdiffFault::TooLong);
+        return Err(DsdiffFault::TooLong {
+            size,
+            channels: number,
+        });
     }
     Ok(())
 }

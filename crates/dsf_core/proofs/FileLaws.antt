@@ -1,5 +1,5 @@
 -- Reading and the relation, in both directions.
-use Rattle.std.proofs.Common.{◌≡◌, ◌<◌, ℕ, ◌+◌, ◌-◌, ◌^◌, ◌≤◌, ◌⊎◌, inl, inr, Bool, true, false, cond, eqb, ltb, not, ◌&&◌, List, length, drop, Result, Ok, Err, refl, sym, ap, subst, ◌∙◌, arith, ne_eqb, eq-eqb}
+use Rattle.std.proofs.Common.{◌≡◌, ◌<◌, ℕ, ◌+◌, ◌^◌, ◌≤◌, ◌⊎◌, inl, inr, Bool, true, false, cond, eqb, not, ◌&&◌, List, length, drop, Result, Ok, Err, refl, sym, ap, subst, ◌∙◌, arith, ne_eqb, eq-eqb}
 use Rattle.std.proofs.lemmas.Bool.{ltb-false, le-ltb, lt-ltb, eqb-true, cases_eq, not_from_true}
 use Rattle.std.proofs.lemmas.Slice.Eq.{bytes_eq-Decides}
 use Rattle.chunk_core.proofs.Steps.{bind_then, guard_ok, chosen}
@@ -12,12 +12,11 @@ use Rattle.dsd_bits.specs.Contents.{Content, with_channels}
 use Rattle.dsd_bits.specs.Ids.{same_id, DSD}
 use Rattle.dsd_bits.specs.Sounds.{IsSound}
 use Rattle.dsf_core.specs.declared.fault.DsfFault.{DsfFault}
-use Rattle.dsf_core.specs.declared.fault.DsfFault.TheVariants.{DataCut}
 use Rattle.dsf_core.specs.declared.header.Header.{Header}
-use Rattle.dsf_core.specs.Fields.{FMT, DATA, first_size, stated_format_size, version, format, channel_number, rate, bits_per_sample, count, block_size, data_place, stated_data_size, needed, tag_from}
+use Rattle.dsf_core.specs.Fields.{FMT, DATA, first_size, stated_format_size, version, format, channel_number, rate, bits_per_sample, count, block_size, data_place, stated_data_size, held, needed, tag_from}
 use Rattle.dsf_core.specs.Files.{sample_bits, IsDsf}
 use Rattle.dsf_core.specs.Headers.{HoldsHead}
-use Rattle.dsf_core.specs.Reading.{channels_by, chunks_of, described_by, end_of, ends_fit, file_header, stated_header, order_of, stated_order, recording_of, stated_sound}
+use Rattle.dsf_core.specs.Reading.{channels_by, chunks_of, cut_at, described_by, end_of, ends_fit, file_header, stated_header, order_of, stated_order, recording_of, stated_sound}
 
 not_false : (b : Bool) → not b ≡ false → b ≡ true
 not_false true e = refl
@@ -137,7 +136,7 @@ pub record Leads (file : List ℕ) (s : Sound) : Type 0 where
   pub order : BitOrder
   pub heads : Heads file
   pub limits : Limits file order
-  pub fits : needed file ≤ stated_data_size file - 12
+  pub fits : needed file ≤ held file
   pub holds : HoldsHead file
   pub stated : s ≡ stated_sound file order
 
@@ -149,15 +148,14 @@ unfolding file_header
 prefix_ok file prefix e =
     bind_then (chunks_of file) _ prefix e (λ place e1 h1.
     bind_then (order_of file) _ prefix h1 (λ order e2 h2.
-    let g = guard_ok (ltb (stated_data_size file) (needed file + 12)) DataCut (Ok (stated_header file order)) prefix h2 in
+    let g = guard_ok _ _ _ _ h2 in
     let same : prefix ≡ stated_header file order = cc (g.1) in
-    let chunks = chunks_ok file place e1 in
-    let fits : needed file + 12 ≤ stated_data_size file = ltb-false _ _ g.0 in (
+    let chunks = chunks_ok file place e1 in (
       record {
         order = order;
         heads = chunks.0;
         limits = order_ok file order e2;
-        fits = omega (arith, fits);
+        fits = ltb-false _ _ g.0;
         holds = chunks.1;
         stated = ap (λ (f : Header). f.sound) same;
       },
@@ -165,16 +163,16 @@ prefix_ok file prefix e =
     )))
 
 module _ (file : List ℕ) (data_at : ℕ) (order : BitOrder) (chunks : chunks_of file ≡ Ok data_at) (fields : order_of file ≡ Ok order) where
-  pub prefix_cut : stated_data_size file < needed file + 12 → file_header file ≡ Err DataCut
+  pub prefix_cut : held file < needed file → file_header file ≡ Err (cut_at (stated_sound file order) (held file) true)
   unfolding file_header
-  prefix_cut cut = rw (chunks, fields, lt-ltb (stated_data_size file) (needed file + 12) cut) refl
+  prefix_cut cut = rw (chunks, fields, lt-ltb (held file) (needed file) cut) refl
 
-  pub prefix_is : needed file + 12 ≤ stated_data_size file → file_header file ≡ Ok (stated_header file order)
+  pub prefix_is : needed file ≤ held file → file_header file ≡ Ok (stated_header file order)
   unfolding file_header
-  prefix_is fits = rw (chunks, fields, le-ltb (stated_data_size file) (needed file + 12) fits) refl
+  prefix_is fits = rw (chunks, fields, le-ltb (held file) (needed file) fits) refl
 
-pub prefix_again : (file : List ℕ) (order : BitOrder) → Heads file → Limits file order → HoldsHead file → needed file ≤ stated_data_size file - 12 → file_header file ≡ Ok (stated_header file order)
-prefix_again file order heads limits holds fits = prefix_is file (data_place file) order (chunks_again file heads holds.head) (order_again file order limits) (omega (arith, fits, heads.third_long))
+pub prefix_again : (file : List ℕ) (order : BitOrder) → Heads file → Limits file order → HoldsHead file → needed file ≤ held file → file_header file ≡ Ok (stated_header file order)
+prefix_again file order heads limits holds fits = prefix_is file (data_place file) order (chunks_again file heads holds.head) (order_again file order limits) fits
 
 -- the sound lies in its limits
 pub is_sound : (file : List ℕ) (s : Sound) → Leads file s → IsSound s

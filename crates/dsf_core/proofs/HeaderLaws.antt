@@ -1,5 +1,5 @@
 -- The prefix of a file, and the files that begin with it.
-use Rattle.std.proofs.Common.{◌≡◌, ◌<◌, ℕ, ◌+◌, ◌^◌, ◌&&◌, ◌≤◌, ◌⊎◌, inl, inr, Bool, true, false, cond, ltb, eqb, not, List, ◌++◌, length, take, drop, Result, Ok, Err, refl, sym, ap, subst, ◌∙◌, arith}
+use Rattle.std.proofs.Common.{◌≡◌, ◌<◌, ℕ, ◌+◌, ◌-◌, ◌^◌, ◌&&◌, ◌≤◌, ◌⊎◌, inl, inr, Bool, true, false, cond, ltb, eqb, not, List, ◌++◌, length, take, drop, Result, Ok, Err, refl, sym, ap, subst, ◌∙◌, arith}
 use Rattle.std.proofs.lemmas.Bool.{cases_lt, lt-ltb, le-ltb}
 use Rattle.std.proofs.lemmas.List.{drop-append-le, take-append-drop, take-append-le, length-append, length-drop, length-take-le}
 use Rattle.std.proofs.lemmas.List.FromFn.{length-map-range_with_len}
@@ -22,14 +22,14 @@ use Rattle.dsd_bits.proofs.BlockLemmas.{unblocked_count}
 use Rattle.dsd_bits.proofs.SoundLemmas.{unblocked_all-take}
 use Rattle.dsf_core.specs.declared.fault.DsfFault.{DsfFault}
 use Rattle.dsf_core.specs.declared.fault.DsfFault.TheVariants as faults
-use Rattle.dsf_core.specs.declared.fault.DsfFault.TheVariants.{DataCut, HeadCut}
+use Rattle.dsf_core.specs.declared.fault.DsfFault.TheVariants.{HeadCut}
 use Rattle.dsf_core.specs.declared.header.Header.{Header}
 use Rattle.dsf_core.specs.declared.locating.Located.{Located}
 use Rattle.dsf_core.specs.declared.locating.Located.TheVariants as answers
-use Rattle.dsf_core.specs.Fields.{u64_at, FMT, DATA, first_size, pointer, stated_format_size, version, format, channel_number, rate, bits_per_sample, count, block_size, data_place, stated_data_size, sound_place, needed}
+use Rattle.dsf_core.specs.Fields.{u64_at, FMT, DATA, first_size, pointer, stated_format_size, version, format, channel_number, rate, bits_per_sample, count, block_size, data_place, stated_data_size, held, sound_place, needed}
 use Rattle.dsf_core.specs.Files.{IsDsf}
 use Rattle.dsf_core.specs.Headers.{HoldsHead, IsAccepted, IsLocated, as_located, is_cut, located, sound_at, without_fault}
-use Rattle.dsf_core.specs.Reading.{chunks_of, file_header, stated_header, order_of, stated_order, recording_of, stated_sound}
+use Rattle.dsf_core.specs.Reading.{chunks_of, cut_at, file_header, stated_header, order_of, stated_order, recording_of, stated_sound}
 use Rattle.dsf_core.proofs.FileLaws.{Leads, done, dsf_is_read, is_sound, prefix_done, prefix_ok, prefix_read}
 
 -- ---- fields in the prefix of a file
@@ -91,13 +91,17 @@ module _ (prefix rest : List ℕ) (h : HoldsHead prefix) where
   -- and so is what it states
   pub prefix_same : file_header (prefix ++ rest) ≡ file_header prefix
   unfolding file_header
-  prefix_same = λ j. chunks_same j >>= (λ place. order_same j >>= (λ order. cond (ltb (data_is j) (needed_is j + 12)) (Err DataCut) (prefix_done (stated_same order j))))
+  prefix_same = λ j. chunks_same j >>= (λ place. order_same j >>= (λ order. cond (ltb (data_is j - 12) (needed_is j)) (Err (cut_at (stated_same order j).sound (data_is j - 12) true)) (prefix_done (stated_same order j))))
 
 -- ---- a prefix without its whole head
 
+-- a header is cut short
+abbrev IsCut : {A : Type 0} → Result A DsfFault → Type 0
+IsCut x = (size : ℕ) × (x ≡ Err (HeadCut size))
+
 -- the first is a cut head, or both are the same fault
 abbrev CutOr : {A : Type 0} → Result A DsfFault → Result A DsfFault → Type 0
-CutOr x y = (x ≡ Err HeadCut) ⊎ ((e : DsfFault) × (x ≡ Err e) × (y ≡ Err e))
+CutOr x y = IsCut x ⊎ ((e : DsfFault) × (x ≡ Err e) × (y ≡ Err e))
 
 -- after the same test for a fault
 after : {A : Type 0} (b : Bool) (d : DsfFault) (x y : Result A DsfFault) → CutOr x y → CutOr (cond b (Err d) x) (cond b (Err d) y)
@@ -113,22 +117,22 @@ module _ (prefix rest : List ℕ) (some : 4 ≤ length prefix) where
   chunks_cut none = elim (cases_lt (length prefix) 80) [
     | inl short ↦
         rw (le-ltb (length prefix) 4 some, le-ltb (length (prefix ++ rest)) 4 (omega (arith, size, some)), id_prefix 0 prefix rest (omega arith), lt-ltb (length prefix) 80 short)
-        (after (not (same_id (id_at prefix 0) DSD)) faults.NotDsf _ _ (inl refl))
+        (after (not (same_id (id_at prefix 0) DSD)) faults.NotDsf _ _ (inl (_, refl)))
     | inr fields ↦ elim (cases_lt (length prefix) (sound_place prefix)) [
       | inl short ↦
           let first = number_prefix 8 4 prefix rest (omega arith) in
           let second = number_prefix 8 32 prefix rest (omega arith) in
           rw (le-ltb (length prefix) 4 some, le-ltb (length (prefix ++ rest)) 4 (omega (arith, size, some)), id_prefix 0 prefix rest (omega arith), le-ltb (length prefix) 80 fields, le-ltb (length (prefix ++ rest)) 80 (omega (arith, size, fields)), first, id_prefix 28 prefix rest (omega arith), second, lt-ltb (length prefix) (data_place prefix + 12) short)
           (after (not (same_id (id_at prefix 0) DSD)) faults.NotDsf _ _
-          (after (not (eqb (first_size prefix) 28)) faults.BadFormat _ _
-          (after (not (same_id (id_at prefix 28) FMT)) faults.BadFormat _ _
-          (after (ltb (stated_format_size prefix) 52) faults.BadFormat _ _ (inl refl)))))
+          (after (not (eqb (first_size prefix) 28)) _ _ _
+          (after (not (same_id (id_at prefix 28) FMT)) _ _ _
+          (after (ltb (stated_format_size prefix) 52) _ _ _ (inl (_, refl))))))
       | inr head ↦ absurd (none (record { fields = fields; head = head }))
     ]
   ]
 
   -- what a whole prefix states is stated by every file that begins with it
-  pub prefix_agrees : (file_header prefix ≡ Err HeadCut) ⊎ (file_header (prefix ++ rest) ≡ file_header prefix)
+  pub prefix_agrees : IsCut (file_header prefix) ⊎ (file_header (prefix ++ rest) ≡ file_header prefix)
   unfolding file_header
   prefix_agrees = elim (cases_lt (length prefix) 80) [
     | inl short ↦ by (chunks_cut (λ h. omega (arith, h.fields, short)))
@@ -138,8 +142,8 @@ module _ (prefix rest : List ℕ) (some : 4 ≤ length prefix) where
     ]
   ]
     where
-      by : CutOr (chunks_of prefix) (chunks_of (prefix ++ rest)) → (file_header prefix ≡ Err HeadCut) ⊎ (file_header (prefix ++ rest) ≡ file_header prefix)
-      by (inl cut) = inl (rw cut refl)
+      by : CutOr (chunks_of prefix) (chunks_of (prefix ++ rest)) → IsCut (file_header prefix) ⊎ (file_header (prefix ++ rest) ≡ file_header prefix)
+      by (inl cut) = inl (cut.0, rw cut.1 refl)
       by (inr (e, one, other)) = inr (rw (one, other) refl)
 
 -- ---- a cut head is one
@@ -165,24 +169,24 @@ chunks_whole prefix holds =
     rw (le-ltb (length prefix) 80 holds.fields, le-ltb (length prefix) (data_place prefix + 12) holds.head) (
     other (ltb (length prefix) 4) faults.NotDsf _ refl
     (other (not (same_id (id_at prefix 0) DSD)) faults.NotDsf _ refl
-    (other (not (eqb (first_size prefix) 28)) faults.BadFormat _ refl
-    (other (not (same_id (id_at prefix 28) FMT)) faults.BadFormat _ refl
-    (other (ltb (stated_format_size prefix) 52) faults.BadFormat _ refl
-    (other (not (same_id (id_at prefix (data_place prefix)) DATA)) faults.BadFormat _ refl
-    (other (ltb (stated_data_size prefix) 12) faults.BadFormat _ refl
-    (other (not (eqb (format prefix) 0)) faults.BadFormat _ refl (ok_whole (data_place prefix))))))))))
+    (other (not (eqb (first_size prefix) 28)) _ _ refl
+    (other (not (same_id (id_at prefix 28) FMT)) _ _ refl
+    (other (ltb (stated_format_size prefix) 52) _ _ refl
+    (other (not (same_id (id_at prefix (data_place prefix)) DATA)) _ _ refl
+    (other (ltb (stated_data_size prefix) 12) _ _ refl
+    (other (not (eqb (format prefix) 0)) _ _ refl (ok_whole (data_place prefix))))))))))
 
 order_whole : (prefix : List ℕ) → Whole (order_of prefix)
 unfolding stated_order
 order_whole prefix =
-    other (not (eqb (version prefix) 1)) faults.BadVersion _ refl
-    (other (ltb (channel_number prefix) 1) faults.BadChannelNumber _ refl
-    (other (ltb 6 (channel_number prefix)) faults.BadChannelNumber _ refl
-    (other (ltb (rate prefix) 1000000) faults.BadRate _ refl
-    (other (ltb 50000000 (rate prefix)) faults.BadRate _ refl
-    (other (not (eqb (bits_per_sample prefix) 1) && not (eqb (bits_per_sample prefix) 8)) faults.BadBits _ refl
-    (other (not (eqb (block_size prefix) 4096)) faults.BadBlock _ refl
-    (other (ltb (2 ^ 36) (count prefix)) faults.TooLong _ refl (ok_whole (cond (eqb (bits_per_sample prefix) 1) LeastFirst MostFirst)))))))))
+    other (not (eqb (version prefix) 1)) _ _ refl
+    (other (ltb (channel_number prefix) 1) _ _ refl
+    (other (ltb 6 (channel_number prefix)) _ _ refl
+    (other (ltb (rate prefix) 1000000) _ _ refl
+    (other (ltb 50000000 (rate prefix)) _ _ refl
+    (other (not (eqb (bits_per_sample prefix) 1) && not (eqb (bits_per_sample prefix) 8)) _ _ refl
+    (other (not (eqb (block_size prefix) 4096)) _ _ refl
+    (other (ltb (2 ^ 36) (count prefix)) _ _ refl (ok_whole (cond (eqb (bits_per_sample prefix) 1) LeastFirst MostFirst)))))))))
 
 -- more bytes are needed only if the head is not whole
 prefix_whole : (prefix : List ℕ) → HoldsHead prefix → Whole (file_header prefix)
@@ -190,7 +194,7 @@ unfolding file_header
 prefix_whole prefix holds =
     bind_whole (chunks_of prefix) _ (chunks_whole prefix holds) (λ place.
     bind_whole (order_of prefix) _ (order_whole prefix) (λ order.
-    other (ltb (stated_data_size prefix) (needed prefix + 12)) DataCut _ refl (ok_whole (stated_header prefix order))))
+    other (ltb (held prefix) (needed prefix)) _ _ refl (ok_whole (stated_header prefix order))))
 
 -- ---- what the first bytes state
 
@@ -239,7 +243,7 @@ is_located prefix = elim (cases_lt (length prefix) 4) [
     refused : (d : DsfFault) → 4 ≤ length prefix → file_header prefix ≡ Err d → (cut : Bool) → cut ≡ is_cut d → IsLocated prefix (cond cut (answers.More d) (answers.Refused d))
     refused d long e true is = (λ holds. (let no = (prefix_whole prefix holds).no d e in absurd cc), rw e refl)
     refused d long e false is = λ rest. elim (prefix_agrees prefix rest long) [
-      | inl cut ↦ (let same : d ≡ HeadCut = cc in let yes : false ≡ true = is ∙ ap is_cut same in absurd cc)
+      | inl cut ↦ (let same : d ≡ HeadCut cut.0 = cc (cut.1, e) in let yes : false ≡ true = is ∙ ap is_cut same in absurd cc)
       | inr same ↦ rw (same, e) refl
     ]
 

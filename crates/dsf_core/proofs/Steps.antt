@@ -7,14 +7,4 @@ use Rattle.dsf_core.specs.Steps.{Fails}
 -- a reading fails by the fault that it has
 pub fails : {A : Type 0} (e : DsfFault) (r : Result A DsfFault) → r ≡ Err e → Fails e r
 fails faults.Memory r h = tt
-fails faults.NotDsf r h = h
-fails faults.HeadCut r h = h
-fails faults.BadFormat r h = h
-fails faults.BadVersion r h = h
-fails faults.BadChannelNumber r h = h
-fails faults.BadRate r h = h
-fails faults.BadBits r h = h
-fails faults.BadBlock r h = h
-fails faults.TooLong r h = h
-fails faults.DataCut r h = h
-fails faults.BadPointer r h = h
+fails e r h = h

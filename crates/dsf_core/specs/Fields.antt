@@ -1,6 +1,6 @@
 -- The fields of a DSF 1.01 file at their offsets. Numbers have the lowest byte first, and the size of a chunk counts
 -- the 12 bytes of its header.
-use Rattle.std.specs.Prelude.{ℕ, ◌+◌, List, [], ◌∷◌, ◌++◌, codes, map, drop, nat_eq, if◌then◌else◌}
+use Rattle.std.specs.Prelude.{ℕ, ◌+◌, ◌-◌, List, [], ◌∷◌, ◌++◌, codes, map, drop, nat_eq, if◌then◌else◌}
 use Rattle.std.specs.List.{range_with_len}
 use Rattle.chunk_core.specs.declared.numbers.Order.TheVariants.{Little}
 use Rattle.chunk_core.specs.Numbers.{number_at}
@@ -80,6 +80,10 @@ data_place file = 28 + stated_format_size file
 -- its size
 abbrev pub stated_data_size : List ℕ → ℕ
 stated_data_size file = u64_at file (data_place file + 4)
+
+-- the number of sound bytes that it holds
+abbrev pub held : List ℕ → ℕ
+held file = stated_data_size file - 12
 
 -- the place of the first sound byte
 abbrev pub sound_place : List ℕ → ℕ

@@ -6,7 +6,7 @@ use Rattle.dsd_bits.specs.declared.blocks.BitOrder.TheVariants.{LeastFirst, Most
 use Rattle.dsd_bits.specs.Blocks.{unblocked_all}
 use Rattle.dsd_bits.specs.Contents.{Content}
 use Rattle.dsd_bits.specs.Ids.{DSD}
-use Rattle.dsd_bits.specs.Limits.{most_bits, least_rate, greatest_rate, block_bytes}
+use Rattle.dsd_bits.specs.Limits.{most_bits, most_channels, least_rate, greatest_rate, block_bytes}
 use Rattle.dsf_core.specs.Fields.{FMT, DATA, first_size, pointer, stated_format_size, version, format, channel_type, channel_number, rate, bits_per_sample, count, block_size, data_place, stated_data_size, sound_place, needed, sound_end, stated_layout, dsf_ids, stated_tag}
 
 -- the bits per sample that mean an order (this project's profile)
@@ -27,7 +27,7 @@ pub record IsDsf (file : List ℕ) (r : Content) (order : BitOrder) : Type 0 whe
   pub version_is : version file ≡ 1
   pub format_is : format file ≡ 0
   pub some_channel : 1 ≤ channel_number file
-  pub six_channels : channel_number file ≤ 6
+  pub six_channels : channel_number file ≤ most_channels
   pub rate_low : least_rate ≤ rate file
   pub rate_high : rate file ≤ greatest_rate
   pub order_is : bits_per_sample file ≡ sample_bits order

@@ -10,7 +10,7 @@ use Rattle.dsd_bits.specs.declared.sound.SoundAt.TheVariants.{More, Refused, Fou
 use Rattle.dsd_bits.specs.Contents.{Content, Described, with_channels}
 use Rattle.dsd_bits.specs.Ids.{DSD}
 use Rattle.dsd_bits.specs.Sounds.{sound_bytes, sound_channels}
-use Rattle.dsd_bits.specs.Limits.{most_bits, least_rate, greatest_rate, block_bytes}
+use Rattle.dsd_bits.specs.Limits.{most_bits, most_channels, least_rate, greatest_rate, block_bytes}
 use Rattle.dsf_core.specs.declared.fault.DsfFault.{DsfFault}
 use Rattle.dsf_core.specs.declared.fault.DsfFault.TheVariants.{HeadCut, NotDsf}
 use Rattle.dsf_core.specs.Fields.{FMT, DATA, first_size, stated_format_size, version, format, channel_number, rate, bits_per_sample, count, block_size, data_place, stated_data_size, sound_place, needed, stated_tag}
@@ -45,7 +45,7 @@ pub record StatesSound (prefix : List ℕ) (s : Sound) : Type 0 where
   pub version_is : version prefix ≡ 1
   pub format_is : format prefix ≡ 0
   pub some_channel : 1 ≤ channel_number prefix
-  pub six_channels : channel_number prefix ≤ 6
+  pub six_channels : channel_number prefix ≤ most_channels
   pub rate_low : least_rate ≤ rate prefix
   pub rate_high : rate prefix ≤ greatest_rate
   pub order : BitOrder
@@ -60,7 +60,7 @@ pub record StatesSound (prefix : List ℕ) (s : Sound) : Type 0 where
 
 -- the fault says that a header is cut short
 abbrev pub is_cut : DsfFault → Bool
-is_cut HeadCut = true
+is_cut (HeadCut size) = true
 is_cut _ = false
 
 -- the sound if it was found; more bytes are needed if a header is cut short

@@ -4,11 +4,12 @@ ghost use Rattle.std.specs.Prelude.{◌≡◌, ◌≤◌, ◌+◌, length, IfOk}
 ghost use Rattle.dsf_core.specs.Fields.{data_place};
 ghost use Rattle.dsf_core.specs.Reading.{chunks_of};
 
-use crate::fault::DsfFault;
+use crate::fault::{DsfFault, Misformat};
 use crate::fields::{
     FIRST_SIZE, FIRST_SIZE_AT, FORMAT_AT, FORMAT_SIZE, FORMAT_SIZE_AT, HEAD_SIZE, RAW_DSD, has_id,
     long_at, short_at,
 };
+use chunk_core::id_at;
 
 /// The place of the data chunk.
 #[tactic(auto, unfolding(crate::specs::Reading::chunks_of))]
@@ -24,30 +25,29 @@ pub(crate) fn find_data(file: &[u8]) -> Result<usize, DsfFault>
         return Err(DsfFault::NotDsf);
     }
     if file.len() < FIRST_SIZE + FORMAT_SIZE {
-        return Err(DsfFault::HeadCut);
+        return Err(DsfFault::HeadCut(file.len() as u64));
     }
-    if long_at(file, FIRST_SIZE_AT) != FIRST_SIZE as u64 {
-        return Err(DsfFault::BadFormat);
-    }
-    if !has_id(file, FIRST_SIZE, *b"fmt ") {
-        return Err(DsfFault::BadFormat);
+    let first = long_at(file, FIRST_SIZE_AT);
+    if first != FIRST_SIZE as u64 {
+        return Err(DsfFault::BadFormat(Misformat::First(first)));
     }
     let size = long_at(file, FORMAT_SIZE_AT);
-    if size < FORMAT_SIZE as u64 {
-        return Err(DsfFault::BadFormat);
+    if !has_id(file, FIRST_SIZE, *b"fmt ") || size < FORMAT_SIZE as u64 {
+        let id = id_at(file, FIRST_SIZE);
+        return Err(DsfFault::BadFormat(Misformat::Format(id, size)));
     }
     if ((file.len() - (FIRST_SIZE + HEAD_SIZE)) as u64) < size {
-        return Err(DsfFault::HeadCut);
+        return Err(DsfFault::HeadCut(file.len() as u64));
     }
     let data_at = FIRST_SIZE + size as usize;
-    if !has_id(file, data_at, *b"data") {
-        return Err(DsfFault::BadFormat);
+    let data_size = long_at(file, data_at + 4);
+    if !has_id(file, data_at, *b"data") || data_size < HEAD_SIZE as u64 {
+        let id = id_at(file, data_at);
+        return Err(DsfFault::BadFormat(Misformat::Data(id, data_size)));
     }
-    if long_at(file, data_at + 4) < HEAD_SIZE as u64 {
-        return Err(DsfFault::BadFormat);
-    }
-    if short_at(file, FORMAT_AT) != RAW_DSD {
-        return Err(DsfFault::BadFormat);
+    let kind = short_at(file, FORMAT_AT);
+    if kind != RAW_DSD {
+        return Err(DsfFault::BadFormat(Misformat::Kind(kind)));
     }
     Ok(data_at)
 }

@@ -8,7 +8,8 @@ ghost use Rattle.dsf_core.specs.Reading.{stated_order};
 use crate::fault::DsfFault;
 use crate::fields::VERSION;
 use dsd_bits::{
-    BLOCK_BYTES, BitOrder, GREATEST_RATE, LEAST_RATE, MOST_BITS, layout_channels, usual_layout,
+    BLOCK_BYTES, BitOrder, GREATEST_RATE, LEAST_RATE, MOST_BITS, MOST_CHANNELS, layout_channels,
+    usual_layout,
 };
 use std::alloc::{AllocError, Global};
 
@@ -27,22 +28,22 @@ pub(crate) fn stated_order(
     ensures short { IfOk result (λ _. count ≤ most_bits) }
 {
     if version != VERSION {
-        return Err(DsfFault::BadVersion);
+        return Err(DsfFault::BadVersion(version));
     }
-    if number < 1 || 6 < number {
-        return Err(DsfFault::BadChannelNumber);
+    if number < 1 || MOST_CHANNELS < number as usize {
+        return Err(DsfFault::BadChannelNumber(number));
     }
     if rate < LEAST_RATE || GREATEST_RATE < rate {
-        return Err(DsfFault::BadRate);
+        return Err(DsfFault::BadRate(rate));
     }
     if bits != 1 && bits != 8 {
-        return Err(DsfFault::BadBits);
+        return Err(DsfFault::BadBits(bits));
     }
     if block as usize != BLOCK_BYTES {
-        return Err(DsfFault::BadBlock);
+        return Err(DsfFault::BadBlock(block));
     }
     if count > MOST_BITS as u64 {
-        return Err(DsfFault::TooLong);
+        return Err(DsfFault::TooLong(count));
     }
     if bits == 1 {
         return Ok(BitOrder::LeastFirst);

@@ -58,7 +58,8 @@ mod writing;
 mod writing_laws;
 
 pub use describing::{closes, describe, tag_at};
-pub use fault::DsfFault;
+pub use fault::{CutSound, DsfFault, Misformat};
+pub use header::{cut_fault, pointer_fault};
 pub use laws::{
     accepted_files_have_a_head, accepted_files_state_their_sound, bytes_of_sound_do_not_matter,
     header_ends_at_sound, one_recording, what_is_stated_is_found,

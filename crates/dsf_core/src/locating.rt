@@ -56,7 +56,7 @@ fn is_cut(fault: DsfFault) -> bool
     ensures { result ≡ is_cut fault }
 {
     match fault {
-        DsfFault::HeadCut => true,
+        DsfFault::HeadCut(_) => true,
         _ => false,
     }
 }

@@ -1,25 +1,15 @@
-//! Looks at files again after a fault, a few bytes at a time.
+//! Looks at files again after a fault, and says what the system says of them.
 
-use crate::line::{Line, STANDARD};
-use chunk_core::{Order, head};
-use std::alloc::Global;
-use std::io::{Error, ErrorKind, Read, Seek, SeekFrom};
+use crate::line::Line;
+use crate::line::Part::Text;
+use chunk_core::MOST_READS;
+use folder_core::{STANDARD, read_whole};
+use std::fs;
+use std::io::{Error, ErrorKind, Read};
 use std::rt::Files;
-use std::{fs, io};
 
 // The most bytes of a text that are read.
 const MOST_TEXT: u64 = 1 << 20;
-
-/// How many bytes the head of a chunk has.
-pub(crate) const HEAD: u64 = 12;
-
-/// A file that is looked at.
-#[derive(Drop)]
-pub(crate) struct Look<F> {
-    file: F,
-    /// How many bytes it has.
-    pub(crate) length: u64,
-}
 
 /// Why a file can't be looked at.
 #[derive(Clone, Copy)]
@@ -32,117 +22,66 @@ pub(crate) enum Trouble {
     Refused(Error),
 }
 
-/// The head of a chunk: its ID, its place in the file, and how many bytes its data have.
-#[derive(Clone, Copy)]
-pub(crate) struct Chunk {
-    pub(crate) id: [u8; 4],
-    pub(crate) place: u64,
-    pub(crate) size: u64,
-}
-
-impl Chunk {
-    /// Where its data begin.
-    pub(crate) fn data(&self) -> u64 {
-        self.place.saturating_add(HEAD)
-    }
-
-    /// The place after its data.
-    pub(crate) fn end(&self) -> u64 {
-        self.data().saturating_add(self.size)
+impl From<Error> for Trouble {
+    fn from(error: Error) -> Trouble {
+        Trouble::Refused(error)
     }
 }
 
-/// Opens a file, but nothing that isn't one: opening a pipe may take forever.
-pub(crate) fn reopen<R: Files>(rt: &R, name: &str) -> Result<Look<R::File>, Trouble> {
-    if name == STANDARD {
-        return Err(Trouble::Stream);
-    }
-    match fs::metadata(rt, name) {
-        Err(error) => Err(Trouble::Refused(error)),
-        Ok(found) if found.is_dir() => Err(Trouble::Folder),
-        Ok(found) if !found.is_file() => Err(Trouble::Stream),
-        Ok(found) => open(rt, name, found.len()),
-    }
-}
-
-fn open<R: Files>(rt: &R, name: &str, length: u64) -> Result<Look<R::File>, Trouble> {
-    match fs::open(rt, name) {
-        Err(error) => Err(Trouble::Refused(error)),
-        Ok(file) => Ok(Look { file, length }),
-    }
-}
-
-impl<F: Read + Seek + Drop> Look<F> {
-    /// Reads bytes from a place on: how many there are.
-    pub(crate) fn read_at(&mut self, place: u64, buffer: &mut [u8]) -> io::Result<usize> {
-        self.file.seek(SeekFrom::Start(place))?;
-        let mut count = 0;
-        for _ in 0..buffer.len() {
-            if count >= buffer.len() {
-                break;
-            }
-            let got = self.file.read(&mut buffer[count..])?;
-            if got == 0 {
-                break;
-            }
-            count += got;
+impl<R: Files> Line<'_, R> {
+    /// Opens a file, but nothing that isn't one: opening a pipe may take forever. Returns it and how many bytes it has.
+    pub(crate) fn reopen(&self, name: &str) -> Result<(R::File, u64), Trouble> {
+        if name == STANDARD {
+            return Err(Trouble::Stream);
         }
-        Ok(count)
+        let found = fs::metadata(self.rt, name)?;
+        if found.is_dir() {
+            return Err(Trouble::Folder);
+        }
+        if !found.is_file() {
+            return Err(Trouble::Stream);
+        }
+        Ok((fs::open(self.rt, name)?, found.len()))
     }
 
-    /// So many bytes from a place on, if the file has them.
-    pub(crate) fn bytes_at<const N: usize>(&mut self, place: u64) -> Option<[u8; N]> {
-        let mut bytes = [0u8; N];
-        match self.read_at(place, &mut bytes) {
-            Ok(count) if count == N => Some(bytes),
+    /// The bytes of a text's file.
+    pub(crate) fn text_of(&self, name: &str) -> Option<Vec<u8>> {
+        match self.reopen(name) {
+            Ok((file, 0..=MOST_TEXT)) => read_whole(self.alloc, file, MOST_READS).ok(),
             _ => None,
         }
     }
 
-    /// The head of the chunk at a place.
-    pub(crate) fn chunk_at(&mut self, place: u64, order: Order) -> Option<Chunk> {
-        let bytes: [u8; 12] = self.bytes_at(place)?;
-        let head = head(order, &bytes, 0)?;
-        let (id, size) = (head.id, head.size);
-        Some(Chunk { id, place, size })
-    }
-
-    // All its bytes, if they are few enough for a text.
-    fn text(&mut self, alloc: Global) -> Option<Vec<u8>> {
-        if self.length > MOST_TEXT {
-            return None;
+    /// What is wrong with a file that is to be read.
+    pub(crate) fn trouble_of(&self, name: &str) -> Option<Trouble> {
+        match self.reopen(name) {
+            Ok((mut file, _)) => Some(Trouble::Refused(file.read(&mut [0]).err()?)),
+            Err(Trouble::Stream) => None,
+            Err(trouble) => Some(trouble),
         }
-        let length = usize::try_from(self.length).ok()?;
-        let mut bytes = vec![in alloc; 0u8; length].ok()?;
-        let count = self.read_at(0, bytes.as_mut_slice()).ok()?;
-        bytes.truncate(count);
-        Some(bytes)
     }
-}
 
-/// The bytes of a text's file.
-pub(crate) fn text_of<R: Files>(rt: &R, alloc: Global, name: &str) -> Option<Vec<u8>> {
-    match reopen(rt, name) {
-        Ok(mut look) => look.text(alloc),
-        Err(_) => None,
+    /// Adds why the file of a name can't be looked at.
+    pub(crate) fn explain_trouble(&mut self, name: &str, trouble: Trouble) {
+        match trouble {
+            Trouble::Folder => self.push("it is a folder"),
+            Trouble::Stream => self.push(STREAM),
+            Trouble::Refused(error) => self.explain_error(name, &error),
+        }
     }
-}
 
-/// Adds why a file can't be looked at.
-pub(crate) fn explain_trouble(line: &mut Line, trouble: Trouble) {
-    match trouble {
-        Trouble::Folder => line.push("it is a folder"),
-        Trouble::Stream => line.push(STREAM),
-        Trouble::Refused(error) => explain_error(line, &error),
-    }
-}
-
-/// Adds what the system said.
-pub(crate) fn explain_error(line: &mut Line, error: &Error) {
-    match (error.raw_os_error(), error.kind()) {
-        (None, ErrorKind::WriteZero) => line.push("the system took no bytes"),
-        (None, ErrorKind::ResourceBusy) => line.push(BUSY),
-        _ => line.say_error(error),
+    /// Adds what the system said of a file of this name, and whether its folder is missing.
+    pub(crate) fn explain_error(&mut self, name: &str, error: &Error) {
+        match (error.raw_os_error(), error.kind()) {
+            (None, ErrorKind::WriteZero) => self.push("the system took no bytes"),
+            (None, ErrorKind::ResourceBusy) => self.push(BUSY),
+            _ => self.say_error(error),
+        }
+        let (folder, _) = name.rsplit_once('/').unwrap_or(("", name));
+        let is_missing = !folder.is_empty() && fs::metadata(self.rt, folder).is_err();
+        if is_missing && error.kind() == ErrorKind::NotFound {
+            self.say("; there is no folder {0}", &[Text(folder)]);
+        }
     }
 }
 

@@ -1,38 +1,30 @@
-//! What explains a fault, after it: [`explain`] looks again at the files of a command and at its words, and says in one
-//! line which file, key or word it was, what was seen or what the system said, and what would fit. Of a file that was
-//! played it says what was written. [`explain_sum`] does the same for a file of `sum`.
+//! What explains a fault, after it: the [`Explainer`] says in one line which file, key or word it was, what was seen or
+//! what the system said, and what would fit. Of a file that was played it says what was written. It does the same for a
+//! file of `sum`.
 //!
 //! What it promises: it is safe. It has no contracts: that a line isn't empty is what its type says, `Explanation` of
-//! `words_core`. It writes nothing, opens no pipe, and holds little: a few bytes of a file, and a project text or a
-//! list. What its lines say is tested (`tests/try_commands`, `tests/try_explained`).
+//! `ended_core`. It writes nothing, opens no pipe, and holds little: what surrounds the sound of a file, and a project
+//! text or a list. What its lines say is tested (`tests/try_commands`, `tests/try_explained`).
+//!
+//! The faults tell what was seen. Files are read again by the crates that read them first, and looked at only for what
+//! no fault tells: the system's words, the line of a key, and what a file is that is no recording.
 //!
 //! ```text
-//! explain(rt, &words, Ended::ReadFailed)    // zeros.dff (take 1 of edit.toml): No such file or directory; ..
+//! Explainer.explain(rt, task, Ended::ReadFailed)    // zeros.dff (take 1 of edit.toml): No such file or directory; ..
 //! ```
 #![tactic(auto)]
 
-mod cuts;
-mod dsdiff;
-mod dsf;
+mod cutting;
 mod explaining;
+mod faults;
 mod files;
-mod keys;
 mod line;
-mod near;
-mod places;
-mod played;
+mod opening;
 mod playing;
 mod projects;
-mod seen;
-mod spelled;
-mod splices;
+mod recordings;
 mod summing;
-mod taken;
-mod tasks;
-mod unread;
-mod usage;
 mod verdicts;
 mod words;
 
-pub use explaining::{Ended, explain};
-pub use summing::{Summed, explain_sum};
+pub use explaining::Explainer;

@@ -1,23 +1,23 @@
-//! The line that explains, and what stands in it.
+//! The line that explains, and what is in it.
 
+use ended_core::Explanation;
+use folder_core::STANDARD;
 use std::alloc::{AllocError, Global};
-use std::fmt::Write;
+use std::fmt::{Display, Write};
 use std::io::Error;
-use words_core::Explanation;
-
-/// The name of a standard stream.
-pub(crate) const STANDARD: &str = "-";
 
 // What the library adds to what the system said.
 const NUMBER: &str = " (os error ";
 
-/// What stands in a line in place of a number in braces.
+/// What replaces a number in braces.
 #[derive(Clone, Copy)]
 pub(crate) enum Part<'a> {
     /// A text that was given or read. What could act on a terminal, or end the line, is escaped.
     Text(&'a str),
     /// Bytes that are no text, escaped.
     Raw(&'a [u8]),
+    /// The name of a file.
+    Name(&'a str),
     /// The name of a file of a command, and which word of the usage it is.
     Named(&'a str, &'a str),
     /// A number.
@@ -26,7 +26,7 @@ pub(crate) enum Part<'a> {
     Signed(i64),
     /// A number with a comma before each three digits.
     Count(u64),
-    /// Such a number of things, with an `s` behind their name unless it is one.
+    /// Such a number of things, with an `s` after their name unless it is one.
     Several(u64, &'static str),
     /// A number of bytes, in the unit in which it has two digits or more.
     Bytes(u64),
@@ -36,30 +36,29 @@ pub(crate) enum Part<'a> {
     Id([u8; 4]),
 }
 
-/// A line that grows. If memory runs out, it is lost, and says nothing at its end.
-#[derive(Drop)]
-pub(crate) struct Line {
-    alloc: Global,
+/// A line that grows, with the system whose files it is about. If memory runs out, it is lost, and says nothing at its
+/// end.
+pub(crate) struct Line<'a, R> {
+    pub(crate) rt: &'a R,
+    pub(crate) alloc: Global,
     text: String,
     is_lost: bool,
 }
 
-impl Line {
+impl<'a, R: AllocGlobal> Line<'a, R> {
     /// A line of nothing.
-    pub(crate) fn new(alloc: Global) -> Line {
-        let text = String::new(alloc);
+    pub(crate) fn new(rt: &'a R) -> Line<'a, R> {
+        let alloc = rt.alloc();
         Line {
+            rt,
             alloc,
-            text,
+            text: String::new(alloc),
             is_lost: false,
         }
     }
+}
 
-    /// Where its memory comes from.
-    pub(crate) fn alloc(&self) -> Global {
-        self.alloc
-    }
-
+impl<R> Line<'_, R> {
     /// Whether nothing was said.
     pub(crate) fn is_empty(&self) -> bool {
         self.text.is_empty()
@@ -67,11 +66,23 @@ impl Line {
 
     /// What was said, if it is more than a name.
     pub(crate) fn end(self) -> Option<Explanation> {
-        if self.is_lost || self.text.as_str().ends_with(": ") {
+        let Line {
+            rt: _,
+            alloc: _,
+            text,
+            is_lost,
+        } = self;
+        if is_lost || text.as_str().ends_with(": ") {
             None
         } else {
-            Explanation::new(self.text)
+            Explanation::new(text)
         }
+    }
+
+    /// Adds a text as it is.
+    pub(crate) fn push(&mut self, text: &str) {
+        let done = self.text.push_str(text);
+        self.keep(done);
     }
 
     /// Adds a text, with each number in braces replaced by the part of this number, counted from 0.
@@ -79,7 +90,9 @@ impl Line {
         for piece in template.split('{') {
             match piece.as_bytes() {
                 [number @ b'0'..=b'9', b'}', ..] => {
-                    self.say_part(parts.get(usize::from(*number - b'0')));
+                    if let Some(part) = parts.get(usize::from(*number - b'0')) {
+                        self.part(*part);
+                    }
                     if let Some((_, rest)) = piece.split_once('}') {
                         self.push(rest);
                     }
@@ -89,37 +102,12 @@ impl Line {
         }
     }
 
-    /// Adds a text, with each `{0}` replaced by this part.
-    pub(crate) fn say_one(&mut self, template: &str, part: Part) {
-        self.say(template, &[part]);
-    }
-
-    // Adds a part, if it is there.
-    fn say_part(&mut self, part: Option<&Part>) {
-        match part.copied() {
-            Some(Part::Text(text)) => self.escape(text),
-            Some(Part::Raw(bytes)) => self.raw(bytes),
-            Some(Part::Named(name, word)) => self.named(name, word),
-            Some(Part::Number(number)) => self.number(number),
-            Some(Part::Signed(number)) => self.signed(number),
-            Some(Part::Count(number)) => self.count(number),
-            Some(Part::Several(number, name)) => self.several(number, name),
-            Some(Part::Bytes(number)) => self.bytes(number),
-            Some(Part::Time(frames, rate)) => self.time(frames, rate),
-            Some(Part::Id(id)) => self.id(id),
-            None => {}
-        }
-    }
-
     /// Adds what the system said, without the number that the library adds.
     pub(crate) fn say_error(&mut self, error: &Error) {
         match format!(in self.alloc; "{error}") {
             Ok(said) => {
                 let said = said.as_str();
-                match said.split_once(NUMBER) {
-                    Some((words, _)) => self.escape(words),
-                    None => self.escape(said),
-                }
+                self.escape(said.split_once(NUMBER).unwrap_or((said, "")).0)
             }
             Err(_) => self.is_lost = true,
         }
@@ -130,22 +118,30 @@ impl Line {
         self.is_lost |= done.is_err();
     }
 
-    /// Adds a text as it is.
-    pub(crate) fn push(&mut self, text: &str) {
-        let done = self.text.push_str(text);
-        self.keep(done);
+    fn part(&mut self, part: Part) {
+        match part {
+            Part::Text(text) => self.escape(text),
+            Part::Name(name) => self.name(name),
+            Part::Named(name, word) => {
+                self.name(name);
+                self.push(" (");
+                self.push(word);
+                self.push(")");
+            }
+            Part::Count(number) => self.count(number),
+            Part::Several(number, name) => self.several(number, name),
+            Part::Bytes(number) => self.bytes(number),
+            Part::Time(frames, rate) => self.time(frames, rate),
+            Part::Id(id) => self.id(id),
+            Part::Raw(bytes) => self.show(&bytes.escape_ascii()),
+            Part::Number(number) => self.show(&number),
+            Part::Signed(number) => self.show(&number),
+        }
     }
 
-    fn escape(&mut self, text: &str) {
-        for letter in text.chars() {
-            if letter == '"' || letter == '\'' {
-                self.letter(letter);
-                continue;
-            }
-            for part in letter.escape_debug() {
-                self.letter(part);
-            }
-        }
+    fn show<T: Display>(&mut self, value: &T) {
+        let done = write!(self.text, "{value}");
+        self.keep(done);
     }
 
     fn letter(&mut self, letter: char) {
@@ -153,29 +149,27 @@ impl Line {
         self.keep(done);
     }
 
-    fn raw(&mut self, bytes: &[u8]) {
-        let done = write!(self.text, "{}", bytes.escape_ascii());
-        self.keep(done);
+    fn escape(&mut self, text: &str) {
+        for letter in text.chars() {
+            match letter {
+                '"' | '\'' => self.letter(letter),
+                // It is before the two digits of a byte that isn't UTF-8.
+                '\0' => self.push("\\x"),
+                _ => {
+                    for part in letter.escape_debug() {
+                        self.letter(part);
+                    }
+                }
+            }
+        }
     }
 
-    fn named(&mut self, name: &str, word: &str) {
-        self.escape(match name {
-            STANDARD => "the standard stream",
-            _ => name,
-        });
-        self.push(" (");
-        self.push(word);
-        self.push(")");
-    }
-
-    fn number(&mut self, number: u64) {
-        let done = write!(self.text, "{number}");
-        self.keep(done);
-    }
-
-    fn signed(&mut self, number: i64) {
-        let done = write!(self.text, "{number}");
-        self.keep(done);
+    fn name(&mut self, name: &str) {
+        match name {
+            STANDARD => self.push("the standard stream"),
+            "" => self.push("\"\""),
+            _ => self.escape(name),
+        }
     }
 
     fn count(&mut self, number: u64) {
@@ -199,15 +193,13 @@ impl Line {
     }
 
     fn bytes(&mut self, number: u64) {
-        if number < 10_000 {
-            self.several(number, "byte");
-        } else if number < 10_000_000 {
-            self.count(number / 1_000);
-            self.push(" kB");
-        } else {
-            self.count(number / 1_000_000);
-            self.push(" MB");
-        }
+        let (number, unit) = match number {
+            0..10_000 => return self.several(number, "byte"),
+            10_000..10_000_000 => (number / 1_000, " kB"),
+            _ => (number / 1_000_000, " MB"),
+        };
+        self.count(number);
+        self.push(unit);
     }
 
     // Whole milliseconds, so that there is sound at the time that is named.

@@ -1,45 +1,45 @@
-//! Why a recording is not played or converted: the numbers, and what would fit.
+//! Why a recording is not played: the numbers, and what would fit. Or what was written, and what may surprise in it.
 
-use crate::files::text_of;
-use crate::line::{Line, Part};
-use crate::seen::{Shape, explain_seen, marks_of, shape_of};
+use crate::line::Line;
+use crate::line::Part::{Bytes, Count, Named, Number, Several, Text, Time};
+use crate::opening::{input_of, output_of, project_of};
+use chunk_core::{Order, u16_at, u32_at};
+use dsd_bits::Sound;
+use folder_core::{FRONT, Step};
+use place_core::Place;
 use project_core::{Project, read};
+use request_core::SpanFault;
 use sound_core::StreamFault;
 use std::alloc::Global;
-use std::fs;
 use std::rt::Files;
-use transfer_core::SpanFault;
-use words_core::Place;
+use words_core::Task;
 
 // The nanoseconds of a second.
 const SECOND: u128 = 1_000_000_000;
 
-// What the names of ready filters say before `-to-`, for each rate that they are made for.
-const HEADERS: [(u64, &str); 6] = [
-    (2_822_400, "dsd64"),
-    (5_644_800, "dsd128"),
-    (11_289_600, "dsd256"),
-    (12_288_000, "dsd256"),
-    (3_072_000, "dsd3072"),
-    (6_144_000, "dsd6144"),
-];
+// The file beside ready filters that lists them, with the rates that each is for.
+const INDEX: &str = "index.txt";
 
-/// The places at which a part begins and ends, as far as they are named.
-pub(crate) type Ends = (Option<Place>, Option<Place>);
+// Endings of names by which a program takes a file for another than a WAVE file.
+const ENDINGS: [&str; 12] = [
+    "flac", "mp3", "aif", "aiff", "m4a", "ogg", "opus", "wv", "ape", "dsf", "dff", "dsdiff",
+];
 
 /// The project and the input of a command that plays.
 pub(crate) type Played<'a> = (&'a str, &'a str);
 
+/// Where a part begins and ends, as far as it is named.
+pub(crate) type Ends = (Option<Place>, Option<Place>);
+
+// What finds the ready filter for a file.
+const PICK: &str = "filters/pick (installed: dsdarc-pick)";
+
 // What a project has: the factor and the width of its filter, or 0 for each, and whether it has a splice.
 #[derive(Clone, Copy)]
-struct Tables {
-    factor: u64,
+pub(crate) struct Tables {
+    pub(crate) factor: u64,
     width: u64,
     has_splice: bool,
-}
-
-fn tables_of<R: Files>(rt: &R, alloc: Global, name: &str) -> Option<Tables> {
-    tables_in(alloc, &text_of(rt, alloc, name)?)
 }
 
 fn tables_in(alloc: Global, source: &[u8]) -> Option<Tables> {
@@ -51,7 +51,10 @@ fn tables_in(alloc: Global, source: &[u8]) -> Option<Tables> {
 
 // The project is borrowed here, so that no exit has to free it.
 fn found_in(project: &Project) -> Tables {
-    let (factor, width) = filter_in(project);
+    let (factor, width) = match &project.decimate {
+        Some(taps) => (taps.factor().into(), taps.width().into()),
+        None => (0, 0),
+    };
     Tables {
         factor,
         width,
@@ -59,194 +62,253 @@ fn found_in(project: &Project) -> Tables {
     }
 }
 
-fn filter_in(project: &Project) -> (u64, u64) {
-    match &project.decimate {
-        Some(taps) => (u64::from(taps.factor()), u64::from(taps.width())),
-        None => (0, 0),
+impl<R: Files> Line<'_, R> {
+    /// What the project of a name has.
+    pub(crate) fn tables_of(&self, name: &str) -> Option<Tables> {
+        tables_in(self.alloc, &self.text_of(name)?)
     }
-}
 
-/// The factor of the filter of a name.
-pub(crate) fn factor_of<R: Files>(rt: &R, alloc: Global, name: &str) -> Option<u64> {
-    match tables_of(rt, alloc, name) {
-        Some(tables) if tables.factor > 0 => Some(tables.factor),
-        _ => None,
-    }
-}
-
-// What is played, and the filter.
-fn both<R: Files>(rt: &R, alloc: Global, played: Played) -> Option<(Shape, Tables)> {
-    match (shape_of(rt, played.1), tables_of(rt, alloc, played.0)) {
-        (Some(shape), Some(tables)) if tables.factor > 0 => Some((shape, tables)),
-        _ => None,
-    }
-}
-
-/// Adds why a recording is not played.
-pub(crate) fn explain_play<R: Files>(line: &mut Line, rt: &R, played: Played, fault: StreamFault) {
-    let input = Part::Named(played.1, "IN");
-    match fault {
-        StreamFault::FileRefused => {
-            line.say_one("{0}: ", input);
-            explain_seen(line, rt, played.1, "dsdarc info of it says why");
-        }
-        StreamFault::RateNotDivided => explain_rate(line, rt, played),
-        StreamFault::TooLarge => explain_large(line, rt, played),
-        StreamFault::TurnLimit => line.say_one("{0} has no end: name a file", input),
-        _ => {}
-    }
-}
-
-// Adds why the filter does not fit, and which one does.
-fn explain_rate<R: Files>(line: &mut Line, rt: &R, played: Played) {
-    let Some((shape, tables)) = both(rt, line.alloc(), played) else {
-        return;
-    };
-    let (input, rate) = (Part::Named(played.1, "IN"), Part::Count(shape.rate));
-    let (factor, project) = (Part::Number(tables.factor), Part::Text(played.0));
-    line.say(RATE, &[input, rate, factor, project]);
-    match ready(rt, line.alloc(), shape.rate, played.0) {
-        Some(path) => line.say_one("{0} fits", Part::Text(path.as_str())),
-        None => line.push("filters/pick prints the filter that fits a file"),
-    }
-}
-
-// The ready filter for a rate that stands beside another and makes the same of its recordings.
-fn ready<R: Files>(rt: &R, alloc: Global, rate: u64, project: &str) -> Option<String> {
-    let (folder, name) = project.rsplit_once('/').unwrap_or((".", project));
-    let (_, back) = name.split_once("-to-")?;
-    let front = prefix_of(rate)?;
-    match format!(in alloc; "{folder}/{front}-to-{back}") {
-        Ok(path) if is_file(rt, path.as_str()) => Some(path),
-        _ => None,
-    }
-}
-
-fn is_file<R: Files>(rt: &R, path: &str) -> bool {
-    match fs::metadata(rt, path) {
-        Ok(found) => found.is_file(),
-        Err(_) => false,
-    }
-}
-
-fn prefix_of(rate: u64) -> Option<&'static str> {
-    for (each, front) in &HEADERS {
-        if *each == rate {
-            return Some(*front);
+    /// Adds why a recording, the second, is not played by a project.
+    pub(crate) fn explain_play(&mut self, (project, input): Played, fault: StreamFault) {
+        match fault {
+            StreamFault::FileRefused => {
+                self.say("{0}: ", &[Named(input, "IN")]);
+                self.explain_refused(input);
+            }
+            StreamFault::TurnLimit => self.say(ENDLESS, &[Named(input, "IN")]),
+            StreamFault::RateNotDivided | StreamFault::TooLarge => {
+                let sound = self.sound_of(input);
+                if let (Some(sound), Some(tables)) = (sound, self.tables_of(project)) {
+                    self.explain_unfit((project, input), sound, tables, fault);
+                }
+            }
+            _ => {}
         }
     }
-    None
-}
 
-// Adds how large the WAVE file would be.
-fn explain_large<R: Files>(line: &mut Line, rt: &R, played: Played) {
-    let Some((shape, tables)) = both(rt, line.alloc(), played) else {
-        return;
-    };
-    let samples = shape.bits.checked_div(tables.factor).unwrap_or(0);
-    let bytes = samples
-        .saturating_mul(shape.channels)
-        .saturating_mul(tables.width / 8);
-    line.say(LARGE, &[Part::Named(played.1, "IN"), Part::Bytes(bytes)]);
-}
+    // Adds why the filter does not fit, and which one does, or how large the WAVE file would be.
+    fn explain_unfit(
+        &mut self,
+        (project, input): Played,
+        sound: Sound,
+        tables: Tables,
+        fault: StreamFault,
+    ) {
+        let input = Named(input, "IN");
+        if fault == StreamFault::TooLarge {
+            let samples = (sound.count as u64).checked_div(tables.factor).unwrap_or(0);
+            let frame = (sound.channels as u64).saturating_mul(tables.width / 8);
+            return self.say(LARGE, &[input, Bytes(samples.saturating_mul(frame))]);
+        }
+        let (rate, factor) = (Count(sound.rate.into()), Number(tables.factor));
+        self.say(RATE, &[input, rate, factor, Text(project)]);
+        match self.filter_for(project, sound.rate.into()) {
+            Some(path) => self.say("{0} fits", &[Text(path.as_str())]),
+            None => self.say("{0} prints the filter that fits a file", &[Text(PICK)]),
+        }
+    }
 
-/// Adds that a part is too large for a WAVE file.
-pub(crate) fn explain_large_part(line: &mut Line, input: &str) {
-    line.say_one(LARGE_PART, Part::Named(input, "IN"));
-}
+    /// Adds why a part of a recording, the second, is not played by a project.
+    pub(crate) fn explain_part(&mut self, (project, input): Played, ends: Ends, fault: SpanFault) {
+        match fault {
+            SpanFault::NoMark => self.explain_marks(input),
+            SpanFault::PartReversed => self.push("what --to names is before what --from names"),
+            SpanFault::PartOutside => {
+                let sound = self.sound_of(input);
+                if let (Some(sound), Some(tables)) = (sound, self.tables_of(project)) {
+                    self.explain_end(input, ends, sound, tables.factor);
+                }
+            }
+        }
+    }
 
-/// Adds how long a recording is of which a part isn't there and which end of the part it is, or how many marks it has.
-pub(crate) fn explain_span<R: Files>(
-    line: &mut Line,
-    rt: &R,
-    played: Played,
-    ends: Ends,
-    fault: SpanFault,
-) {
-    match fault {
-        SpanFault::NoMark => explain_marks(line, rt, played.1),
-        SpanFault::PartReversed => line.push("what --to names is before what --from names"),
-        SpanFault::PartOutside => explain_end(line, rt, played, ends),
+    fn explain_marks(&mut self, input: &str) {
+        let marks = self.marks_of(input);
+        let template = match marks {
+            0 => "{0} has no marks: name a time or a frame",
+            1 => "{0} has one mark, #0",
+            _ => "{0} has {1} marks, #0 to #{2}, which dsdarc info prints",
+        };
+        let last = Number(marks.saturating_sub(1));
+        self.say(template, &[Named(input, "IN"), Count(marks), last]);
+    }
+
+    // Adds which end of a part is after the end of a recording, and how long this is.
+    fn explain_end(&mut self, input: &str, (from, to): Ends, sound: Sound, factor: u64) {
+        let factor = factor.max(1);
+        let (frames, rate) = (
+            (sound.count as u64).div_ceil(factor),
+            u64::from(sound.rate) / factor,
+        );
+        self.push(
+            match (is_after(from, frames, rate), is_after(to, frames, rate)) {
+                (true, _) => "what --from names",
+                (_, true) => "what --to names",
+                _ => "a mark of the part",
+            },
+        );
+        self.say(" is after the end of {0}, ", &[Named(input, "IN")]);
+        let lasts = [Time(frames, rate), Several(frames, "frame"), Count(rate)];
+        self.say("which lasts {0} ({1} at {2} Hz)", &lasts);
+    }
+
+    /// Adds by how much the channels of a file are not whole bytes.
+    pub(crate) fn explain_rest(&mut self, input: &str) {
+        if let Some(sound) = self.sound_of(input) {
+            let bits = sound.count as u64;
+            self.say(REST, &[Named(input, "IN"), Count(bits), Number(bits % 8)])
+        }
+        self.push("convert it to dsf or dsf8");
+    }
+
+    /// Adds what a WAVE file of so many bytes holds, by the first of them: its rate, width, channels and duration. Then
+    /// comes what may surprise: a filter for another rate, a name that is that of another kind of file, no frames.
+    pub(crate) fn explain_played(&mut self, task: Task, front: &[u8; FRONT], bytes: u64) {
+        let order = Order::Little;
+        let (rate, format) = (u32_at(order, front, 24), u32_at(order, front, 16));
+        let (frame, width) = (u16_at(order, front, 32), u16_at(order, front, 34));
+        let sound = bytes.saturating_sub(u64::from(format).saturating_add(28));
+        let (rate, frames) = (u64::from(rate), sound / u64::from(frame).max(1));
+        let channels = Several(u16_at(order, front, 22).into(), "channel");
+        self.say("{0} Hz, {1} bits, ", &[Number(rate), Number(width.into())]);
+        self.say("{0}, {1}", &[channels, Time(frames, rate)]);
+        if let Some(project) = project_of(task) {
+            self.explain_filter(project, rate);
+        }
+        if let Some((output, _)) = output_of(task, Step::First) {
+            self.explain_name(output);
+        }
+        match (task, input_of(task)) {
+            (Task::Play { .. }, Some((input, word))) if frames == 0 => {
+                self.say("; {0} has no sound", &[Named(input, word)])
+            }
+            (Task::PlayPart { .. }, _) if frames == 0 => {
+                self.push("; the part is empty: it begins where it ends")
+            }
+            _ => {}
+        }
+    }
+
+    // Adds for which rates a ready filter is, where a file that it played to this rate has another.
+    fn explain_filter(&mut self, project: &str, rate: u64) {
+        let (folder, filter) = folder_and_name(project);
+        if let (Some(index), Some(tables)) = (self.index_in(folder), self.tables_of(project)) {
+            let rate = rate.saturating_mul(tables.factor);
+            for row in text_in(&index).lines() {
+                let (name, rates) = row_of(row);
+                if name == filter && !rates.is_empty() && !has_rate(rates, rate) {
+                    return self.say_rates(name, rates, rate);
+                }
+            }
+        }
+    }
+
+    fn say_rates(&mut self, name: &str, rates: &str, rate: u64) {
+        self.say("; the filter {0} is for ", &[Text(name)]);
+        for (number, each) in rates.split(',').enumerate() {
+            self.say(if number > 0 { " or {0}" } else { "{0}" }, &[Text(each)]);
+        }
+        self.say(OTHER, &[Number(rate), Text(PICK)]);
+    }
+
+    // The ready filter for a rate that is beside another and makes the same of its recordings.
+    fn filter_for(&self, project: &str, rate: u64) -> Option<String> {
+        let (folder, filter) = folder_and_name(project);
+        let index = self.index_in(folder)?;
+        let (_, made) = filter.split_once("-to-")?;
+        for row in text_in(&index).lines() {
+            let (name, rates) = row_of(row);
+            if has_rate(rates, rate) && name.split_once("-to-").unwrap_or(("", "")).1 == made {
+                return format!(in self.alloc; "{folder}/{name}").ok();
+            }
+        }
+        None
+    }
+
+    // The list of the filters of a folder.
+    fn index_in(&self, folder: &str) -> Option<Vec<u8>> {
+        match format!(in self.alloc; "{folder}/{INDEX}") {
+            Ok(path) => self.text_of(path.as_str()),
+            Err(_) => None,
+        }
+    }
+
+    // Adds that a file is a WAVE file, where its name says otherwise.
+    fn explain_name(&mut self, output: &str) {
+        let (_, name) = folder_and_name(output);
+        let (_, ending) = name.rsplit_once('.').unwrap_or(("", ""));
+        for known in ENDINGS {
+            if ending.eq_ignore_ascii_case(known) {
+                self.say(NAMED, &[Named(output, "OUT")]);
+            }
+        }
+    }
+
+    /// Adds what a project has in place of the table that is asked for.
+    pub(crate) fn explain_table(&mut self, project: &str) {
+        let kind = match self.tables_of(project) {
+            Some(tables) if tables.has_splice => CUE_LIST,
+            Some(tables) if tables.factor > 0 => FILTER,
+            Some(_) => "it has no table at all",
+            None => return,
+        };
+        self.say("{0}: {1}", &[Named(project, "PROJECT"), Text(kind)]);
     }
 }
 
-fn explain_marks<R: Files>(line: &mut Line, rt: &R, input: &str) {
-    let marks = marks_of(rt, input);
-    let template = match marks {
-        0 => "{0} has no marks: name a time or a frame",
-        1 => "{0} has one mark, #0",
-        _ => "{0} has {1} marks, #0 to #{2}, which dsdarc info prints",
-    };
-    let (marks, last) = (Part::Count(marks), Part::Number(marks.saturating_sub(1)));
-    line.say(template, &[Part::Named(input, "IN"), marks, last]);
-}
-
-fn explain_end<R: Files>(line: &mut Line, rt: &R, played: Played, ends: Ends) {
-    let Some((shape, tables)) = both(rt, line.alloc(), played) else {
-        return;
-    };
-    let frames = shape.bits.div_ceil(tables.factor.max(1));
-    let rate = shape.rate.checked_div(tables.factor).unwrap_or(0);
-    let end = match ends {
-        (Some(place), _) if is_after(place, frames, rate) => "what --from names",
-        (_, Some(place)) if is_after(place, frames, rate) => "what --to names",
-        _ => "a mark of the part",
-    };
-    let (time, count) = (Part::Time(frames, rate), Part::Several(frames, "frame"));
-    let (end, input) = (Part::Text(end), Part::Named(played.1, "IN"));
-    line.say(OUTSIDE, &[end, input, time, count, Part::Count(rate)]);
-}
-
-// Whether a place is after the end of so many frames. Of a mark this isn't known.
-fn is_after(place: Place, frames: u64, rate: u64) -> bool {
+// Whether a place is after the end of so many frames, of which this number make a second. Of a mark this isn't known.
+fn is_after(place: Option<Place>, frames: u64, rate: u64) -> bool {
     match place {
-        Place::Time(nanoseconds) => {
-            u128::from(nanoseconds).saturating_mul(u128::from(rate)) / SECOND > u128::from(frames)
+        Some(Place::Time(nanoseconds)) => {
+            let frame = u128::from(nanoseconds).saturating_mul(u128::from(rate)) / SECOND;
+            frame > u128::from(frames)
         }
-        Place::Frame(number) => number > frames,
-        Place::Mark(_) => false,
+        Some(Place::Frame(number)) => number > frames,
+        _ => false,
     }
 }
 
-/// Adds by how much the channels of a file are not whole bytes.
-pub(crate) fn explain_parts<R: Files>(line: &mut Line, rt: &R, input: &str) {
-    let (name, shape) = (Part::Named(input, "IN"), shape_of(rt, input));
-    match shape {
-        Some(Shape { bits, .. }) => {
-            line.say(WHOLE, &[name, Part::Count(bits), Part::Number(bits % 8)])
-        }
-        None => line.say_one("{0}: ", name),
-    }
-    line.push("convert it to dsf or dsf8");
+fn text_in(bytes: &[u8]) -> &str {
+    std::str::from_utf8(bytes).unwrap_or("")
 }
 
-/// Adds what a project has in place of the table that is asked for.
-pub(crate) fn explain_table<R: Files>(line: &mut Line, rt: &R, project: &str) {
-    let kind = match tables_of(rt, line.alloc(), project) {
-        Some(tables) if tables.has_splice => {
-            "it is a cue list, for edit and check; the ready filters are in filters/"
-        }
-        Some(tables) if tables.factor > 0 => {
-            "it is a filter, for play; edit and check want a table \"splice\""
-        }
-        Some(_) => "it has no table at all",
-        None => return,
-    };
-    line.say(
-        "{0}: {1}",
-        &[Part::Named(project, "PROJECT"), Part::Text(kind)],
-    );
+// The folder of a path, and its last name.
+fn folder_and_name(path: &str) -> (&str, &str) {
+    path.rsplit_once('/').unwrap_or((".", path))
 }
+
+// The name of a filter in a row of the list, and the rates that it is for, with commas between them.
+fn row_of(row: &str) -> (&str, &str) {
+    let (name, rest) = row.split_once(' ').unwrap_or((row, ""));
+    (name, rest.split_once(' ').unwrap_or((rest, "")).0)
+}
+
+fn has_rate(rates: &str, rate: u64) -> bool {
+    for each in rates.split(',') {
+        match each.parse::<u64>() {
+            Ok(known) if known == rate => return true,
+            _ => {}
+        }
+    }
+    false
+}
+
+const ENDLESS: &str = "{0} has no end: name a file";
 
 const RATE: &str = "{0} has {1} Hz, which the factor {2} of {3} does not divide: ";
 
 const LARGE: &str =
     "{0} would make a WAVE file of {1}, and 4,294 MB are the most: choose a filter for a lower rate or \
-                     16 bits, or play it in parts";
+     16 bits, or play it in parts";
 
-const LARGE_PART: &str =
-    "the part of {0} would make a WAVE file of more than 4,294 MB: name shorter parts";
+const REST: &str = "{0} has {1} bits per channel, {2} more than whole bytes: ";
 
-const OUTSIDE: &str = "{0} is after the end of {1}, which lasts {2} ({3} at {4} Hz)";
+const CUE_LIST: &str = "it is a cue list, for edit and check; the ready filters are in filters/";
 
-const WHOLE: &str = "{0} has {1} bits per channel, {2} more than whole bytes: ";
+const FILTER: &str = "it is a filter, for play; edit and check want a table \"splice\"";
+
+const OTHER: &str = " Hz, and the file has {0} Hz: {1} finds the right one";
+
+const NAMED: &str =
+    "; {0} is a WAVE file, whatever its name: play writes no other, but a pipe from OUT - to another program \
+     makes them";

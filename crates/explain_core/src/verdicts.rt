@@ -1,155 +1,132 @@
 //! Why a master is rejected: which file or cue, and the numbers.
 
-use crate::files::reopen;
-use crate::line::{Line, Part};
-use crate::seen::{explain_seen, is_certificate, is_recording, shape_of};
-use crate::splices::{Cutting, cutting_of, say_shape};
+use crate::cutting::{Cutting, span_of};
+use crate::line::Line;
+use crate::line::Part::{Count, Named, Number, Several};
+use crate::recordings::{CERTIFICATE, RECORDING};
 use cert_core::CertReason;
-use chunk_core::{Order, id_at, u16_at, u32_at};
-use judge_core::Reason;
+use request_core::Reason;
 use std::rt::Files;
 
-/// Adds why a master is rejected, by the names of the project, the master and the certificate.
-pub(crate) fn explain_verdict<R: Files>(line: &mut Line, rt: &R, names: [&str; 3], reason: Reason) {
-    let [project, master, cert] = names;
-    if let Some(cutting) = cutting_of(rt, line.alloc(), project) {
-        explain_reason(line, rt, &cutting, (master, cert), reason);
+impl<R: Files> Line<'_, R> {
+    /// Adds why a master with its certificate is rejected.
+    pub(crate) fn explain_verdict(
+        &mut self,
+        cutting: &Cutting,
+        (master, cert): (&str, &str),
+        reason: Reason,
+    ) {
+        match reason {
+            Reason::CertHead(_) | Reason::Cert(_, _) | Reason::CertExtra => {
+                self.say("{0}: ", &[Named(cert, "CERT")]);
+                let channels = match self.sound_of(cutting.take(0)) {
+                    Some(sound) => sound.channels as u64,
+                    None => 1,
+                };
+                self.explain_cert(cutting, cert, channels, reason);
+            }
+            Reason::MasterUnread => {
+                self.say("{0}: ", &[Named(master, "MASTER")]);
+                match self.kind_of(master) {
+                    CERTIFICATE => self.push("it is a certificate; MASTER comes before CERT"),
+                    _ => self.explain_refused(master),
+                }
+            }
+            _ => self.explain_master(cutting, master, reason),
+        }
     }
-}
 
-fn explain_reason<R: Files>(
-    line: &mut Line,
-    rt: &R,
-    cutting: &Cutting,
-    (master, cert): (&str, &str),
-    reason: Reason,
-) {
-    match reason {
-        Reason::MasterUnread => explain_master(line, rt, master),
-        Reason::MasterShape => explain_unlike(line, rt, cutting, master),
-        Reason::MasterLength => explain_length(line, rt, cutting, master),
-        Reason::MasterMarks => explain_marks(line, cutting, master),
-        Reason::CuedBit(channel, place) => explain_bit(line, cutting, master, (channel, place)),
-        Reason::CertHead(_) => explain_head(line, rt, cutting, cert),
-        Reason::Cert(entry, why) => explain_cert(line, rt, cutting, cert, (entry, why)),
-        Reason::CertExtra => line.say_one(EXTRA, Part::Named(cert, "CERT")),
+    // Adds in what a master isn't that of the project.
+    fn explain_master(&mut self, cutting: &Cutting, name: &str, reason: Reason) {
+        let master = Named(name, "MASTER");
+        match (reason, self.sound_of(name)) {
+            (Reason::MasterShape, Some(found)) => {
+                self.say("{0}", &[master]);
+                self.say_sound(" has ", found);
+                if let Some(wanted) = self.sound_of(cutting.take(0)) {
+                    self.push(", and ");
+                    self.say_take(cutting, 0);
+                    self.say_sound(" ", wanted);
+                }
+            }
+            (Reason::MasterLength, Some(found)) => {
+                let bits = Count(found.count as u64);
+                self.say(LENGTH, &[master, bits, Count(cutting.bits())]);
+            }
+            (Reason::MasterMarks, _) => {
+                let mut titles = 0u64;
+                for cue in &cutting.splice.cues {
+                    titles = titles.saturating_add(cue.title.is_some().into());
+                }
+                self.say(MARKS, &[master, Several(titles, "title")]);
+            }
+            (Reason::CuedBit(channel, place), _) => {
+                let (bit, channel) = (Count(place as u64), Number(channel as u64));
+                self.say(
+                    "{0}: bit {1} of channel {2} has to be ",
+                    &[master, bit, channel],
+                );
+                self.explain_bit(cutting, place as u64);
+            }
+            _ => {}
+        }
     }
-}
 
-fn explain_master<R: Files>(line: &mut Line, rt: &R, master: &str) {
-    line.say_one("{0}: ", Part::Named(master, "MASTER"));
-    if is_certificate(rt, master) {
-        return line.push("it is a certificate; MASTER comes before CERT");
+    // Adds where the bit at a place of the master comes from.
+    fn explain_bit(&mut self, cutting: &Cutting, place: u64) {
+        let mut rest = place;
+        for (number, cue) in cutting.splice.cues.iter().enumerate() {
+            if rest < span_of(cue) {
+                let there = (cue.start as u64).saturating_add(rest);
+                self.say("bit {0} of ", &[Count(there)]);
+                self.say_take(cutting, cue.take);
+                self.push(", by ");
+                return self.say_cue(cutting, number);
+            }
+            rest = rest.saturating_sub(span_of(cue));
+        }
     }
-    explain_seen(line, rt, master, "info says why");
-}
 
-fn explain_length<R: Files>(line: &mut Line, rt: &R, cutting: &Cutting, master: &str) {
-    if let Some(found) = shape_of(rt, master) {
-        let (found, wanted) = (Part::Count(found.bits), Part::Count(cutting.bits()));
-        line.say(LENGTH, &[Part::Named(master, "MASTER"), found, wanted]);
+    fn explain_cert(&mut self, cutting: &Cutting, cert: &str, channels: u64, reason: Reason) {
+        match (reason, self.kind_of(cert)) {
+            (Reason::CertHead(CertReason::Cut), CERTIFICATE) => self.push(CUT),
+            (Reason::CertHead(_), CERTIFICATE) => {
+                let mut bridges = 0u64;
+                for cue in &cutting.splice.cues {
+                    bridges = bridges.saturating_add((cue.bridge > 0).into());
+                }
+                let weights = Several(cutting.splice.weights.len() as u64, "weight");
+                self.say(
+                    HEAD,
+                    &[
+                        weights,
+                        Several(bridges, "bridge"),
+                        Several(channels, "channel"),
+                    ],
+                )
+            }
+            (Reason::CertHead(_), RECORDING) => self.push("it is a recording; CERT comes last"),
+            (Reason::CertHead(_), _) => self.explain_kind(cert, "certificate"),
+            (Reason::Cert(entry, why), _) => {
+                self.explain_entry(cutting, entry as u64, channels);
+                self.push(hint(why));
+            }
+            _ => self.push("something was added after its last entry"),
+        }
     }
-}
 
-fn explain_marks(line: &mut Line, cutting: &Cutting, master: &str) {
-    let titles = Part::Several(cutting.titles(), "title");
-    line.say(MARKS, &[Part::Named(master, "MASTER"), titles]);
-}
-
-// Adds where a bit of a channel comes from.
-fn explain_bit(line: &mut Line, cutting: &Cutting, master: &str, (channel, place): (usize, usize)) {
-    if let Some(bit) = cutting.cued(place as u64) {
-        let (master, channel) = (Part::Named(master, "MASTER"), Part::Number(channel as u64));
-        let (place, there) = (Part::Count(place as u64), Part::Count(bit.place));
-        line.say(BIT, &[master, place, channel, there]);
-        cutting.say_take(line, bit.cue.take);
-        line.push(", by ");
-        cutting.say_cue(line, bit.number);
-    }
-}
-
-// How many channels the takes have.
-fn channels<R: Files>(rt: &R, cutting: &Cutting) -> u64 {
-    match shape_of(rt, cutting.take(0)) {
-        Some(shape) => shape.channels,
-        None => 1,
-    }
-}
-
-fn explain_unlike<R: Files>(line: &mut Line, rt: &R, cutting: &Cutting, master: &str) {
-    if let (Some(found), Some(wanted)) = (shape_of(rt, master), shape_of(rt, cutting.take(0))) {
-        line.say_one("{0} has ", Part::Named(master, "MASTER"));
-        say_shape(line, found);
-        line.push(", and ");
-        cutting.say_take(line, 0);
-        line.push(" ");
-        say_shape(line, wanted);
-    }
-}
-
-fn explain_head<R: Files>(line: &mut Line, rt: &R, cutting: &Cutting, cert: &str) {
-    line.say_one("{0}: ", Part::Named(cert, "CERT"));
-    match cert_head(rt, cert) {
-        Some(head) if id_at(&head, 0) == *b"DSPC" => explain_fields(line, rt, cutting, &head),
-        _ if is_recording(rt, cert) => line.push("it is a recording; CERT comes last"),
-        Some(head) => line.say_one(
-            "it begins with {0}, not \"DSPC\"",
-            Part::Id(id_at(&head, 0)),
-        ),
-        None => line.push("it ends inside its head: fetch it again, or edit again"),
-    }
-}
-
-fn explain_fields<R: Files>(line: &mut Line, rt: &R, cutting: &Cutting, head: &[u8; 12]) {
-    let version = Part::Number(u64::from(u16_at(Order::Big, head, 4)));
-    let weights = Part::Several(u64::from(u16_at(Order::Big, head, 6)), "weight");
-    line.say("it is of version {0}, for {1} and ", &[version, weights]);
-    say_entries(line, u64::from(u32_at(Order::Big, head, 8)));
-    let weights = Part::Several(cutting.weights(), "weight");
-    line.say_one("; the project has {0} and ", weights);
-    say_entries(
-        line,
-        cutting.bridges().saturating_mul(channels(rt, cutting)),
-    );
-}
-
-fn say_entries(line: &mut Line, entries: u64) {
-    let name = if entries == 1 {
-        "{0} entry"
-    } else {
-        "{0} entries"
-    };
-    line.say_one(name, Part::Number(entries));
-}
-
-// The head of a certificate: its ID, its version, its weights and its entries.
-fn cert_head<R: Files>(rt: &R, cert: &str) -> Option<[u8; 12]> {
-    match reopen(rt, cert) {
-        Ok(mut look) => look.bytes_at(0),
-        Err(_) => None,
-    }
-}
-
-// Adds what is wrong with an entry.
-fn explain_cert<R: Files>(
-    line: &mut Line,
-    rt: &R,
-    cutting: &Cutting,
-    cert: &str,
-    (entry, why): (usize, CertReason),
-) {
-    line.say_one("{0}: ", Part::Named(cert, "CERT"));
-    explain_entry(line, cutting, entry as u64, channels(rt, cutting));
-    line.push(hint(why));
-}
-
-// Adds for which bridge an entry is.
-fn explain_entry(line: &mut Line, cutting: &Cutting, entry: u64, channels: u64) {
-    line.say_one("entry {0} is ", Part::Number(entry));
-    if let Some(number) = cutting.bridged(entry.checked_div(channels).unwrap_or(0)) {
-        let channel = Part::Number(entry.checked_rem(channels).unwrap_or(0));
-        line.say_one("for channel {0} of the bridge after ", channel);
-        cutting.say_cue(line, number);
+    // Adds for which bridge an entry is.
+    fn explain_entry(&mut self, cutting: &Cutting, entry: u64, channels: u64) {
+        self.say("entry {0} is ", &[Number(entry)]);
+        let mut before = entry.checked_div(channels).unwrap_or(0);
+        for (number, cue) in cutting.splice.cues.iter().enumerate() {
+            if cue.bridge > 0 && before == 0 {
+                let channel = Number(entry.checked_rem(channels).unwrap_or(0));
+                self.say("for channel {0} of the bridge after ", &[channel]);
+                return self.say_cue(cutting, number);
+            }
+            before = before.saturating_sub((cue.bridge > 0).into());
+        }
     }
 }
 
@@ -169,6 +146,7 @@ const LENGTH: &str = "{0} has {1} bits per channel; the cues and bridges have {2
 
 const MARKS: &str = "{0}: its marks are not those of the {1} of the project; info prints its marks";
 
-const EXTRA: &str = "{0}: something was added after its last entry";
+const CUT: &str = "it ends inside its head: fetch it again, or edit again";
 
-const BIT: &str = "{0}: bit {1} of channel {2} has to be bit {3} of ";
+const HEAD: &str =
+    "it is not for {0} and {1} in {2}, which the project has, or of an unknown version: edit again";

@@ -172,7 +172,7 @@ fn sum_near<const N: usize>(lookup: Lookup<'_>, bytes: &[u8], sums: &mut [i32])
 }
 
 /// The sums of windows that begin at each step's first byte: strided, if a row spans few enough windows for their sums
-/// to stay in registers. The compiler splits up to six vectors into numbers, but for six if each step is a byte: there
+/// to stay in registers. The compiler splits up to six vectors into numbers, except six if each step is a byte: there
 /// eight bytes at a time are faster.
 pub(crate) fn sum_all(lookup: Lookup<'_>, bytes: &[u8], sums: &mut [i32])
     requires { AreWithin (length lookup.taps.now / 8) lookup.step (length sums.old) bytes.now }

@@ -1,4 +1,4 @@
--- What contracts see of a file that is read but for some gaps.
+-- What contracts see of a file that is read except for some gaps.
 use Rattle.std.specs.Prelude.{◌≡◌, ℕ, ◌+◌, ◌-◌, ◌^◌, ◌≤◌, ◌⊎◌, min, Result, MatchResult}
 use Rattle.folder_core.specs.declared.gapped_file.Gap.{Gap}
 use Rattle.folder_core.specs.declared.gapped_file.Gaps.{Gaps}

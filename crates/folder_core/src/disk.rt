@@ -25,13 +25,12 @@ use std::{fs, io};
 /// A file that is created is written in the folder of its name, as `.NAME.dsdarc-PROCESS-N`. It gets its name once it
 /// is kept and its bytes are on the device. Until then, and if the program is stopped, the old file stays there whole.
 /// So a file that is read may be replaced, under any of its names, unless it is [protected](Folder::protect). Links are
-/// followed. An old file's permissions are
-/// kept, and so are its owner and group if the system allows it. What processes that no longer exist left of the same
-/// name is removed.
+/// followed. An old file's permissions are kept, and so are its owner and group if the system allows it. What processes
+/// that no longer exist left of the same name is removed.
 ///
-/// Some files are written directly: what is no file of a folder (a pipe, a device, an open file such as `/dev/stdout`),
-/// and a file in whose folder no file can be made. Standard output is written through its own descriptor, whatever name
-/// it has. A file that was opened to be read is never written directly: creating it is refused.
+/// Some files are written directly: what isn't a regular file (a pipe, a device, an open file such as `/dev/stdout`),
+/// and a file in whose folder no file can be made. Standard output is written through its own descriptor, whatever its
+/// name. A file that was opened to be read is never written directly: creating it is refused.
 ///
 /// A file is not kept if one of its writes failed. After a fault no file replaces another.
 #[derive(Drop)]
@@ -217,7 +216,7 @@ where
         file.pass(buffer)
     }
 
-    // Files are told apart by what the system says of them, whatever their names are.
+    // Files are distinguished by what the system says of them, whatever their names are.
     fn protect(&mut self)
         ensures same { notes_of self.new ≡ notes_of self.old }
         ensures protected { protected_files self.new.opened ≡ self.old.opened.sources.items }

@@ -26,8 +26,8 @@ impl<F: Read, I: Read> Read for DiskInput<F, I> {
 impl<F: Read + Seek + OpenFile, I: Read> DiskInput<F, I> {
     ghost use Rattle.std.specs.Io.{ReadsAtMost};
 
-    /// Goes on in the file without reading it, by as many bytes as there is room for, or up to its end. What is no file
-    /// of a folder is read, and so is a file at its end, which may have bytes all the same, as those of `/proc` do.
+    /// Moves on in the file without reading it, by as many bytes as there is room for, or up to its end. What isn't a
+    /// file of a folder is read, and so is a file at its end, which may still have bytes, like those of `/proc`.
     pub(crate) fn pass(&mut self, buffer: &mut [u8]) -> io::Result<usize>
         ensures { ReadsAtMost result buffer.new }
     {

@@ -1,4 +1,4 @@
-//! A file of a folder that is read but for some gaps.
+//! A file of a folder that is read except for some gaps.
 
 ghost use Rattle.std.specs.Prelude.{◌≡◌, ◌+◌, ◌<◌, ◌≤◌, ◌⊎◌, IfOk, IsFalse, IsTrue};
 ghost use Rattle.std.specs.Io.{ReadsAtMost};
@@ -14,7 +14,7 @@ use std::io::Read;
 pub struct Gap {
     /// The place of its first byte.
     pub start: u64,
-    /// The place of the first byte behind it.
+    /// The place of the first byte after it.
     pub stop: u64,
 }
 
@@ -87,7 +87,7 @@ struct Step {
     is_passed: bool,
 }
 
-// The next step from a place on, with room for so many bytes. Only what lies in a gap is passed over, and nothing of a
+// The next step from a place on, with room for some bytes. Only what lies in a gap is passed over, and nothing of a
 // gap is read.
 fn step_at(gaps: Gaps, place: u64, room: usize) -> Step
     ensures few { result.size ≤ room }
@@ -134,7 +134,7 @@ fn bytes_before(gap: Gap, place: u64) -> u64
     }
 }
 
-// As many as there is room for, but no more than so many.
+// As many as there is room for, at most this many.
 fn at_most(room: usize, most: u64) -> usize
     ensures few { (result ≤ room) × (result ≤ most) }
     ensures some { 0 < room → 0 < most → 0 < result }

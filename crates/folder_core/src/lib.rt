@@ -7,11 +7,11 @@
 //!
 //! - [`read_file`] reads a file to its end, [`read_files`] several in turn, [`read_whole`] what any reader has left.
 //! - [`write_file`] creates a file and writes it, [`hand_back`] ends one that was written.
-//! - A [`GappedFile`] is read by who looks at no byte of two [`Gaps`] in it: a folder on a disk passes over these.
+//! - A [`GappedFile`] is for callers that need no byte of two [`Gaps`] in it: a folder on a disk passes over these.
 //! - A [`WatchedFolder`] shows on a terminal how far the files of another folder are read, in per cent with the time
-//!   left if their [`KnownLength`] is known, and how far [`Work`] has come of which [`Folder::show_work`] is told.
+//!   left if their [`KnownLength`] is known, and how far [`Work`] has come that [`Folder::show_work`] reports.
 //!
-//! The words of the contracts, from `specs/Files.antt` but for the last four:
+//! Definitions that contracts use, from `specs/Files.antt` except for the last four:
 //!
 //! - `F.view` is what is known of a folder, a `View`: whether the bytes of its readers and writers are known, what an
 //!   opening of each name gives, at one time and another, what was put under each name last, and whether giving a file
@@ -22,7 +22,7 @@
 //! - `KeepsOthers name old new` says that only the file of this name may have changed. `IsPutInPart name old new bytes`
 //!   says that the file is as it was, or holds a prefix of these bytes, and this only if no old file had to be kept.
 //! - `watched_folder` and `watched_file` are what is watched (`specs/WatchedFolders.antt`), `gapped_file` is what is
-//!   read but for gaps, `gapped_place` the place of its next byte, `gaps_of` its gaps (`specs/GappedFiles.antt`).
+//!   read except for gaps, `gapped_place` the place of its next byte, `gaps_of` its gaps (`specs/GappedFiles.antt`).
 //! - `notes_of` is what a disk remembers of its calls, its [`Notes`] (`specs/Disks.antt`).
 //! - `protected_files` are the files that a disk does not replace (`specs/Protecting.antt`).
 //!
@@ -66,4 +66,5 @@ pub use folder::{Folder, FolderFault, Work};
 pub use gapped_file::{Gap, GappedFile, Gaps};
 pub use memory_folder::MemoryFolder;
 pub use notes::{Failure, Notes, Step};
+pub use opened::STANDARD;
 pub use watched_folder::{KnownLength, WatchedFile, WatchedFolder};

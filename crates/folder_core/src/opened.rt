@@ -10,7 +10,7 @@ use std::os::unix::fs::{FileTypeExt, MetadataExt};
 use std::rt::Files;
 
 /// The name of standard input when a file is read, and of standard output when one is written.
-pub(crate) const STANDARD: &str = "-";
+pub const STANDARD: &str = "-";
 
 const INPUT: &str = "/proc/self/fd/0";
 

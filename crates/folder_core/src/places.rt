@@ -23,7 +23,7 @@ pub(crate) enum Place {
     // To a path, with each link followed, after it was written in the same folder. The text has room for its path
     // there.
     Path(PathBuf, String),
-    // To the file itself: it is no file of a folder, or the system doesn't say what it is.
+    // To the file itself: it isn't a file of a folder, or the system doesn't say what it is.
     AsItStands,
 }
 

@@ -18,7 +18,7 @@ const MEGABYTE: u64 = 1_000_000;
 // What clears a line.
 const CLEARED: &str = "\r                              \r";
 
-// A line on standard error that is written again and again, and cleared when this value is dropped.
+// A line on standard error that is rewritten repeatedly, and cleared when this value is dropped.
 pub(crate) struct ProgressLine<'a, R: Clock + Eprint> {
     rt: &'a R,
     // When that began of which it is; none if it is never written.
@@ -128,7 +128,7 @@ pub(crate) fn show_sizes<R: Eprint>(rt: &R, master: u64, most_of_certificate: u6
     );
 }
 
-// A number of bytes in a unit that suits it: a whole number, and a tenth or nothing behind it.
+// A number of bytes in a unit that suits it: a whole number, and a tenth or nothing after it.
 #[derive(Clone, Copy)]
 struct Size {
     whole: u64,
@@ -180,7 +180,7 @@ fn seconds_since(began: Option<Instant>, now: Instant) -> u64 {
     }
 }
 
-// How many seconds what is left takes, where what was done took so many.
+// How many seconds the rest takes, if what was done took this many.
 fn seconds_left(seconds: u64, done: u64, all: u64) -> u64 {
     let left = u128::from(seconds).saturating_mul(u128::from(all.saturating_sub(done)));
     u64::try_from(left / u128::from(done.max(1))).unwrap_or(u64::MAX)

@@ -9,7 +9,7 @@
 //! converted while it is read. [`segment_bits`] says how much is processed at a time, [`segment_size`] how many bytes
 //! that is. [`push_rooms`] writes bits from reserved memory, and takes none.
 //!
-//! The words of the contracts (`specs/Reinterleaving.antt`):
+//! Definitions that contracts use (`specs/Reinterleaving.antt`):
 //! - `reinterleaved from to channels count bytes` is the re-interleaved bytes: the sound bytes, by `to`, of the
 //!   channels that the bytes hold by `from`.
 //! - `laced_in to channels` is the sound bytes of channels.

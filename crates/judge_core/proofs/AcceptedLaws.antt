@@ -44,14 +44,13 @@ use Rattle.cut_core.specs.Opening.{OpensCut}
 use Rattle.cut_core.proofs.BridgeLaws.{after_none, each_place, after_some}
 use Rattle.cut_core.proofs.ExcerptLaws.{below_at, can_cut}
 use Rattle.cut_core.proofs.ZipLaws.{zip_at, zip_long, zip_map}
-use Rattle.judge_core.specs.Checking.{IsMasterOf}
-use Rattle.judge_core.specs.Claims.{AreLeastBridges, IsLeastClaim, claim_at, claims, windows_total}
-use Rattle.judge_core.specs.Masters.{AreLeastChannels, AreMasterChannels, CostLeast, IsLeastChannel, IsMasterChannel, channel_numbers}
+use Rattle.cut_core.specs.Masters.{IsMasterOf, AreLeastChannels, AreMasterChannels, CostLeast, IsLeastChannel, IsMasterChannel, channel_numbers}
+use Rattle.cut_core.specs.Claims.{AreLeastBridges, IsLeastClaim, claim_at, claims, windows_total}
 use Rattle.judge_core.proofs.JudgeLaws.{channels_least, channels_made, have_shape}
-use Rattle.judge_core.proofs.LeastLaws.{cost_least}
-use Rattle.judge_core.proofs.TotalLaws.{own_long, windows_are_total}
+use Rattle.cut_core.proofs.LeastLaws.{cost_least}
+use Rattle.cut_core.proofs.TotalLaws.{own_long, windows_are_total}
 use Rattle.judge_core.specs.Accepting.{Accepts}
-use Rattle.judge_core.specs.Cutting.{SaysCut}
+use Rattle.request_core.specs.Cutting.{SaysCut}
 use Rattle.judge_core.specs.Laws.{AcceptedCostsLeast, AcceptedCostsWindows, AcceptedIsLeast, AcceptedIsMaster}
 
 -- ---- recordings

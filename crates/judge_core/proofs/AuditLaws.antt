@@ -16,7 +16,7 @@ use Rattle.form_core.specs.declared.form.Form.{Form}
 use Rattle.interleave_core.proofs.JoinLaws.{Appended, taken}
 use Rattle.cut_core.specs.Cuts.{AreAlike, CutContent, master_length, take_channels}
 use Rattle.judge_core.specs.declared.finding.CuedPlace.{CuedPlace}
-use Rattle.judge_core.specs.Checking.{HaveShape}
+use Rattle.cut_core.specs.Masters.{HaveShape}
 use Rattle.judge_core.specs.Comparing.{FindsOff}
 use Rattle.judge_core.specs.Kept.{FindsCued, IsFoundOf, FindAllOff, bridges_kept}
 use Rattle.sound_core.specs.Keepers.{Keeps}

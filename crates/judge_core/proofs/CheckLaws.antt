@@ -11,17 +11,16 @@ use Rattle.cert_core.specs.Readers.{failed_checks}
 use Rattle.cut_core.specs.Cuts.{CutContent}
 use Rattle.judge_core.specs.declared.verdict.Verdict.{Verdict}
 use Rattle.judge_core.specs.declared.verdict.Verdict.TheVariants.{Accepted, Rejected}
-use Rattle.judge_core.specs.Checking.{IsMasterOf}
-use Rattle.judge_core.specs.Claims.{IsCertOf}
+use Rattle.cut_core.specs.Masters.{IsMasterOf, total_cost}
+use Rattle.cut_core.specs.Claims.{IsCertOf}
 use Rattle.judge_core.specs.Judging.{AtCost, IsLeastOf, IsNoRejection, JudgesMaster}
-use Rattle.judge_core.specs.Masters.{total_cost}
 use Rattle.sound_core.specs.Faults.{failed_reads}
 use Rattle.sound_core.specs.declared.fault.StreamFault.TheVariants.{ReadFailed}
-use Rattle.transfer_core.specs.Faults.{as_stream}
-use Rattle.transfer_core.specs.declared.fault.Fault.TheVariants.{Memory, Stream}
+use Rattle.request_core.specs.Faults.{as_stream}
+use Rattle.request_core.specs.declared.fault.Fault.TheVariants.{Memory, Stream}
 use Rattle.judge_core.specs.Accepting.{Accepts, CostsLeast, CostsWindows, IfMasterAccepted, IfMasterRejected, IsAcceptedAt, IsLeastMaster, IsMaster, RejectsFirst, fault_of_check}
-use Rattle.judge_core.specs.Cutting.{SaysCut}
-use Rattle.judge_core.proofs.CuttingLaws.{one_cut, says_cut}
+use Rattle.request_core.specs.Cutting.{SaysCut}
+use Rattle.request_core.proofs.CuttingLaws.{one_cut, says_cut}
 
 -- what follows for known bytes, and what holds for all
 known_on : (known : Option (List ℕ)) (P Q : List ℕ → Type 0) → ((bytes : List ℕ) → P bytes → Q bytes) → IfSome known P → IfSome known Q

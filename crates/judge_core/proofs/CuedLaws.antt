@@ -9,13 +9,13 @@ use Rattle.std.proofs.lemmas.List.Sums.{sum_by_more}
 use Rattle.cost_core.specs.Channels.{Part, channel}
 use Rattle.cut_core.specs.Cuts.{CutContent, cue_at, cue_bits, master_length, span, take_channels}
 use Rattle.cut_core.specs.Keeping.{CanCut}
-use Rattle.judge_core.specs.Checking.{HaveShape, IsFirstDifference, rebuilt}
-use Rattle.judge_core.specs.Claims.{bridge_bits, bridge_start}
+use Rattle.cut_core.specs.Masters.{HaveShape, rebuilt, part_at, parts_of}
+use Rattle.judge_core.specs.Checking.{IsFirstDifference}
+use Rattle.cut_core.specs.Claims.{bridge_bits, bridge_start}
 use Rattle.judge_core.specs.Comparing.{IsOffCue, cue_start}
-use Rattle.judge_core.specs.Masters.{part_at, parts_of}
-use Rattle.judge_core.proofs.ChannelLaws.{before_long, channel_on, part_is, part_number, whole_length}
-use Rattle.judge_core.proofs.SliceLaws.{slice_at}
-use Rattle.judge_core.proofs.TotalLaws.{own_lengths, own_long}
+use Rattle.cut_core.proofs.ChannelLaws.{before_long, channel_on, part_is, part_number, whole_length}
+use Rattle.cut_core.proofs.SliceLaws.{slice_at}
+use Rattle.cut_core.proofs.TotalLaws.{own_lengths, own_long}
 
 same_or_not : (a b : Bool) → (a ≡ b) ⊎ (a ≢ b)
 same_or_not true true = inl refl

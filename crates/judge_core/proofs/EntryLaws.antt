@@ -19,13 +19,13 @@ use Rattle.cert_core.specs.declared.version.Version.{Version}
 use Rattle.cut_core.specs.declared.bridges.BridgePlace.{BridgePlace}
 use Rattle.cut_core.specs.Bridges.{IsPlace, bridges}
 use Rattle.cut_core.specs.Cuts.{CutContent}
-use Rattle.judge_core.specs.declared.verdict.Reason.{Reason}
-use Rattle.judge_core.specs.declared.verdict.Reason.TheVariants.{MasterUnread, MasterShape, MasterLength, MasterMarks, CuedBit, CertHead, Cert, CertExtra}
+use Rattle.request_core.specs.declared.reason.Reason.{Reason}
+use Rattle.request_core.specs.declared.reason.Reason.TheVariants.{MasterUnread, MasterShape, MasterLength, MasterMarks, CuedBit, CertHead, Cert, CertExtra}
 use Rattle.judge_core.specs.declared.verdict.Verdict.{Verdict}
 use Rattle.judge_core.specs.declared.verdict.Verdict.TheVariants.{Rejected}
 use Rattle.judge_core.specs.Checking.{CertReasons}
 use Rattle.judge_core.specs.Judging.{IsWrongFrom, JudgesCert, JudgesClaim, JudgesClaims, JudgesHead, LacksClaim, ReadsEntries, ShowsBridges, ShowsClaims}
-use Rattle.judge_core.specs.Claims.{IsCertOf, claim_at, claim_cost, claim_of, claims}
+use Rattle.cut_core.specs.Claims.{IsCertOf, claim_at, claim_cost, claim_of, claims}
 use Rattle.judge_core.specs.Kept.{AreBitsOf, claim_from}
 
 -- what was read, and then more

@@ -7,7 +7,7 @@ use Rattle.cut_core.specs.Cuts.{CutContent}
 use Rattle.sound_core.specs.Files.{IsRefused}
 use Rattle.sound_core.specs.Outlines.{AreStated, around_of, with_sound}
 use Rattle.form_core.specs.Forms.{form_in}
-use Rattle.transfer_core.proofs.FormLaws.{holds_as}
+use Rattle.request_core.proofs.FormLaws.{holds_as}
 use Rattle.judge_core.specs.declared.auditing.Audited.{Audited}
 use Rattle.judge_core.specs.declared.finding.Found.{Found}
 use Rattle.judge_core.specs.Auditing.{AuditsFile, AuditsGiven, found_in}

@@ -11,13 +11,13 @@ use Rattle.cut_core.specs.Cuts.{AreAlike, CutContent, take_channels}
 use Rattle.cut_core.specs.declared.bridges.BridgePlace.{BridgePlace}
 use Rattle.judge_core.specs.declared.finding.CuedPlace.{CuedPlace}
 use Rattle.judge_core.specs.declared.finding.Found.{Found}
-use Rattle.judge_core.specs.declared.verdict.Reason.{Reason}
-use Rattle.judge_core.specs.declared.verdict.Reason.TheVariants.{MasterUnread, MasterShape, MasterLength, MasterMarks, CuedBit, CertHead, Cert, CertExtra}
-use Rattle.judge_core.specs.Checking.{HaveShape, HoldCues, IsLike, IsMasterOf, MasterReason, OuterReason}
-use Rattle.judge_core.specs.Claims.{bridge_bits}
-use Rattle.judge_core.specs.Masters.{channel_numbers}
+use Rattle.request_core.specs.declared.reason.Reason.{Reason}
+use Rattle.request_core.specs.declared.reason.Reason.TheVariants.{MasterUnread, MasterShape, MasterLength, MasterMarks, CuedBit, CertHead, Cert, CertExtra}
+use Rattle.cut_core.specs.Masters.{HaveShape, HoldCues, IsMasterOf, channel_numbers}
+use Rattle.judge_core.specs.Checking.{IsLike, MasterReason, OuterReason}
+use Rattle.cut_core.specs.Claims.{bridge_bits}
 use Rattle.judge_core.specs.Kept.{AreKept, FindsCued, IsFoundOf, bridges_kept, kept_at, kept_items}
-use Rattle.judge_core.proofs.TotalLaws.{own_long}
+use Rattle.cut_core.proofs.TotalLaws.{own_long}
 
 -- ---- a recording q has what another one, r, has besides its bits
 module _ (cut : CutContent) (form : Form) (q r : Content) (count : ℕ) (rate : q.rate ≡ r.rate) (many : length q.channels ≡ length r.channels) (marks : q.marks ≡ r.marks) (count_is : count ≡ count_of r.channels) where

@@ -18,17 +18,17 @@ use Rattle.cut_core.specs.Keeping.{CanCut}
 use Rattle.cut_core.specs.declared.bridges.BridgePlace.{BridgePlace}
 use Rattle.cut_core.proofs.BridgeLaws.{after_some, all_in_flat, place_of}
 use Rattle.cut_core.proofs.ZipLaws.{zip_from, zip_number, zip_numbers}
-use Rattle.judge_core.specs.declared.verdict.Reason.{Reason}
-use Rattle.judge_core.specs.declared.verdict.Reason.TheVariants.{MasterUnread, MasterShape, MasterLength, MasterMarks, CuedBit, CertHead, Cert, CertExtra}
+use Rattle.request_core.specs.declared.reason.Reason.{Reason}
+use Rattle.request_core.specs.declared.reason.Reason.TheVariants.{MasterUnread, MasterShape, MasterLength, MasterMarks, CuedBit, CertHead, Cert, CertExtra}
 use Rattle.judge_core.specs.declared.verdict.Verdict.{Verdict}
 use Rattle.judge_core.specs.declared.verdict.Verdict.TheVariants.{Accepted, Rejected}
-use Rattle.judge_core.specs.Checking.{HaveShape, IsMasterOf, MasterReason, rebuilt}
-use Rattle.judge_core.specs.Claims.{AreLeastBridges, IsCertOf, IsLeastClaim, bridge_bits, claim_at}
+use Rattle.cut_core.specs.Masters.{HaveShape, IsMasterOf, rebuilt, AreLeastChannels, AreMasterChannels, IsLeastChannel, IsLeastPart, IsMasterChannel, part_at, parts_of}
+use Rattle.judge_core.specs.Checking.{MasterReason}
+use Rattle.cut_core.specs.Claims.{AreLeastBridges, IsCertOf, IsLeastClaim, bridge_bits, claim_at}
 use Rattle.judge_core.specs.Judging.{AtCost, IsLeastOf, IsNoRejection, JudgesCert, JudgesMaster}
-use Rattle.judge_core.specs.Masters.{AreLeastChannels, AreMasterChannels, IsLeastChannel, IsLeastPart, IsMasterChannel, part_at, parts_of}
-use Rattle.judge_core.proofs.ChannelLaws.{nothing_first}
-use Rattle.judge_core.proofs.LeastLaws.{cost_least}
-use Rattle.judge_core.proofs.TotalLaws.{own_lengths, own_long, windows_are_total}
+use Rattle.cut_core.proofs.ChannelLaws.{nothing_first}
+use Rattle.cut_core.proofs.LeastLaws.{cost_least}
+use Rattle.cut_core.proofs.TotalLaws.{own_lengths, own_long, windows_are_total}
 
 -- ---- a reason against a master
 pub reason_against : (cut : CutContent) (form : Form) (r : Content) (reason : Reason) → MasterReason cut form r reason → IsMasterOf cut form r → ⊥

@@ -1,16 +1,11 @@
 pub mod AcceptedLaws
 pub mod AuditLaws
-pub mod ChannelLaws
 pub mod CheckLaws
 pub mod CompareLaws
 pub mod CuedLaws
-pub mod CuttingLaws
 pub mod EntryLaws
 pub mod FindLaws
 pub mod FoundLaws
 pub mod JudgeLaws
-pub mod LeastLaws
 pub mod LowestLaws
 pub mod OffLaws
-pub mod SliceLaws
-pub mod TotalLaws

@@ -5,9 +5,9 @@ use Rattle.dsd_bits.specs.Contents.{Content}
 use Rattle.cut_core.specs.Cuts.{CutContent, take_channels}
 use Rattle.cut_core.specs.Keeping.{CanCut}
 use Rattle.cut_core.proofs.ZipLaws.{zip_numbers}
-use Rattle.judge_core.specs.Checking.{HaveShape, HoldCues, IsFirstCuedBit, rebuilt}
+use Rattle.cut_core.specs.Masters.{HaveShape, HoldCues, rebuilt, channel_numbers}
+use Rattle.judge_core.specs.Checking.{IsFirstCuedBit}
 use Rattle.judge_core.specs.Comparing.{FindsOff}
-use Rattle.judge_core.specs.Masters.{channel_numbers}
 use Rattle.judge_core.specs.Kept.{FindAllOff}
 use Rattle.judge_core.proofs.CuedLaws.{first_off, on_cues}
 

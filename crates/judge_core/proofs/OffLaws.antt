@@ -7,8 +7,8 @@ use Rattle.std.proofs.lemmas.List.Sums.{sum_by_more}
 use Rattle.cut_core.specs.Cuts.{CutContent, cue_at, cue_bits, span, take_channels}
 use Rattle.cut_core.specs.Keeping.{CanCut}
 use Rattle.judge_core.specs.Comparing.{FindsFirst, IsFirst, IsOffAt, IsOffCue, IsOffPart, FindsOff, cue_start}
-use Rattle.judge_core.proofs.ChannelLaws.{cue_long}
-use Rattle.judge_core.proofs.SliceLaws.{slice_at}
+use Rattle.cut_core.proofs.ChannelLaws.{cue_long}
+use Rattle.cut_core.proofs.SliceLaws.{slice_at}
 
 -- ---- cues follow each other
 rises : (cut : CutContent) (k j : ℕ) → j + k < length cut.splice.cues → cue_start cut j + span (cue_at cut j) ≤ cue_start cut (j + 1 + k)

@@ -8,19 +8,19 @@ use Rattle.cert_core.specs.declared.reader.CertReader.{CertReader}
 use Rattle.cert_core.specs.declared.verdict.CheckFault.{CheckFault}
 use Rattle.cert_core.specs.declared.verdict.CheckFault.TheVariants as certs
 use Rattle.cut_core.specs.Cuts.{CutContent}
-use Rattle.judge_core.specs.declared.verdict.Reason.{Reason}
-use Rattle.judge_core.specs.declared.verdict.Reason.TheVariants.{MasterUnread}
+use Rattle.request_core.specs.declared.reason.Reason.{Reason}
+use Rattle.request_core.specs.declared.reason.Reason.TheVariants.{MasterUnread}
 use Rattle.judge_core.specs.declared.verdict.Verdict.{Verdict}
 use Rattle.judge_core.specs.declared.verdict.Verdict.TheVariants.{Accepted, Rejected}
-use Rattle.judge_core.specs.Checking.{IsMasterOf, IsTitled, IsFirstAgainst}
-use Rattle.judge_core.specs.Claims.{IsCertOf, windows_total}
+use Rattle.cut_core.specs.Masters.{IsMasterOf, IsTitled, AreLeastChannels, AreMasterChannels, CostLeast, total_cost}
+use Rattle.judge_core.specs.Checking.{IsFirstAgainst}
+use Rattle.cut_core.specs.Claims.{IsCertOf, windows_total}
 use Rattle.judge_core.specs.Finding.{HoldsNothing, IsFoundHeld, IsFoundIn}
 use Rattle.judge_core.specs.declared.finding.Found.{Found}
-use Rattle.judge_core.specs.Masters.{AreLeastChannels, AreMasterChannels, CostLeast, total_cost}
 use Rattle.sound_core.specs.declared.fault.StreamFault.TheVariants.{ReadFailed}
-use Rattle.transfer_core.specs.declared.fault.Fault.{Fault}
-use Rattle.transfer_core.specs.declared.fault.Fault.TheVariants.{Stream, Memory}
-use Rattle.judge_core.specs.Cutting.{SaysCut}
+use Rattle.request_core.specs.declared.fault.Fault.{Fault}
+use Rattle.request_core.specs.declared.fault.Fault.TheVariants.{Stream, Memory}
+use Rattle.request_core.specs.Cutting.{SaysCut}
 
 -- the file holds a master of the project and the takes, the certificate shows each of its bridges to be least, and this
 -- is their total cost

@@ -8,7 +8,7 @@ use Rattle.dsd_bits.specs.Sounds.{sound_channels}
 use Rattle.form_core.specs.declared.form.Form.{Form}
 use Rattle.cut_core.specs.Cuts.{CutContent, cue_at, master_length, take_channels}
 use Rattle.judge_core.specs.declared.finding.Found.{Found}
-use Rattle.judge_core.specs.Claims.{bridge_start}
+use Rattle.cut_core.specs.Claims.{bridge_start}
 use Rattle.judge_core.specs.Comparing.{FindsOff}
 use Rattle.judge_core.specs.Kept.{IsFoundOf, FindAllOff}
 use Rattle.sound_core.specs.Keepers.{Keeps}

@@ -1,6 +1,6 @@
 -- Which recordings are masters of a cut, and the first reason against others.
-use Rattle.std.specs.Prelude.{◌≡◌, ◌≢◌, ℕ, ◌-◌, ◌<◌, ◌⊎◌, Bool, false, List, [], ◌++◌, All, Option, MatchOption, length, map, slice_index_or, take}
-use Rattle.std.specs.List.{AllZip, range_with_len}
+use Rattle.std.specs.Prelude.{◌≡◌, ◌≢◌, ℕ, ◌<◌, ◌⊎◌, Bool, false, List, [], ◌++◌, Option, MatchOption, length, slice_index_or, take}
+use Rattle.std.specs.List.{range_with_len}
 use Rattle.dsd_bits.specs.Channels.{count_of}
 use Rattle.dsd_bits.specs.Contents.{Content}
 use Rattle.form_core.specs.declared.form.Form.{Form}
@@ -12,36 +12,12 @@ use Rattle.cert_core.specs.Reasons.{FirstReason, HeadReason}
 use Rattle.cert_core.specs.Text.{cert_head}
 use Rattle.cert_core.specs.declared.version.Version.{Version}
 use Rattle.cert_core.specs.declared.verdict.CertReason.{CertReason}
-use Rattle.cut_core.specs.Cuts.{AreAlike, CutContent, master_length, take_channels}
+use Rattle.cut_core.specs.Cuts.{AreAlike, CutContent, master_length}
 use Rattle.cut_core.specs.Titles.{titles_of}
-use Rattle.judge_core.specs.declared.verdict.Reason.{Reason}
-use Rattle.judge_core.specs.declared.verdict.Reason.TheVariants.{MasterShape, MasterLength, MasterMarks, CuedBit, CertHead, Cert, CertExtra}
-use Rattle.judge_core.specs.Claims.{bridge_bits, claims}
-use Rattle.judge_core.specs.Masters.{channel_numbers, master_channel}
-
--- there are as many channels as a master has, and each is as long
-pub record HaveShape (cut : CutContent) (zs : List (List Bool)) : Type 0 where
-  pub as_many : length zs ≡ take_channels cut
-  pub long : All (λ z. length z ≡ master_length cut.splice.cues) zs
-
--- a DSDIFF master has the marks of the titles
-abbrev pub IsTitled : CutContent → Form → Content → Type 0
-IsTitled cut form r = form ≡ Dsdiff → r.marks ≡ titles_of cut
-
--- a channel rebuilt from the cues, and from its own bits between them
-abbrev pub rebuilt : CutContent → ℕ → List Bool → List Bool
-rebuilt cut c z = master_channel cut c (map (bridge_bits cut z) (range_with_len 0 (length cut.splice.cues - 1)))
-
--- the channels of these numbers hold the cues where they belong
-abbrev pub HoldCues : CutContent → List ℕ → List (List Bool) → Type 0
-HoldCues cut cs zs = AllZip (λ c z. z ≡ rebuilt cut c z) cs zs
-
--- a recording is the master of a cut, whatever its bridges
-pub record IsMasterOf (cut : CutContent) (form : Form) (r : Content) : Type 0 where
-  pub shape : AreAlike cut.first r
-  pub long : count_of r.channels ≡ master_length cut.splice.cues
-  pub titled : IsTitled cut form r
-  pub cued : HoldCues cut (channel_numbers cut) r.channels
+use Rattle.request_core.specs.declared.reason.Reason.{Reason}
+use Rattle.request_core.specs.declared.reason.Reason.TheVariants.{MasterShape, MasterLength, MasterMarks, CuedBit, CertHead, Cert, CertExtra}
+use Rattle.cut_core.specs.Claims.{claims}
+use Rattle.cut_core.specs.Masters.{HoldCues, IsMasterOf, IsTitled, rebuilt}
 
 -- what can be said without its bits: it is like the takes, has as many bits as a master, and the marks of the titles
 pub record IsLike (cut : CutContent) (form : Form) (r : Content) (count : ℕ) : Type 0 where

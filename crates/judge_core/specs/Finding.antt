@@ -8,7 +8,7 @@ use Rattle.form_core.specs.Forms.{HoldsAs}
 use Rattle.cut_core.specs.Cuts.{CutContent}
 use Rattle.sound_core.specs.Reads.{Reads}
 use Rattle.judge_core.specs.declared.finding.Found.{Found}
-use Rattle.judge_core.specs.Cutting.{SaysCut}
+use Rattle.request_core.specs.Cutting.{SaysCut}
 use Rattle.judge_core.specs.Kept.{IsFoundOf}
 
 -- the file isn't of any form

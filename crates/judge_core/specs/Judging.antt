@@ -20,13 +20,13 @@ use Rattle.form_core.specs.declared.form.Form.{Form}
 use Rattle.cut_core.specs.Cuts.{CutContent}
 use Rattle.cut_core.specs.declared.bridges.BridgePlace.{BridgePlace}
 use Rattle.judge_core.specs.declared.finding.Found.{Found}
-use Rattle.judge_core.specs.declared.verdict.Reason.TheVariants.{Cert}
+use Rattle.request_core.specs.declared.reason.Reason.TheVariants.{Cert}
 use Rattle.judge_core.specs.declared.verdict.Verdict.{Verdict}
 use Rattle.judge_core.specs.declared.verdict.Verdict.TheVariants.{Accepted, Rejected}
-use Rattle.judge_core.specs.Checking.{CertReasons, IsMasterOf, IsFirstAgainst}
-use Rattle.judge_core.specs.Claims.{AreLeastBridges, IsCertOf, IsLeastClaim, claim_cost, windows_total}
+use Rattle.cut_core.specs.Masters.{IsMasterOf, AreLeastChannels, AreMasterChannels, CostLeast, total_cost}
+use Rattle.judge_core.specs.Checking.{CertReasons, IsFirstAgainst}
+use Rattle.cut_core.specs.Claims.{AreLeastBridges, IsCertOf, IsLeastClaim, claim_cost, windows_total}
 use Rattle.judge_core.specs.Kept.{AreBitsOf, ForFoundOf, claim_from, kept_items}
-use Rattle.judge_core.specs.Masters.{AreLeastChannels, AreMasterChannels, CostLeast, total_cost}
 
 -- it isn't a rejection
 abbrev pub IsNoRejection : Verdict → Type 0

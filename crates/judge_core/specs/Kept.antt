@@ -12,10 +12,10 @@ use Rattle.cut_core.specs.Cuts.{AreAlike, CutContent, cue_at, master_length, tak
 use Rattle.cut_core.specs.declared.bridges.BridgePlace.{BridgePlace}
 use Rattle.judge_core.specs.declared.finding.CuedPlace.{CuedPlace}
 use Rattle.judge_core.specs.declared.finding.Found.{Found}
-use Rattle.judge_core.specs.Checking.{HaveShape, HoldCues, IsFirstCuedBit}
-use Rattle.judge_core.specs.Claims.{bridge_bits, claim_of}
+use Rattle.cut_core.specs.Masters.{HaveShape, HoldCues, channel_numbers}
+use Rattle.judge_core.specs.Checking.{IsFirstCuedBit}
+use Rattle.cut_core.specs.Claims.{bridge_bits, claim_of}
 use Rattle.judge_core.specs.Comparing.{FindsOff}
-use Rattle.judge_core.specs.Masters.{channel_numbers}
 
 -- ---- bits that are kept
 -- by cue but the last, and by channel, the bits of the bridge after it

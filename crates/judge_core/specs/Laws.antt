@@ -1,13 +1,6 @@
 -- How the words of the contracts are related.
-use Rattle.std.specs.Prelude.{◌≡◌, ℕ, List, Ok, Option}
-use Rattle.form_core.specs.declared.form.Form.{Form}
-use Rattle.cut_core.specs.Cuts.{CutContent}
+use Rattle.std.specs.Prelude.{ℕ, List}
 use Rattle.judge_core.specs.Accepting.{Accepts, CostsLeast, CostsWindows, IsLeastMaster, IsMaster}
-use Rattle.judge_core.specs.Cutting.{SaysCut, said_cut}
-
--- reading in order returns the cut of a project and files
-abbrev pub SaysCutInOrder : Type 0
-SaysCutInOrder = (project : List ℕ) (files : List (List ℕ)) (form : Option Form) (cut : CutContent) → SaysCut project files form cut → said_cut project files form ≡ Ok cut
 
 -- what is accepted with a certificate is a master of the project and takes
 abbrev pub AcceptedIsMaster : Type 0

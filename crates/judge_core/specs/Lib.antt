@@ -1,11 +1,8 @@
 pub mod Accepting
 pub mod Auditing
 pub mod Checking
-pub mod Claims
 pub mod Comparing
-pub mod Cutting
 pub mod Finding
 pub mod Judging
-pub mod Laws
-pub mod Masters
 pub mod Kept
+pub mod Laws

@@ -5,22 +5,21 @@ ghost use Rattle.cert_core.specs.Readers.{cert_inlet, check_failures};
 ghost use Rattle.cut_core.specs.Opening.{file_bytes};
 ghost use Rattle.chunk_core.specs.Inlets.{inlet_failures};
 ghost use Rattle.judge_core.specs.Accepting.{Accepts, AcceptsAny, AcceptsAnyLeft, AcceptsLeft, CostsIfLeft, CostsLeast, CostsWindows, ForEachHeld, OnAccepted, IfMasterAccepted, IfMasterRejected, IsLeastMaster, IsMaster, RejectsFirst, RejectsLeft, fault_of_check};
-ghost use Rattle.judge_core.specs.Cutting.{IsFaultOfCut};
+ghost use Rattle.request_core.specs.Cutting.{IsFaultOfCut};
 ghost use Rattle.judge_core.specs.Finding.{IsFoundInSome};
 ghost use Rattle.sound_core.specs.Faults.{failed_reads};
-ghost use Rattle.transfer_core.specs.Faults.{as_stream};
+ghost use Rattle.request_core.specs.Faults.{as_stream};
 
-use crate::cutting::cut_files;
 use crate::finding::{Found, judge_found};
 use crate::reading::find_master;
-use crate::verdict::{Reason, Verdict};
+use crate::verdict::Verdict;
 use cert_core::{CertReader, CheckFault};
 use chunk_core::Inlet;
 use cut_core::Cut;
+use request_core::{Fault, Reason, cut_files};
 use sound_core::StreamFault;
 use std::alloc::Global;
 use std::io::Read;
-use transfer_core::Fault;
 
 /// Whether a file is the master of a project and its takes, and a certificate shows that none of its bridges could cost
 /// less, whoever wrote them. It is accepted exactly if this is so, with the total cost of the bridges of all channels.

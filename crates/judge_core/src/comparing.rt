@@ -4,12 +4,13 @@ ghost use Rattle.std.specs.Prelude.{◌≡◌, ◌≢◌, IfOk, false, map, true
 ghost use Rattle.dsd_bits.specs.Contents.{mark_content};
 ghost use Rattle.form_core.specs.declared.form.Form.TheVariants.{Dsdiff};
 ghost use Rattle.cut_core.specs.Titles.{titles_of};
-ghost use Rattle.judge_core.specs.Checking.{FindsOuterReason, IsTitled};
+ghost use Rattle.cut_core.specs.Masters.{IsTitled};
+ghost use Rattle.judge_core.specs.Checking.{FindsOuterReason};
 
-use crate::verdict::Reason;
 use cut_core::{Cut, differ};
 use dsd_bits::{Mark, Recording};
 use form_core::Form;
+use request_core::Reason;
 use std::alloc::{AllocError, Global};
 
 /// The first reason why a recording isn't the master of the cut, among those that need none of its bits: its rate or

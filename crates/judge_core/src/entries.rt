@@ -5,15 +5,16 @@ ghost use Rattle.std.specs.Io.KnownBytes.{IsAtEnd};
 ghost use Rattle.chunk_core.specs.Inlets.{inlet_failures, inlet_reader};
 ghost use Rattle.cert_core.specs.Readers.{IfLeft, cert_inlet, check_failures, failed_checks, has_read_head, read_version};
 ghost use Rattle.cut_core.specs.Bridges.{IsPlace};
-ghost use Rattle.judge_core.specs.Claims.{claim_over};
+ghost use Rattle.cut_core.specs.Claims.{claim_over};
 ghost use Rattle.judge_core.specs.Judging.{JudgesAllKept, JudgesHeadOf, JudgesKept, JudgesNext};
 ghost use Rattle.judge_core.specs.Kept.{AreKept, kept_at, kept_claim, kept_items};
 
-use crate::verdict::{Reason, Verdict};
+use crate::verdict::Verdict;
 use cert_core::{CertReader, CertReason, CertVerdict, CheckFault, cert_goes_on, read_is_cert};
 use cost_core::Window;
 use cut_core::{BridgePlace, Cut};
 use dsd_bits::Bits;
+use request_core::Reason;
 use std::alloc::Global;
 use std::io::Read;
 

@@ -11,12 +11,13 @@ ghost use Rattle.judge_core.specs.Kept.{AreKept, FindsLowest, ForFoundOf, IsFoun
 
 use crate::comparing::outer_reason;
 use crate::entries::judge_certificate;
-use crate::verdict::{Reason, Verdict};
+use crate::verdict::Verdict;
 use cert_core::{CertReader, CheckFault};
 use cost_core::{least_together, places_are_windows};
 use cut_core::Cut;
 use dsd_bits::{Bits, Recording};
 use form_core::Form;
+use request_core::Reason;
 use std::alloc::{AllocError, Global};
 use std::io::Read;
 

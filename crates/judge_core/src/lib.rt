@@ -2,10 +2,9 @@
 //! Nothing here makes a master, and nothing searches: this crate builds on the costs of bridges (`cost_core`), on what
 //! a certificate shows (`cert_core`) and on the cuts of takes (`cut_core`).
 //!
-//! [`check`] judges a master and its certificate, starting from project and files. [`cut_files`] opens the cut of
-//! project and takes, [`find_master`] reads the master's file once, and [`check_found`] judges what was found of it
-//! ([`Found`]) with a certificate that is judged while it is read. Each of them can be called alone, over any reader.
-//! [`cut_excerpts`] opens the cut from parts of takes that were read before.
+//! [`check`] judges a master and its certificate, starting from project and files. For the cut of these,
+//! [`find_master`] reads the master's file once, and [`check_found`] judges what was found of it ([`Found`]) with a
+//! certificate that is judged while it is read. Each of them can be called alone, over any reader.
 //!
 //! While the sound of a master is read, a few groups of blocks at a time, an auditor (`auditor.rt`) compares it with
 //! the cues (`cueing.rt`) and keeps the bits of the bridges (`ranges.rt`). Besides these at most three blocks of the
@@ -13,16 +12,11 @@
 //! one list, the bridges of the cut by rising cue and then by rising channel: `entries.rt` judges their entries, and
 //! their total cost is the sum over that list.
 //!
-//! The words of the contracts:
+//! The words of the contracts, besides those of [`cut_core`]:
 //!
-//! - `SaysCut project files form cut` says that this is the cut of project and files (`specs/Cutting.antt`).
 //! - `IsMaster project files file` says that a file is a master, whatever its bridges. `Accepts project files master
 //!   cert cost` says that it is one, that the certificate shows each bridge to be least, and that this is their total
 //!   cost (`specs/Accepting.antt`).
-//! - `IsMasterOf cut form recording`: a recording is a master of a cut, whatever its bridges (`specs/Checking.antt`).
-//! - `claims cut channels`: what a certificate must show for these channels, bridge by bridge. `IsCertOf` says that it
-//!   does. `windows_total` is the sum over the bridges, `total_cost` the sum over whole channels (`specs/Claims.antt`,
-//!   `specs/Masters.antt`).
 //! - `JudgesMaster cut form recording cert verdict`: what a verdict says (`specs/Judging.antt`).
 //! - `IsFoundOf cut found recording`: this was found of the recording, and kept of its bridges (`specs/Kept.antt`).
 //!   `IsFoundHeld cut file found` says that a file holds such a recording, or holds none if nothing was found
@@ -44,7 +38,6 @@ mod auditor;
 mod checking;
 mod comparing;
 mod cueing;
-mod cutting;
 mod entries;
 mod finding;
 mod laws;
@@ -53,8 +46,8 @@ mod reading;
 mod verdict;
 
 pub use checking::{check, check_found};
-pub use cutting::{cut_excerpts, cut_files};
 pub use finding::{CuedPlace, Found};
 pub use laws::accepted_is_least;
 pub use reading::find_master;
-pub use verdict::{Reason, Verdict};
+pub use request_core::Reason;
+pub use verdict::Verdict;

@@ -17,12 +17,12 @@ use Rattle.master_core.specs.Certificates.{cert_of, claims_text}
 use Rattle.master_core.specs.Certifying.{Certifies}
 use Rattle.master_core.specs.Choosing.{AreBridgesOf, AreChosen, IsChosen, IsChosenAt, chosen_claims, chosen_cost, window_at}
 use Rattle.master_core.specs.declared.choosing.ChosenBridges.{ChosenBridges}
-use Rattle.judge_core.specs.Claims.{IsCertOf, bridge_bits, claim_at, claim_cost, claim_of, claims, windows_total}
+use Rattle.cut_core.specs.Claims.{IsCertOf, bridge_bits, claim_at, claim_cost, claim_of, claims, windows_total}
 use Rattle.master_core.specs.Best.{AreBestChannels, IsBestChannel, IsFirstLeastPart}
-use Rattle.judge_core.specs.Masters.{part_at, parts_of}
+use Rattle.cut_core.specs.Masters.{part_at, parts_of}
 use Rattle.master_core.proofs.CertLaws.{IsShowable, text_is_cert}
 use Rattle.master_core.proofs.MasterLaws.{best_lengths, one_first_least}
-use Rattle.judge_core.proofs.ChannelLaws.{bridge_in_channel, part_is, part_number}
+use Rattle.cut_core.proofs.ChannelLaws.{bridge_in_channel, part_is, part_number}
 
 -- ---- one bridge more
 pub cost_more : (xs : List Chosen) (x : Chosen) (total k : ℕ) → total ≡ chosen_cost xs → k ≡ x.cost → total + k ≡ chosen_cost (xs ++ x ∷ [])

@@ -18,10 +18,9 @@ use Rattle.cut_core.specs.Keeping.{CanCut}
 use Rattle.cut_core.specs.Titles.{mark_of_title, titles_from}
 use Rattle.cut_core.proofs.CutLaws.{first_shape}
 use Rattle.cut_core.proofs.ZipLaws.{zip_map, zip_numbers_long, zip_range}
-use Rattle.judge_core.specs.Checking.{HaveShape, HoldCues, IsMasterOf, rebuilt}
+use Rattle.cut_core.specs.Masters.{HaveShape, HoldCues, IsMasterOf, rebuilt, AreLeastChannels, AreMasterChannels, IsLeastChannel, IsLeastPart, IsMasterChannel, channel_numbers, master_channel, parts_of, total_cost}
 use Rattle.master_core.specs.Best.{AreBestChannels, IsBestChannel, IsBestMaster, IsFirstLeastPart, marks_in, master_of}
-use Rattle.judge_core.specs.Masters.{AreLeastChannels, AreMasterChannels, IsLeastChannel, IsLeastPart, IsMasterChannel, channel_numbers, master_channel, parts_of, total_cost}
-use Rattle.judge_core.proofs.ChannelLaws.{is_rebuilt}
+use Rattle.cut_core.proofs.ChannelLaws.{is_rebuilt}
 
 -- ---- first least bits
 -- first least bits have the bridges' lengths

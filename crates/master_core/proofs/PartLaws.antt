@@ -18,14 +18,14 @@ use Rattle.cut_core.specs.declared.bridges.BridgePlace.{BridgePlace}
 use Rattle.cut_core.proofs.BridgeLaws.{no_bridge, other_place, range_more, same_place}
 use Rattle.cut_core.proofs.ZipLaws.{zip_long, zip_more, zip_of_map}
 use Rattle.master_core.specs.Choosing.{AreChosen, IsChosenAt}
-use Rattle.judge_core.specs.Claims.{bridge_start}
+use Rattle.cut_core.specs.Claims.{bridge_start}
 use Rattle.master_core.specs.Best.{AreBestChannels, IsBestChannel, IsFirstLeastPart, master_of}
-use Rattle.judge_core.specs.Masters.{part_at, total_cost}
+use Rattle.cut_core.specs.Masters.{part_at, total_cost}
 use Rattle.master_core.specs.Parting.{IsStepAdded, counted_from, within}
 use Rattle.master_core.specs.Writing.{HasOneBest}
-use Rattle.judge_core.proofs.ChannelLaws.{channel_on, nothing_first, whole_length}
+use Rattle.cut_core.proofs.ChannelLaws.{channel_on, nothing_first, whole_length}
 use Rattle.master_core.proofs.MasterLaws.{one_master}
-use Rattle.judge_core.proofs.SliceLaws.{slice-append}
+use Rattle.cut_core.proofs.SliceLaws.{slice-append}
 
 -- ---- a channel up to a bridge
 -- the first least bits for the bridge after cue i in channel c

@@ -25,7 +25,7 @@ use Rattle.cut_core.proofs.ZipLaws.{zip_more, zip_numbers_long}
 use Rattle.master_core.specs.Best.{AreBestChannels, IsBestChannel}
 use Rattle.master_core.specs.Parting.{AreBestParts, IsBestPart, within}
 use Rattle.master_core.specs.Writing.{AreRooms, HasOneBest, WritesBest, WritesBestPrefix, WritesPart, WritesPartPrefix}
-use Rattle.judge_core.proofs.SliceLaws.{length-slice, slice_all, slice_join}
+use Rattle.cut_core.proofs.SliceLaws.{length-slice, slice_all, slice_join}
 
 -- ---- prefixes of what is written
 pub prefix_more : (a b : Option (List ℕ)) (xs ys : List ℕ) → AppendsPart a b xs → AppendsPart a b (xs ++ ys)

@@ -8,7 +8,7 @@ use Rattle.cost_core.specs.Bridges.{IsFirstLeastBridge}
 use Rattle.cost_core.specs.Channels.{Part}
 use Rattle.cut_core.specs.Cuts.{CutContent}
 use Rattle.cut_core.specs.Titles.{titles_of}
-use Rattle.judge_core.specs.Masters.{channel_numbers, master_channel, parts_of, total_cost}
+use Rattle.cut_core.specs.Masters.{channel_numbers, master_channel, parts_of, total_cost}
 
 -- the bits are the first of the least lists of bits of a bridge
 abbrev pub IsFirstLeastPart : Part → List Bool → Type 0

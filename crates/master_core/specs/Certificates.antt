@@ -8,7 +8,7 @@ use Rattle.cert_core.specs.Certificates.{Claim, IsCert}
 use Rattle.cert_core.specs.Text.{Entry, cert_entry, cert_head}
 use Rattle.cert_core.specs.declared.version.Version.TheVariants.{Two}
 use Rattle.cut_core.specs.Cuts.{CutContent}
-use Rattle.judge_core.specs.Claims.{IsLeastClaim, claim_cost, claims}
+use Rattle.cut_core.specs.Claims.{IsLeastClaim, claim_cost, claims}
 
 -- the rows of a claim: for each level and each state the least sum of steps over all lists of bits that lead there, or
 -- the cost of the claim's bits if that is less

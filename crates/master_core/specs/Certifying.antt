@@ -12,7 +12,7 @@ use Rattle.cert_core.specs.declared.version.Version.TheVariants.{Two}
 use Rattle.cert_core.specs.declared.writer.CertWriter.{CertWriter}
 use Rattle.cut_core.specs.Cuts.{CutContent}
 use Rattle.cut_core.specs.declared.bridges.BridgePlace.{BridgePlace}
-use Rattle.judge_core.specs.Claims.{claim_over}
+use Rattle.cut_core.specs.Claims.{claim_over}
 use Rattle.master_core.specs.Certificates.{claims_text, entry_text}
 use Rattle.master_core.specs.Choosing.{chosen_claims}
 use Rattle.master_core.specs.declared.certifying.CertifyingRoom.{CertifyingRoom}

@@ -8,7 +8,7 @@ use Rattle.trellis_core.specs.declared.bridging.Chosen.{Chosen}
 use Rattle.cut_core.specs.Bridges.{IsPlace, bridges}
 use Rattle.cut_core.specs.Cuts.{CutContent, cue_at, window}
 use Rattle.cut_core.specs.declared.bridges.BridgePlace.{BridgePlace}
-use Rattle.judge_core.specs.Claims.{claim_of}
+use Rattle.cut_core.specs.Claims.{claim_of}
 use Rattle.master_core.specs.declared.choosing.ChosenBridges.{ChosenBridges}
 
 -- the first least bits of a bridge, and their cost

@@ -5,9 +5,9 @@ use Rattle.cut_core.specs.Bridges.{bridges}
 use Rattle.cut_core.specs.Cuts.{CutContent, cue_at, cue_bits, master_length}
 use Rattle.cut_core.specs.declared.bridges.BridgePlace.{BridgePlace}
 use Rattle.master_core.specs.Choosing.{AreChosen}
-use Rattle.judge_core.specs.Claims.{bridge_start}
+use Rattle.cut_core.specs.Claims.{bridge_start}
 use Rattle.master_core.specs.Best.{AreBestChannels, IsBestChannel, IsFirstLeastPart}
-use Rattle.judge_core.specs.Masters.{part_at}
+use Rattle.cut_core.specs.Masters.{part_at}
 use Rattle.master_core.specs.declared.parting.MasterSource.{MasterSource}
 
 -- a `MasterSource` holds the bits that were chosen for all bridges of its cut

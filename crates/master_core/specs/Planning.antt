@@ -4,11 +4,10 @@ use Rattle.form_core.specs.declared.form.Form.{Form}
 use Rattle.form_core.specs.Forms.{text_in}
 use Rattle.form_core.specs.Writing.{HoldsSound}
 use Rattle.cut_core.specs.Cuts.{CutContent}
-use Rattle.judge_core.specs.Checking.{IsMasterOf}
+use Rattle.cut_core.specs.Masters.{IsMasterOf, AreMasterChannels, CostLeast, total_cost}
 use Rattle.master_core.specs.Choosing.{chosen_claims}
-use Rattle.judge_core.specs.Claims.{claims, windows_total}
+use Rattle.cut_core.specs.Claims.{claims, windows_total}
 use Rattle.master_core.specs.Best.{AreBestChannels, master_of}
-use Rattle.judge_core.specs.Masters.{AreMasterChannels, CostLeast, total_cost}
 use Rattle.master_core.specs.declared.choosing.ChosenBridges.{ChosenBridges}
 
 -- the cut has one list of best channels, and no other: they make a master with the cost of the bridges, and no master

@@ -4,7 +4,7 @@
 //! bridge of a [`Cut`](cut_core::Cut). As it searches, and as [`certify`] writes, the watch is told how far it has come. [`write_master`] writes the file of the best master, and [`certify`] the certificate that shows
 //! its bridges to be least, while its rows are made. Both walk one list, the bridges of the cut by rising cue and then by
 //! rising channel: `choosing.rt` searches them, `certifying.rt` makes their rows again and writes their entries. Whether
-//! a recording is a master, and what it costs, is defined by [`judge_core`], which judges what is written here.
+//! a recording is a master, and what it costs, is defined by [`cut_core`].
 //!
 //! [`write_master`] writes the best master although its channels are never in memory: group by group, each channel's
 //! part of it made from cues and chosen bridges (`parting.rt`, `writing.rt`, `filing.rt`). It uses memory that

@@ -2,7 +2,7 @@
 
 ghost use Rattle.std.specs.Prelude.{◌≡◌, ◌+◌, ◌-◌, ◌<◌, ◌≤◌, ◌++◌, [], length};
 ghost use Rattle.cut_core.specs.Cuts.{cue_at, cue_bits, take_channels};
-ghost use Rattle.judge_core.specs.Claims.{bridge_start};
+ghost use Rattle.cut_core.specs.Claims.{bridge_start};
 ghost use Rattle.master_core.specs.Parting.{IsBestAt, IsBestPart, IsPartAdded, HasChosen, IsStepAdded, within};
 
 use crate::choosing::chosen_at;

@@ -46,7 +46,12 @@ fn walks(rt: HostRuntime) -> Result<(), Fail> {
 
 #[test]
 fn names_where_it_is_cut(rt: HostRuntime) {
-    assert!(rt; fault(rt.alloc(), 12) == Some(ChunkFault::DataCut(0)));
+    let cut = ChunkFault::DataCut {
+        place: 0,
+        id: *b"AAAA",
+        size: 1,
+    };
+    assert!(rt; fault(rt.alloc(), 12) == Some(cut));
     assert!(rt; fault(rt.alloc(), 11) == Some(ChunkFault::HeadCut(0)));
 }
 

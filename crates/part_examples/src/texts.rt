@@ -67,7 +67,14 @@ const LACES: &[(LaceFault, &str)] = &[
 
 const CHUNKS: &[(ChunkFault, &str)] = &[
     (ChunkFault::HeadCut(0), "HeadCut 0"),
-    (ChunkFault::DataCut(114), "DataCut 114"),
+    (
+        ChunkFault::DataCut {
+            place: 114,
+            id: *b"DSD ",
+            size: 8,
+        },
+        "DataCut 114",
+    ),
     (ChunkFault::Memory, "Memory"),
 ];
 
@@ -75,7 +82,13 @@ const CHUNKS: &[(ChunkFault, &str)] = &[
 const FORMS: &[(DsdiffFault, &str)] = &[
     (DsdiffFault::NotDsdiff, "NotDsdiff"),
     (DsdiffFault::Twice([0, 0, 0, 0xa]), "Twice 0000000a"),
-    (DsdiffFault::TooLong, "TooLong"),
+    (
+        DsdiffFault::TooLong {
+            size: 1,
+            channels: 1,
+        },
+        "TooLong",
+    ),
     (DsdiffFault::Memory, "Memory"),
 ];
 

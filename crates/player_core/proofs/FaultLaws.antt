@@ -1,5 +1,5 @@
 -- Which faults are true, stop the reading or come before the first write, by where they arose.
-use Rattle.std.proofs.Common.{◌≡◌, ℕ, List, ◌++◌, Option, None, Some, ◌+◌, IfErr, IfSome, OnErr, OnOk, Result, Ok, Err, arith, refl}
+use Rattle.std.proofs.Common.{◌≡◌, ℕ, ◌<◌, ◌≤◌, ◌^◌, inl, inr, subst, List, ◌++◌, Option, None, Some, ◌+◌, IfErr, IfSome, OnErr, OnOk, Result, Ok, Err, arith, refl}
 use Rattle.dsd_bits.specs.declared.sound.Sound.{Sound}
 use Rattle.fir_core.specs.Decimator.{Decimator}
 use Rattle.sound_core.specs.Faults.{IsBeforeWriting, IsSinkFault, IsWritingFault, StopsReading, failed_writes}
@@ -8,19 +8,25 @@ use Rattle.sound_core.specs.Outlines.{IsOutlineFault}
 use Rattle.sound_core.specs.declared.fault.StreamFault.{StreamFault}
 use Rattle.sound_core.specs.declared.fault.StreamFault.TheVariants.{FileRefused, RateNotDivided, TooLarge, ReadFailed, WriteFailed, TurnLimit, Memory}
 use Rattle.sound_core.proofs.FaultLaws.{by_writing}
+use Rattle.wave_core.specs.Sizes.{riff_size}
+use Rattle.player_core.specs.Laws.{total_frames}
 use Rattle.player_core.specs.Playing.{Applies}
+use Rattle.player_core.specs.Ranges.{IsInside, number_of}
+use Rattle.player_core.specs.Sinks.{IsPlayingFault, range_sound}
+use Rattle.player_core.specs.declared.range.FrameRange.{FrameRange}
 use Rattle.player_core.specs.Wave.{IsOpeningFault}
+use Rattle.player_core.proofs.PlayLaws.{frames_number}
 
 -- ---- where the file is read
-pub outline_holds : (left : Option (List ℕ)) (d : Decimator) (f : StreamFault) → IsOutlineFault left f → IfSome left (λ file. Applies d file f)
-outline_holds None d f h = tt
-outline_holds (Some xs) d FileRefused h = h
-outline_holds (Some xs) d RateNotDivided h = absurd h
-outline_holds (Some xs) d TooLarge h = absurd h
-outline_holds (Some xs) d ReadFailed h = tt
-outline_holds (Some xs) d WriteFailed h = absurd h
-outline_holds (Some xs) d TurnLimit h = tt
-outline_holds (Some xs) d Memory h = tt
+pub outline_holds : (left : Option (List ℕ)) (d : Decimator) (range : FrameRange) (f : StreamFault) → IsOutlineFault left f → IfSome left (λ file. Applies d range file f)
+outline_holds None d range f h = tt
+outline_holds (Some xs) d range FileRefused h = inl h
+outline_holds (Some xs) d range RateNotDivided h = absurd h
+outline_holds (Some xs) d range TooLarge h = absurd h
+outline_holds (Some xs) d range ReadFailed h = tt
+outline_holds (Some xs) d range WriteFailed h = absurd h
+outline_holds (Some xs) d range TurnLimit h = tt
+outline_holds (Some xs) d range Memory h = tt
 
 pub outline_later : (left : Option (List ℕ)) (f : StreamFault) → IsOutlineFault left f → IsBeforeWriting f → ⊥
 outline_later left FileRefused h early = early
@@ -41,23 +47,23 @@ outline_unwritten X left TurnLimit h = refl
 outline_unwritten X left Memory h = refl
 
 -- ---- where the header is written
-pub opening_holds : (d : Decimator) (prefix rest : List ℕ) (s : Sound) → LeadsToSound prefix s → (f : StreamFault) → IsOpeningFault d s f → Applies d (prefix ++ rest) f
-opening_holds d prefix rest s states FileRefused h = absurd h
-opening_holds d prefix rest s states RateNotDivided h = record { prefix = prefix; rest = rest; sound = s; file_is = refl; states = states; not_divided = h }
-opening_holds d prefix rest s states TooLarge h = record { prefix = prefix; rest = rest; sound = s; file_is = refl; states = states; divided = h.0; large = h.1 }
-opening_holds d prefix rest s states ReadFailed h = absurd h
-opening_holds d prefix rest s states WriteFailed h = tt
-opening_holds d prefix rest s states TurnLimit h = absurd h
-opening_holds d prefix rest s states Memory h = tt
+pub opening : (d : Decimator) (s : Sound) (range : FrameRange) → 0 < d.factor → IsInside range (total_frames d s) → (f : StreamFault) → IsOpeningFault d (range_sound d s range) f → IsPlayingFault d s range f
+opening d s range some inside FileRefused h = absurd h
+opening d s range some inside RateNotDivided h = h
+opening d s range some inside TooLarge h = (inside, h.0, subst (λ n. 2 ^ 32 ≤ riff_size s.channels d.width n) (frames_number d s (number_of range (total_frames d s)) some (omega (arith, inside.0, inside.1))) h.1)
+opening d s range some inside ReadFailed h = absurd h
+opening d s range some inside WriteFailed h = tt
+opening d s range some inside TurnLimit h = absurd h
+opening d s range some inside Memory h = tt
 
-pub opening_own : (d : Decimator) (s : Sound) (f : StreamFault) → IsOpeningFault d s f → IsSinkFault f
-opening_own d s FileRefused h = tt
-opening_own d s RateNotDivided h = tt
-opening_own d s TooLarge h = tt
-opening_own d s ReadFailed h = h
-opening_own d s WriteFailed h = tt
-opening_own d s TurnLimit h = h
-opening_own d s Memory h = tt
+pub opening_holds : (d : Decimator) (prefix rest : List ℕ) (s : Sound) (range : FrameRange) → LeadsToSound prefix s → (f : StreamFault) → IsPlayingFault d s range f → Applies d range (prefix ++ rest) f
+opening_holds d prefix rest s range states FileRefused h = inr (record { prefix = prefix; rest = rest; sound = s; file_is = refl; states = states; outside = h })
+opening_holds d prefix rest s range states RateNotDivided h = record { prefix = prefix; rest = rest; sound = s; file_is = refl; states = states; not_divided = h }
+opening_holds d prefix rest s range states TooLarge h = record { prefix = prefix; rest = rest; sound = s; file_is = refl; states = states; inside = h.0; divided = h.1; large = h.2 }
+opening_holds d prefix rest s range states ReadFailed h = absurd h
+opening_holds d prefix rest s range states WriteFailed h = tt
+opening_holds d prefix rest s range states TurnLimit h = absurd h
+opening_holds d prefix rest s range states Memory h = tt
 
 -- ---- of a sink
 pub own_goes_on : (f : StreamFault) → IsSinkFault f → StopsReading f → ⊥
@@ -73,8 +79,8 @@ own_goes_on Memory h stops = stops
 pub writing_later : (f : StreamFault) → IsWritingFault f → IsBeforeWriting f → ⊥
 writing_later f h = by_writing (λ g. IsBeforeWriting g → ⊥) (λ early. early) (λ early. early) f h
 
-pub writing_opening : (d : Decimator) (s : Sound) (f : StreamFault) → IsWritingFault f → IsOpeningFault d s f
-writing_opening d s f h = by_writing (IsOpeningFault d s) tt tt f h
+pub writing_opening : (d : Decimator) (s : Sound) (range : FrameRange) (f : StreamFault) → IsWritingFault f → IsPlayingFault d s range f
+writing_opening d s range f h = by_writing (IsPlayingFault d s range) tt tt f h
 
 pub writing_own : (f : StreamFault) → IsWritingFault f → IsSinkFault f
 writing_own f h = by_writing IsSinkFault tt tt f h
@@ -90,14 +96,6 @@ same_writes X Y TurnLimit = refl
 same_writes X Y Memory = refl
 
 -- ---- what holds of an answer
-pub all_ok : {P Q S F : Type 0} (n m : ℕ) (r : Result (Unit {0}) StreamFault) → OnOk r P → OnOk r Q → OnOk r S → n ≡ m + failed_writes r → (P → Q → S → n ≡ m → F) → OnOk r F
-all_ok n m (Ok x) p q s failures on = on p q s (omega (arith, failures))
-all_ok n m (Err f) p q s failures on = tt
-
-pub all_err : {P : Type 0} {Q F : StreamFault → Type 0} (n m : ℕ) (r : Result (Unit {0}) StreamFault) → OnErr r P → IfErr r Q → n ≡ m + failed_writes r → ((f : StreamFault) → P → Q f → n ≡ m + failed_writes {X = Unit {0}} (Err f) → F f) → IfErr r F
-all_err n m (Ok x) p q failures on = tt
-all_err n m (Err f) p q failures on = on f p q failures
-
 pub of_err : {X : Type 0} (r : Result X StreamFault) (P : StreamFault → Type 0) (Q : Type 0) → ((f : StreamFault) → P f → Q) → IfErr r P → OnErr r Q
 of_err (Ok x) P Q on p = tt
 of_err (Err f) P Q on p = on f p

@@ -18,11 +18,7 @@ pub mod SliceLaws
 pub mod PartLaws
 pub mod PartFeedLaws
 pub mod PartNewLaws
-pub mod PartPieceLaws
-pub mod PartPlayLaws
-pub mod PartSinkLaws
-pub mod PartFileLaws
-pub mod PartFaultLaws
 pub mod FaultLaws
 pub mod WaveLaws
 pub mod SinkLaws
+pub mod FileLaws

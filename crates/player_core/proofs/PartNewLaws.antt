@@ -35,6 +35,8 @@ module _ (d : Decimator) (s : Sound) (limits : IsWithinLimits d) (is : IsSound s
     filter_is = filter;
     rest_is = sound;
     start_is = at;
+    skip_is = skip;
+    stop_is = end;
     gives = λ bytes all.
         ap₂ (λ e t. slice_range (all_bytes e t (drop p.start bytes)) p.skip p.stop) filter sound
         ∙ ap (λ n. slice_range (all_bytes d (rest_of s k) (drop n bytes)) p.skip p.stop) at

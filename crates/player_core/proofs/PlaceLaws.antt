@@ -13,13 +13,12 @@ use Rattle.dsd_bits.specs.declared.sound.Sound.{Sound}
 use Rattle.dsd_bits.specs.Sounds.{IsSound, sound_size}
 use Rattle.fir_core.specs.Decimator.{Decimator, sample_at}
 use Rattle.fir_core.specs.Streams.{bits_held}
-use Rattle.wave_core.specs.Sizes.{header_size}
 use Rattle.wave_core.proofs.SizeLaws.{length_of_samples}
 use Rattle.player_core.specs.Due.{bytes_known, channel_bits, channels_known, due_bytes, frames_due}
 use Rattle.player_core.specs.Frames.{frame, frames_below}
 use Rattle.player_core.specs.Groups.{part_size, place_in}
 use Rattle.player_core.proofs.SampleLaws.{length-frames}
-use Rattle.player_core.specs.Pace.{HoldsFrames, IsWithinBytes}
+use Rattle.player_core.specs.Pace.{IsWithinBytes}
 
 -- ---- the group of a byte, and one more, end in the sound
 module _ (c part wholes count u i : ℕ) (six : c + 1 ≤ 6) (some : 1 ≤ part) (few : part ≤ 4096) (all : u ≤ wholes * ((c + 1) * part)) (bits : 8 * (wholes * part) < count + 8 * part)
@@ -130,10 +129,3 @@ length-due d s bytes =
     length_of_samples d.width (frames_below d channels n)
     ∙ ap (λ k. k * (d.width / 8)) samples
     ∙ mul_assoc n s.channels (d.width / 8)
-
--- a prefix of a WAVE file that holds n frames
-pub frames_held : (d : Decimator) (s : Sound) (n m size : ℕ) → size ≡ header_size s.channels d.width + m * (s.channels * (d.width / 8)) → ((j : ℕ) → IsWithinBytes s n (j * d.factor + d.delay) → j < m) → HoldsFrames d s n size
-frames_held d s n m size is each = record {
-  header = omega (arith, is);
-  frames = λ j stands. (let most : (j + 1) * (s.channels * (d.width / 8)) ≤ m * (s.channels * (d.width / 8)) = mul-le-mul_right (s.channels * (d.width / 8)) (omega (arith, each j stands)) in omega (arith, most, is));
-}

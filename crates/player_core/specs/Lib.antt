@@ -4,11 +4,9 @@ pub mod Samples
 pub mod Due
 pub mod PlayerView
 pub mod Laws
+pub mod Ranges
 pub mod Parts
 pub mod PartView
-pub mod PartPieces
-pub mod PartPlaying
-pub mod PartSinks
 pub mod PausedView
 pub mod Outlets
 pub mod Wave

@@ -1,10 +1,11 @@
 -- What a `PartPlayer` stands for.
-use Rattle.std.specs.Prelude.{◌≡◌, ℕ, ◌*◌, ◌≤◌, List, ◌++◌, drop, length, slice_range}
+use Rattle.std.specs.Prelude.{◌≡◌, ℕ, ◌-◌, ◌*◌, ◌≤◌, List, ◌++◌, drop, length, slice_range}
 use Rattle.dsd_bits.specs.declared.sound.Sound.{Sound}
 use Rattle.fir_core.specs.Decimator.{Decimator}
+use Rattle.wave_core.specs.Sizes.{block_align}
 use Rattle.player_core.specs.Due.{all_bytes, due_bytes}
 use Rattle.player_core.specs.Groups.{group_size}
-use Rattle.player_core.specs.Parts.{groups_before, part_bytes, rest_of}
+use Rattle.player_core.specs.Parts.{frames_before, groups_before, part_bytes, rest_of}
 use Rattle.player_core.specs.PlayerView.{IsPlayerFed, IsPlayer, fed_of, filter_of, sound_of}
 use Rattle.player_core.specs.declared.parts.PartPlayer.{PartPlayer}
 
@@ -51,6 +52,8 @@ pub record IsPartOf (d : Decimator) (s : Sound) (start stop : ℕ) (p : PartPlay
   pub filter_is : part_filter p ≡ d
   pub rest_is : part_rest p ≡ rest_of s (groups_before d s.interleaving start)
   pub start_is : part_start p ≡ groups_before d s.interleaving start * group_size s.interleaving s.channels
+  pub skip_is : p.skip ≡ (start - frames_before d s.interleaving start) * block_align s.channels d.width
+  pub stop_is : p.stop ≡ (stop - frames_before d s.interleaving start) * block_align s.channels d.width
   pub gives : (bytes : List ℕ) → length bytes ≡ s.size → part_all p (drop (part_start p) bytes) ≡ part_bytes d s bytes start stop
 
 -- it plays the same part

@@ -1,28 +1,27 @@
--- A sound that is played piece by piece.
-use Rattle.std.specs.Prelude.{◌≡◌, ℕ, List, ◌++◌, length, Option}
+-- Frames that are played piece by piece.
+use Rattle.std.specs.Prelude.{◌≡◌, ℕ, ◌-◌, List, ◌++◌, drop, length, Option}
 use Rattle.std.specs.Io.KnownBytes.{Appends}
 use Rattle.chunk_core.specs.Outlets.{AppendsPrefix}
-use Rattle.dsd_bits.specs.declared.sound.Sound.{Sound}
-use Rattle.fir_core.specs.Decimator.{Decimator}
-use Rattle.player_core.specs.Due.{all_bytes, due_bytes}
-use Rattle.player_core.specs.PlayerView.{IsPlayerFed, filter_of, sound_of}
-use Rattle.player_core.specs.declared.player.Player.{Player}
+use Rattle.player_core.specs.PartView.{IsPartFed, part_all, part_due, part_rest, part_start}
+use Rattle.player_core.specs.declared.parts.PartPlayer.{PartPlayer}
 
--- after whatever bytes the player was fed, it was fed these, and what was due then and not before was written
-abbrev pub PutsDue : Player → Player → List ℕ → Option (List ℕ) → Option (List ℕ) → Type 0
+-- the bytes of a piece that are in the part's rest, if `came` bytes of the sound came before the piece
+abbrev pub rest_piece : PartPlayer → ℕ → List ℕ → List ℕ
+rest_piece p came piece = drop (part_start p - came) piece
+
+-- after whatever bytes of the rest the player was fed, it was fed these, and what of the part was due then and not
+-- before was written
+abbrev pub PutsDue : PartPlayer → PartPlayer → List ℕ → Option (List ℕ) → Option (List ℕ) → Type 0
 PutsDue old new bytes held_old held_new = (more : List ℕ) × Appends held_old held_new more
-    × ((before : List ℕ) → IsPlayerFed old before → IsPlayerFed new (before ++ bytes) × (due_bytes (filter_of old) (sound_of old) (before ++ bytes) ≡ due_bytes (filter_of old) (sound_of old) before ++ more))
+    × ((before : List ℕ) → IsPartFed old before → IsPartFed new (before ++ bytes) × (part_due old (before ++ bytes) ≡ part_due old before ++ more))
 
--- after all sound bytes, the rest of the frames was written
-abbrev pub PutsRest : Player → Option (List ℕ) → Option (List ℕ) → Type 0
+-- the rest of the part's frames was written, of each sound whose rest begins with what the player was fed
+abbrev pub PutsRest : PartPlayer → Option (List ℕ) → Option (List ℕ) → Type 0
 PutsRest old held_old held_new = (more : List ℕ) × Appends held_old held_new more
-    × ((before : List ℕ) → IsPlayerFed old before → all_bytes (filter_of old) (sound_of old) before ≡ due_bytes (filter_of old) (sound_of old) before ++ more)
+    × ((before rest : List ℕ) → IsPartFed old before → length (before ++ rest) ≡ (part_rest old).size → part_all old (before ++ rest) ≡ part_due old before ++ more)
 
--- a prefix was written of those frames of the whole sound that were not due after some bytes
-abbrev pub PutsFramesPrefix : Decimator → Sound → List ℕ → List ℕ → Option (List ℕ) → Option (List ℕ) → Type 0
-PutsFramesPrefix d s before whole held_old held_new = (more : List ℕ) × (all_bytes d s whole ≡ due_bytes d s before ++ more) × AppendsPrefix held_old held_new more
-
--- P holds of every sound that begins with what the player was fed and then these bytes
-abbrev pub PutsPrefixOf : Player → List ℕ → Option (List ℕ) → Option (List ℕ) → Type 0
-PutsPrefixOf p bytes held_old held_new = (before rest : List ℕ) → IsPlayerFed p before → length (before ++ (bytes ++ rest)) ≡ (sound_of p).size
-    → PutsFramesPrefix (filter_of p) (sound_of p) before (before ++ (bytes ++ rest)) held_old held_new
+-- whatever the sound is whose rest the player was fed a prefix of, with these bytes after it, a prefix was written of
+-- those frames of the part that were not due
+abbrev pub PutsPrefixOf : PartPlayer → List ℕ → Option (List ℕ) → Option (List ℕ) → Type 0
+PutsPrefixOf p bytes held_old held_new = (before rest : List ℕ) → IsPartFed p before → length (before ++ (bytes ++ rest)) ≡ (part_rest p).size
+    → (more : List ℕ) × (part_all p (before ++ (bytes ++ rest)) ≡ part_due p before ++ more) × AppendsPrefix held_old held_new more

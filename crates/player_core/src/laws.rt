@@ -1,8 +1,8 @@
 //! Laws of what a player returns. Each function does nothing: a caller's proof cites what it ensures.
 
 ghost use Rattle.player_core.specs.Laws.{FileHasSize, FramesFill, PrefixComesFirst, NothingIsDue, SoundIsPlayed};
-ghost use Rattle.player_core.specs.PartPlaying.{PartIsPlayed};
 ghost use Rattle.player_core.specs.Parts.{PartHasFrames, PartsMeet, WholeIsPart};
+ghost use Rattle.player_core.specs.Playing.{PartIsPlayed, WholeIsAll};
 
 use wave_core::parts_join;
 
@@ -57,3 +57,8 @@ pub fn part_is_played()
 {
     parts_join();
 }
+
+/// The law of a whole recording: its range of frames is all that is played of it, and no sound lacks frames of that.
+pub fn whole_is_all()
+    ensures { WholeIsAll }
+{}

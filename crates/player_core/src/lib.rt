@@ -4,14 +4,13 @@
 //! piece, as a DSDIFF 1.5 or DSF 1.01 file holds them, and returns the bytes of each frame as soon as its place has
 //! come. Of the sound it holds a part of one group of blocks, and what each channel's filter still reads.
 //!
-//! [`play`] reads a file part by part and writes its WAVE file. `sound_core` reads the file and passes its sound to a
-//! sink (`sink.rt`), which writes the frames piece by piece (`pieces.rt`) and the bytes around them (`wave.rt`). It
-//! holds at most one block of 65,536 bytes of the sound, what a player holds, the bytes before the sound, and those
-//! that follow it in a DSDIFF form, or the tag of a DSF file.
+//! A [`PartPlayer`] returns some of the frames, from any on: it is fed the sound from a place on before which no tap of
+//! its first frame reads, and drops what it gets before that frame and after its last.
 //!
-//! A [`PartPlayer`] gives some of the frames, from any on: it is fed the sound from a place on before which no tap of
-//! its first frame reads, and drops what it gives before that frame and after its last. [`play_part`] plays a part of a
-//! file, by a sink of its own (`part_sink.rt`); the header and the sizes are those of the part.
+//! [`play`] plays a range of the frames of a file ([`FrameRange`]), or all of them. `sound_core` reads the file and
+//! passes its sound to a sink (`sink.rt`), which writes the frames piece by piece (`pieces.rt`) and the bytes around
+//! them (`wave.rt`). It holds at most one block of 65,536 bytes of the sound, what a player holds, the bytes before the
+//! sound, and those that follow it in a DSDIFF form, or the tag of a DSF file.
 //!
 //! The words of the contracts:
 //!
@@ -23,10 +22,14 @@
 //!   the bits in the whole groups of them. `all_bytes` is the bytes of all frames (`specs/Due.antt`).
 //! - `IsPlayerFed p bytes` says that a player was fed these bytes, `FeedsPlayer` what the next ones add, and
 //!   `FinishesPlayer` what is left (`specs/PlayerView.antt`).
+//! - `part_bytes d s bytes start stop` are the bytes of frames `start` to `stop - 1`, a slice of those of all frames
+//!   (`specs/Parts.antt`). `IsPartOf d s start stop p` says that a player plays these, `IsPartFed p bytes` that it was
+//!   fed these bytes from its start on (`specs/PartView.antt`).
 //! - `file_around d s bytes` is a header, these bytes and a pad, `IsPlayed` what is played of a recording in a file
 //!   (`specs/Laws.antt`).
-//! - `PlaysBy d file bytes` says that these bytes are the WAVE text of the file's recording by this decimator, `Applies
-//!   d file fault` that a fault applies (`specs/Playing.antt`).
+//! - `IsInside range total` says that the frames of a range are among so many (`specs/Ranges.antt`).
+//! - `PlaysBy d range file bytes` says that these bytes are the WAVE text of a range of the file's recording by this
+//!   decimator, `Applies d range file fault` that a fault applies (`specs/Playing.antt`).
 //! - `PlaysTo` says that what an inlet's file plays was written to an outlet, `PlaysReadTo` the same of the bytes that
 //!   were read, and `WritesPrefixTo` that a prefix of it was written (`specs/Playing.antt`).
 //! - `Lags` says that what was written lags what was read by at most 131,072 bytes of the sound, as `KeepsUpBy` defines
@@ -35,11 +38,6 @@
 //! - `IsPlaying held first now s bytes` says what the sink has written after these bytes of a sound
 //!   (`specs/Sinks.antt`).
 //!
-//! - `part_bytes d s bytes start stop` are the bytes of frames `start` to `stop - 1`, a slice of those of all frames
-//!   (`specs/Parts.antt`). `IsPartOf d s start stop p` says that a player plays these, `IsPartFed p bytes` that it was
-//!   fed these bytes from its start on (`specs/PartView.antt`), and `PlaysPartBy d start stop file bytes` that these
-//!   bytes are the WAVE text of the part of a file's recording (`specs/PartPlaying.antt`).
-//!
 //! What it promises: whatever bytes a player was fed before, what [`Player::feed`] appends turns the bytes that were
 //! due into those that are due now, and what [`Player::finish`] appends turns them into those of all frames. So the
 //! sizes of the pieces change nothing. For [`play`], Ok means that exactly the bytes that the reader's file plays were
@@ -47,9 +45,9 @@
 //! memory, a device or the number of reads, after a prefix of its WAVE file, which keeps up with the reading if that
 //! stops.
 //!
-//! Laws of parts: [`parts_meet`], parts that meet are one part; [`whole_is_a_part`]; [`part_has_its_frames`], a part
-//! has the bytes of its frames; and [`part_is_played`], its WAVE text is a header of its own, these bytes, and the
-//! pad.
+//! Laws of ranges: [`whole_is_all`], the range of all frames is all that is played of a recording; [`parts_meet`],
+//! parts that meet are one part; [`whole_is_a_part`]; [`part_has_its_frames`], a part has the bytes of its frames; and
+//! [`part_is_played`], its WAVE text is a header of its own, these bytes, and the pad.
 //!
 //! Laws for those who write the file in parts: [`sound_is_played`], the WAVE text of a recording in a file is the
 //! header, the bytes of all frames of its sound, and the pad; [`frames_fill_the_data`] and [`file_has_its_size`], their
@@ -64,19 +62,18 @@
 //!
 //! let mut inlet = Inlet::new(file);
 //! let mut outlet = Outlet::new(wave);
-//! let count = play(alloc, &taps, &mut inlet, &mut outlet)?;    // so many bytes were written
+//! let count = play(alloc, &taps, FrameRange::whole(), &mut inlet, &mut outlet)?;    // so many bytes were written
 //! ```
 #![tactic(auto)]
 
 mod groups;
 mod laws;
-mod part_playing;
-mod part_sink;
 mod parts;
 mod pausing;
 mod pieces;
 mod player;
 mod playing;
+mod range;
 mod sink;
 mod spec;
 mod wave;
@@ -85,11 +82,11 @@ mod wave_file;
 pub use laws::{
     file_has_its_size, frames_fill_the_data, frames_of_a_prefix_come_first,
     nothing_is_due_at_first, part_has_its_frames, part_is_played, parts_meet, sound_is_played,
-    whole_is_a_part,
+    whole_is_a_part, whole_is_all,
 };
-pub use part_playing::play_part;
 pub use parts::PartPlayer;
 pub use pausing::PausedPart;
 pub use player::Player;
 pub use playing::play;
+pub use range::FrameRange;
 pub use wave_file::wave_of;

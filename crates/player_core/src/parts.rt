@@ -13,6 +13,7 @@ use crate::player::Player;
 use dsd_bits::{Interleaving, Sound};
 use fir_core::Taps;
 use std::alloc::{AllocError, Global};
+use std::mem;
 
 /// Some frames of a sound, by a filter that it borrows. It is fed the sound from a byte on before which no tap of
 /// its first frame reads, and gives nothing for what comes before that frame, nor after its last.
@@ -97,8 +98,9 @@ impl<'a> PartPlayer<'a> {
     {
         self.own.clear();
         self.player.feed(bytes, &mut self.own)?;
-        push_within(out, self.own.as_slice(), self.skip, self.stop, self.given)?;
-        self.given += self.own.len();
+        let number = self.own.len();
+        move_within(out, &mut self.own, self.skip, self.stop, self.given)?;
+        self.given += number;
         Ok(())
     }
 
@@ -112,22 +114,27 @@ impl<'a> PartPlayer<'a> {
     {
         self.own.clear();
         self.player.finish(&mut self.own)?;
-        push_within(out, self.own.as_slice(), self.skip, self.stop, self.given)
+        move_within(out, &mut self.own, self.skip, self.stop, self.given)
     }
 }
 
-// Appends those of some bytes that lie from place `skip` to place `stop`, the first of them being at place `given`.
-fn push_within(
+// Appends those of some bytes that lie from place `skip` to place `stop`, the first of them being at place `given`. If
+// these are all, and `out` is empty, none is copied.
+fn move_within(
     out: &mut Vec<u8>,
-    bytes: &[u8],
+    bytes: &mut Vec<u8>,
     skip: usize,
     stop: usize,
     given: usize,
 ) -> Result<(), AllocError>
-    ensures { OnOk result (out.new.items ≡ out.old.items ++ slice_range bytes.now (skip - given) (stop - given)) }
+    ensures { OnOk result (out.new.items ≡ out.old.items ++ slice_range bytes.old.items (skip - given) (stop - given)) }
 {
     let first = skip.saturating_sub(given).min(bytes.len());
     let last = stop.saturating_sub(given).min(bytes.len());
+    if out.is_empty() && first == 0 && last == bytes.len() {
+        mem::swap(out, bytes);
+        return Ok(());
+    }
     let (prefix, _) = bytes.split_at(last);
     let (_, within) = prefix.split_at(first.min(last));
     out.extend_from_slice(within)

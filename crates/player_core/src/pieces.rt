@@ -1,53 +1,62 @@
-//! The frames of a sound that comes piece by piece.
+//! The frames of a range whose sound comes piece by piece.
 
-ghost use Rattle.std.specs.Prelude.{◌≡◌, ◌+◌, ◌-◌, ◌<◌, ◌≤◌, ◌^◌, [], IfErr, OnErr, OnOk, length};
+ghost use Rattle.std.specs.Prelude.{◌≡◌, ◌⊎◌, ◌+◌, ◌-◌, ◌<◌, ◌≤◌, ◌^◌, [], IfErr, OnErr, OnOk, length};
 ghost use Rattle.chunk_core.specs.Outlets.{outlet_failures};
 ghost use Rattle.player_core.specs.Outlets.{OnOutlet};
-ghost use Rattle.player_core.specs.PlayerView.{GoesOn, IsPlayer, fed_of, sound_of};
+ghost use Rattle.player_core.specs.PartView.{IsPartComplete, IsPartPlayer, IsSamePart, part_fed, part_rest};
+ghost use Rattle.player_core.specs.Pieces.{PutsDue, PutsPrefixOf, PutsRest, rest_piece};
 ghost use Rattle.sound_core.specs.Faults.{IsWritingFault, failed_writes};
-ghost use Rattle.player_core.specs.Pieces.{PutsDue, PutsPrefixOf, PutsRest};
 
-use crate::player::Player;
+use crate::parts::PartPlayer;
 use chunk_core::Outlet;
 use sound_core::{StreamFault, put};
 use std::io::Write;
 
-/// Writes the frames that are due after a piece of the sound and were not before.
+/// Writes the frames that are due after a piece of the sound and were not before. `came` bytes of the sound came before
+/// the piece; bytes before the player's start aren't fed.
 pub(crate) fn put_due<W: Write>(
-    player: &mut Player<'_>,
+    player: &mut PartPlayer<'_>,
     piece: &[u8],
+    came: usize,
     frames: &mut Vec<u8>,
     outlet: &mut Outlet<W>,
 ) -> Result<(), StreamFault>
-    requires player { IsPlayer player.old }
-    requires few { fed_of player.old + length piece.now ≤ (sound_of player.old).size }
+    requires player { IsPartPlayer player.old }
+    requires few { part_fed player.old + length (rest_piece player.old came piece.now) ≤ (part_rest player.old).size }
     requires ready { outlet_failures outlet.old < 2 ^ 64 - 1 }
-    ensures player { OnOk result (IsPlayer player.new) }
-    ensures same { OnOk result (GoesOn player.old player.new (length piece.now)) }
-    ensures ok { OnOk result (OnOutlet W.contents outlet.old outlet.new (PutsDue player.old player.new piece.now)) }
-    ensures prefix { OnErr result (OnOutlet W.contents outlet.old outlet.new (PutsPrefixOf player.old piece.now)) }
+    ensures player { OnOk result (IsPartPlayer player.new) }
+    ensures same { OnOk result (IsSamePart player.old player.new) }
+    ensures ok { OnOk result (OnOutlet W.contents outlet.old outlet.new
+        (PutsDue player.old player.new (rest_piece player.old came piece.now))) }
+    ensures prefix { OnErr result (OnOutlet W.contents outlet.old outlet.new
+        (PutsPrefixOf player.old (rest_piece player.old came piece.now))) }
     ensures fault { IfErr result IsWritingFault }
     ensures failures { outlet_failures outlet.new ≡ outlet_failures outlet.old + failed_writes result }
 {
+    let skipped = player.start().saturating_sub(came).min(piece.len());
+    let (_, fed) = piece.split_at(skipped);
     frames.clear();
-    player.feed(piece, frames)?;
+    player.feed(fed, frames)?;
     put(outlet, frames.as_slice())
 }
 
-/// Writes the rest of the frames.
+/// Writes the rest of the frames: none if all were written.
 pub(crate) fn put_rest<W: Write>(
-    player: &mut Player<'_>,
+    player: &mut PartPlayer<'_>,
     frames: &mut Vec<u8>,
     outlet: &mut Outlet<W>,
 ) -> Result<(), StreamFault>
-    requires player { IsPlayer player.old }
-    requires all { fed_of player.old ≡ (sound_of player.old).size }
+    requires player { IsPartPlayer player.old }
+    requires all { (part_fed player.old ≡ (part_rest player.old).size) ⊎ IsPartComplete player.old }
     requires ready { outlet_failures outlet.old < 2 ^ 64 - 1 }
     ensures ok { OnOk result (OnOutlet W.contents outlet.old outlet.new (PutsRest player.old)) }
     ensures prefix { OnErr result (OnOutlet W.contents outlet.old outlet.new (PutsPrefixOf player.old [])) }
     ensures fault { IfErr result IsWritingFault }
     ensures failures { outlet_failures outlet.new ≡ outlet_failures outlet.old + failed_writes result }
 {
+    if player.is_complete() {
+        return Ok(());
+    }
     frames.clear();
     player.finish(frames)?;
     put(outlet, frames.as_slice())

@@ -3,55 +3,69 @@
 ghost use Rattle.std.specs.Prelude.{◌≡◌, ◌+◌, ◌≤◌, ◌^◌, IfErr, IfOk, IsErrOf, OnErr, OnOk};
 ghost use Rattle.chunk_core.specs.Inlets.{inlet_failures, inlet_reader, inlet_reads};
 ghost use Rattle.chunk_core.specs.Outlets.{outlet_failures, outlet_writer};
+ghost use Rattle.fir_core.specs.Decimator.{IsWithinLimits};
 ghost use Rattle.sound_core.specs.Faults.{IsBeforeWriting, failed_reads, failed_writes};
 ghost use Rattle.player_core.specs.Pace.{Lags};
 ghost use Rattle.player_core.specs.Playing.{AppliesBy, IsLimited, OnlyFromOutsideBy, PlaysBy, PlaysReadTo, PlaysTo, WritesPrefixTo};
 ghost use Rattle.player_core.specs.Sinks.{SinkFails, SinkPlays, SinkPlaysRead};
 
-use crate::laws::sound_is_played;
+use crate::laws::part_is_played;
+use crate::range::FrameRange;
 use crate::sink::{PlayingSink, finish};
-use crate::wave::file_size;
 use chunk_core::{Inlet, Outlet};
 use fir_core::Taps;
 use sound_core::{StreamFault, can_fail, read_into};
 use std::alloc::Global;
 use std::io::{Read, Write};
 
-/// Plays a reader's file to a writer, and returns the number of bytes of the WAVE file that was written.
+/// Plays frames of a reader's file to a writer, and returns the number of bytes of the WAVE file that was written. Its
+/// header and sizes are those of these frames. What is before them in the file is read and dropped.
 ///
-/// `TurnLimit` is returned after `2^40` reads, or at once if the inlet had counted `2^63` reads or bytes, or inlet or
-/// outlet as many failures as they can.
+/// Refusals: `FileRefused` if the bytes are neither a DSDIFF nor a DSF file that holds a recording with these frames;
+/// `RateNotDivided`, `TooLarge`, before the first write; `ReadFailed`, `WriteFailed`; `TurnLimit` after `2^40` reads,
+/// or at once if the inlet had counted `2^63` reads or bytes, or inlet or outlet as many failures as they can;
+/// `Memory`.
 pub fn play<R: Read, W: Write>(
     alloc: Global,
     taps: &Taps,
+    range: FrameRange,
     inlet: &mut Inlet<R>,
     outlet: &mut Outlet<W>,
 ) -> Result<u64, StreamFault>
     // What the reader's file plays was written, however its reads are cut.
-    ensures ok { IfOk result (PlaysTo R.remaining W.contents (PlaysBy taps.now) inlet.old outlet.old outlet.new) }
+    ensures ok { IfOk result (PlaysTo R.remaining W.contents (PlaysBy taps.now range) inlet.old outlet.old outlet.new) }
     // The same of the bytes that were read, if the reader's bytes aren't known.
-    ensures any_reader { IfOk result (PlaysReadTo R.remaining W.contents (PlaysBy taps.now) inlet.old inlet.new
+    ensures any_reader { IfOk result (PlaysReadTo R.remaining W.contents (PlaysBy taps.now range) inlet.old inlet.new
         outlet.old outlet.new) }
     // A fault of the file applies; a file that can be played is refused only from outside, and a prefix of its WAVE
     // file was written.
-    ensures fault { IfErr result (AppliesBy (R.remaining (inlet_reader inlet.old)) taps.now) }
-    ensures cause { IfErr result (OnlyFromOutsideBy (R.remaining (inlet_reader inlet.old)) taps.now) }
+    ensures fault { IfErr result (AppliesBy (R.remaining (inlet_reader inlet.old)) taps.now range) }
+    ensures cause { IfErr result (OnlyFromOutsideBy (R.remaining (inlet_reader inlet.old)) taps.now range) }
     // Nothing is written for a sound that can't be played.
     ensures unwritten { IfErr result (λ f. IsBeforeWriting f → outlet_writer outlet.new ≡ outlet_writer outlet.old) }
-    ensures prefix { OnErr result (WritesPrefixTo R.remaining W.contents (PlaysBy taps.now) inlet.old outlet.old outlet.new) }
+    ensures prefix { OnErr result (WritesPrefixTo R.remaining W.contents (PlaysBy taps.now range) inlet.old
+        outlet.old outlet.new) }
     // If the reading stops, what was written lags by at most 131,072 bytes of the one sound that the file describes.
-    ensures keeps_up { IfErr result (Lags R.remaining W.contents taps.now inlet.old inlet.new outlet.old outlet.new) }
+    ensures keeps_up { IfErr result (Lags R.remaining W.contents taps.now range inlet.old inlet.new outlet.old outlet.new) }
     ensures read_failed { inlet_failures inlet.new ≡ inlet_failures inlet.old + failed_reads result }
     ensures write_failed { outlet_failures outlet.new ≡ outlet_failures outlet.old + failed_writes result }
     // Whatever is returned, there were at most 2^40 reads.
     ensures reads { inlet_reads inlet.new ≤ inlet_reads inlet.old + 2 ^ 40 }
     ensures turn_limit { IsErrOf result StreamFault.TurnLimit → IsLimited outlet.old inlet.old inlet.new }
 {
-    sound_is_played();
+    part_is_played();
+    keeps_limits(taps);
     let mut player = None;
     let mut out = Vec::new(alloc);
-    let mut sink = PlayingSink::new(taps, outlet, &mut player, &mut out);
+    let mut sink = PlayingSink::new(taps, range, outlet, &mut player, &mut out);
     play_file(alloc, inlet, &mut sink)
+}
+
+// A filter keeps its limits, which proofs cite.
+fn keeps_limits(taps: &Taps)
+    ensures { IsWithinLimits taps.now }
+{
+    let _ = taps.factor();
 }
 
 // Plays a reader's file with a sink that has not begun.
@@ -60,6 +74,7 @@ fn play_file<R: Read, W: Write>(
     inlet: &mut Inlet<R>,
     sink: &mut PlayingSink<'_, '_, W>,
 ) -> Result<u64, StreamFault>
+    requires least { 8 ≤ sink.old.taps.now.factor }
     ensures same { sink.new.outlet.ghost_name ≡ sink.old.outlet.ghost_name }
     ensures ok { IfOk result (SinkPlays R.remaining W.contents inlet.old sink.old sink.new) }
     ensures any_reader { IfOk result (SinkPlaysRead R.remaining W.contents inlet.old inlet.new sink.old sink.new) }
@@ -69,12 +84,10 @@ fn play_file<R: Read, W: Write>(
     ensures reads { inlet_reads inlet.new ≤ inlet_reads inlet.old + 2 ^ 40 }
     ensures turn_limit { IsErrOf result StreamFault.TurnLimit → IsLimited sink.old.outlet.now inlet.old inlet.new }
 {
-    sound_is_played();
+    part_is_played();
     if !can_fail(sink.outlet) {
         return Err(StreamFault::TurnLimit);
     }
     let outline = read_into(alloc, inlet, sink)?;
-    let size = file_size(sink.taps, &outline.sound);
-    finish(sink, &outline.sound)?;
-    Ok(size)
+    finish(sink, &outline.sound)
 }

@@ -7,6 +7,7 @@ use Rattle.fir_core.specs.declared.fault.TapsFault.TheVariants.{TapNumber, TapSu
 use Rattle.fir_core.specs.Faults.{broken_limit, named_limit}
 use Rattle.fir_core.proofs.LimitLaws.{IsWithinLimits-from_no_fault, no_fault-from_IsWithinLimits}
 use Rattle.project_core.specs.declared.key.Key.TheVariants as keys
+use Rattle.project_core.specs.declared.key.Table.TheVariants as tables
 use Rattle.project_core.specs.declared.fault.ProjectFault.{ProjectFault}
 use Rattle.project_core.specs.declared.fault.ProjectFault.TheVariants as faults
 use Rattle.project_core.specs.Faults.{limit_fault}
@@ -40,19 +41,19 @@ parts (Ok a) (Ok b) (Ok c) (Ok d) (Ok f) y e =
 pub decimate_ok : (d : Data) (y : Decimator) → decimate_of d ≡ Ok y → (t : Members) × (d ≡ table t) × IsDecimate t y
 unfolding decimate_of
 decimate_ok d y e =
-    let a = bind_ok (table_of keys.Decimate decimate_keys d) (λ t. integers_at keys.Taps t >>= λ a. unsigned_at keys.Factor t >>= λ b. unsigned_at keys.Delay t >>= λ c. unsigned_at keys.Shift t >>= λ d. unsigned_at keys.Width t >>= λ f. let made : Decimator = record { taps = a; factor = b; delay = c; shift = d; width = f } in unless_broken (broken_limit made) made) y e in
+    let a = bind_ok (table_of keys.Decimate tables.Decimate decimate_keys d) (λ t. integers_at keys.Taps tables.Decimate t >>= λ a. unsigned_at keys.Factor tables.Decimate t >>= λ b. unsigned_at keys.Delay tables.Decimate t >>= λ c. unsigned_at keys.Shift tables.Decimate t >>= λ d. unsigned_at keys.Width tables.Decimate t >>= λ f. let made : Decimator = record { taps = a; factor = b; delay = c; shift = d; width = f } in unless_broken (broken_limit made) made) y e in
     let t = a.0 in
-    let known = table_ok keys.Decimate decimate_keys d t a.1 in
-    let q = parts (integers_at keys.Taps t) (unsigned_at keys.Factor t) (unsigned_at keys.Delay t) (unsigned_at keys.Shift t) (unsigned_at keys.Width t) y a.2 in (
+    let known = table_ok keys.Decimate tables.Decimate decimate_keys d t a.1 in
+    let q = parts (integers_at keys.Taps tables.Decimate t) (unsigned_at keys.Factor tables.Decimate t) (unsigned_at keys.Delay tables.Decimate t) (unsigned_at keys.Shift tables.Decimate t) (unsigned_at keys.Width tables.Decimate t) y a.2 in (
       t,
       known.0,
       record {
         no_others = known.1;
-        taps = integers_ok keys.Taps t y.taps q.0;
-        factor = unsigned_ok keys.Factor t y.factor q.1;
-        delay = unsigned_ok keys.Delay t y.delay q.2;
-        shift = unsigned_ok keys.Shift t y.shift q.3;
-        width = unsigned_ok keys.Width t y.width q.4;
+        taps = integers_ok keys.Taps tables.Decimate t y.taps q.0;
+        factor = unsigned_ok keys.Factor tables.Decimate t y.factor q.1;
+        delay = unsigned_ok keys.Delay tables.Decimate t y.delay q.2;
+        shift = unsigned_ok keys.Shift tables.Decimate t y.shift q.3;
+        width = unsigned_ok keys.Width tables.Decimate t y.width q.4;
         limits = IsWithinLimits-from_no_fault y q.5;
       },
     )
@@ -68,17 +69,17 @@ decimate_again t y h =
     let delay : y.delay < 2 ^ 32 = omega (arith, h.limits.delay_in_taps, h.limits.few_taps) in
     let shift : y.shift < 2 ^ 32 = omega (arith, h.limits.small_shift) in
     rw (
-      table_again keys.Decimate decimate_keys t h.no_others,
-      integers_again keys.Taps t y.taps h.taps (fits_by_sum y.taps sum),
-      unsigned_again keys.Factor t y.factor h.factor factor,
-      unsigned_again keys.Delay t y.delay h.delay delay,
-      unsigned_again keys.Shift t y.shift h.shift shift,
-      unsigned_again keys.Width t y.width h.width (small_width y h.limits),
+      table_again keys.Decimate tables.Decimate decimate_keys t h.no_others,
+      integers_again keys.Taps tables.Decimate t y.taps h.taps (fits_by_sum y.taps sum),
+      unsigned_again keys.Factor tables.Decimate t y.factor h.factor factor,
+      unsigned_again keys.Delay tables.Decimate t y.delay h.delay delay,
+      unsigned_again keys.Shift tables.Decimate t y.shift h.shift shift,
+      unsigned_again keys.Width tables.Decimate t y.width h.width (small_width y h.limits),
       no_fault-from_IsWithinLimits y h.limits,
     )
 
 -- what is refused where the factor is read
-pub factor_fails : (value : Data) (t : Members) (taps : List ℤ) (e : ProjectFault) → table_of keys.Decimate decimate_keys value ≡ Ok t → integers_at keys.Taps t ≡ Ok taps → Fails e (unsigned_at keys.Factor t) → Fails e (decimate_of value)
+pub factor_fails : (value : Data) (t : Members) (taps : List ℤ) (e : ProjectFault) → table_of keys.Decimate tables.Decimate decimate_keys value ≡ Ok t → integers_at keys.Taps tables.Decimate t ≡ Ok taps → Fails e (unsigned_at keys.Factor tables.Decimate t) → Fails e (decimate_of value)
 unfolding decimate_of
 factor_fails value t taps faults.Memory is_table are_taps is = tt
 factor_fails value t taps e is_table are_taps is = rw (is_table, are_taps, is) refl

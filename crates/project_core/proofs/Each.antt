@@ -6,7 +6,7 @@ use Rattle.toml.specs.View.{view, items_view}
 use Rattle.toml.specs.declared.value.Value.{Value}
 use Rattle.toml.proofs.Views.{items_view-drop}
 use Rattle.project_core.specs.declared.fault.ProjectFault.{ProjectFault}
-use Rattle.project_core.specs.declared.fault.ProjectFault.TheVariants.{NotToml, UnknownKey, MissingKey, WrongKind, OutOfLimit, NoTake, ShortCue, LastBridge, Memory}
+use Rattle.project_core.specs.declared.fault.ProjectFault.TheVariants.{Memory}
 use Rattle.project_core.specs.Steps.{◌>>=◌, Fails, each}
 use Rattle.project_core.specs.Tables.{list_of}
 
@@ -26,14 +26,7 @@ each_goes_on f prefix xs i d x y total lt is h so_far =
 
 fails_at : {A B : Type 0} (e : ProjectFault) (f : ℕ → A → Result B ProjectFault) (prefix : List B) (i : ℕ) (x : A) (xs : List A) → Fails e (f i x) → Fails e (with_prefix prefix (each f i (x ∷ xs)))
 fails_at Memory f prefix i x xs h = tt
-fails_at NotToml f prefix i x xs h = rw h
-fails_at UnknownKey f prefix i x xs h = rw h
-fails_at (MissingKey k) f prefix i x xs h = rw h
-fails_at (WrongKind k) f prefix i x xs h = rw h
-fails_at (OutOfLimit k) f prefix i x xs h = rw h
-fails_at (NoTake k) f prefix i x xs h = rw h
-fails_at (ShortCue k) f prefix i x xs h = rw h
-fails_at LastBridge f prefix i x xs h = rw h
+fails_at e f prefix i x xs h = rw h refl
 
 pub each_ends : {A B : Type 0} (e : ProjectFault) (f : ℕ → A → Result B ProjectFault) (prefix : List B) (xs : List A) (i : ℕ) (d x : A) (total : Result (List B) ProjectFault) → i < length xs → x ≡ get_or xs i d → Fails e (f i x)
     → with_prefix prefix (each f i (drop i xs)) ≡ total → Fails e total

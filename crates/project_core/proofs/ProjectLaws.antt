@@ -6,7 +6,7 @@ use Rattle.fir_core.specs.Decimator.{Decimator}
 use Rattle.project_core.specs.declared.key.Key.TheVariants as keys
 use Rattle.project_core.specs.declared.project.Project.{Project}
 use Rattle.project_core.specs.declared.fault.ProjectFault.{ProjectFault}
-use Rattle.project_core.specs.declared.fault.ProjectFault.TheVariants.{NotToml, UnknownKey}
+use Rattle.project_core.specs.declared.fault.ProjectFault.TheVariants.{NotToml}
 use Rattle.project_core.specs.Keys.{key_name, top_keys}
 use Rattle.project_core.specs.Steps.{◌>>=◌, Gives, optional}
 use Rattle.project_core.specs.Tables.{has_only, table_in}
@@ -49,7 +49,7 @@ parts (Ok d) (Ok s) p e =
 top_ok : (t : Members) (p : ProjectContent) → project_of t ≡ Ok p → IsProjectTable t p
 unfolding project_of decimate_in splice_in
 top_ok t p e =
-    let a = tested (has_only top_keys t) UnknownKey (decimate_in t >>= λ d. splice_in t >>= λ s. Ok (record { decimate = d; splice = s })) p e in
+    let a = tested (has_only top_keys t) _ (decimate_in t >>= λ d. splice_in t >>= λ s. Ok (record { decimate = d; splice = s })) p e in
     let q = parts (decimate_in t) (splice_in t) p a.1 in
     record {
       no_others = finds_only top_keys t a.0;

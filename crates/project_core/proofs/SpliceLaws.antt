@@ -9,9 +9,10 @@ use Rattle.std.proofs.lemmas.Slice.Zip.{AllZip-long}
 use Rattle.toml.specs.Data.{Data, array, table, Members}
 use Rattle.toml.specs.View.{items_of}
 use Rattle.project_core.specs.declared.key.Key.TheVariants as keys
-use Rattle.project_core.specs.declared.fault.ProjectFault.TheVariants.{OutOfLimit, LastBridge}
+use Rattle.project_core.specs.declared.key.Table.TheVariants as tables
+use Rattle.project_core.specs.declared.fault.ProjectFault.TheVariants.{OutOfLimit}
 use Rattle.project_core.specs.Steps.{◌>>=◌, each}
-use Rattle.project_core.specs.Reading.{table_of, value_at, array_of, integers_at, texts_at}
+use Rattle.project_core.specs.Reading.{value_at, array_of, integers_at, texts_at}
 use Rattle.project_core.specs.Tables.{list_of, Has, numbers, texts}
 use Rattle.splice_core.specs.Cues.{CueContent, AreWeights, last_bridge, IsCueWithin, IsSplicing}
 use Rattle.project_core.specs.ReadingCue.{cue_of}
@@ -37,16 +38,16 @@ weights_parts ws h =
 pub weights_ok : (t : Members) (ws : List ℤ) → weights_at t ≡ Ok ws → Has t keys.Weights (numbers ws) × AreWeights ws
 unfolding weights_at
 weights_ok t ws e =
-    let a = bind_ok (integers_at keys.Weights t) (λ ws. cond (are_weights ws) (Ok ws) (Err (OutOfLimit keys.Weights))) ws e in
-    let b = passed (are_weights a.0) (OutOfLimit keys.Weights) a.0 ws a.2 in
-    subst (λ (xs : List ℤ). Has t keys.Weights (numbers xs) × AreWeights xs) b.1 (integers_ok keys.Weights t a.0 a.1, weights_parts a.0 b.0)
+    let a = bind_ok (integers_at keys.Weights tables.Splice t) (λ ws. cond (are_weights ws) (Ok ws) (Err (OutOfLimit keys.Weights tables.Splice))) ws e in
+    let b = passed (are_weights a.0) (OutOfLimit keys.Weights tables.Splice) a.0 ws a.2 in
+    subst (λ (xs : List ℤ). Has t keys.Weights (numbers xs) × AreWeights xs) b.1 (integers_ok keys.Weights tables.Splice t a.0 a.1, weights_parts a.0 b.0)
 
 pub takes_ok : (t : Members) (ts : List (List ℕ)) → takes_at t ≡ Ok ts → Has t keys.Takes (texts ts) × ((1 ≤ length ts) × (length ts ≤ 16))
 unfolding takes_at
 takes_ok t ts e =
-    let a = bind_ok (texts_at keys.Takes t) (λ ts. cond (is_number 16 (length ts)) (Ok ts) (Err (OutOfLimit keys.Takes))) ts e in
-    let b = passed (is_number 16 (length a.0)) (OutOfLimit keys.Takes) a.0 ts a.2 in
-    subst (λ (xs : List (List ℕ)). Has t keys.Takes (texts xs) × ((1 ≤ length xs) × (length xs ≤ 16))) b.1 (texts_ok keys.Takes t a.0 a.1, number_parts 16 (length a.0) b.0)
+    let a = bind_ok (texts_at keys.Takes tables.Splice t) (λ ts. cond (is_number 16 (length ts)) (Ok ts) (Err (OutOfLimit keys.Takes tables.Splice))) ts e in
+    let b = passed (is_number 16 (length a.0)) (OutOfLimit keys.Takes tables.Splice) a.0 ts a.2 in
+    subst (λ (xs : List (List ℕ)). Has t keys.Takes (texts xs) × ((1 ≤ length xs) × (length xs ≤ 16))) b.1 (texts_ok keys.Takes tables.Splice t a.0 a.1, number_parts 16 (length a.0) b.0)
 
 -- a value is a table that says this cue
 abbrev SaysCue : ℕ → ℕ → Data → CueContent → Type 0
@@ -64,28 +65,28 @@ pub cues_ok : (weights takes : ℕ) (t : Members) (ps : List CueContent) → cue
     → ((ts : List Members) × Has t keys.Cue (array (items_of (map table ts))) × AllZip (IsCue weights takes) ts ps) × ((1 ≤ length ps) × (length ps ≤ 256)) × All (IsCueWithin weights takes) ps
 unfolding cues_at cues_of
 cues_ok weights takes t ps e =
-    let a = bind_ok (value_at keys.Cue t) (λ d. array_of keys.Cue d >>= λ ds. cond (is_number 256 (length (list_of ds))) (each (cue_of weights takes) 0 (list_of ds)) (Err (OutOfLimit keys.Cue))) ps e in
-    let b = bind_ok (array_of keys.Cue a.0) (λ ds. cond (is_number 256 (length (list_of ds))) (each (cue_of weights takes) 0 (list_of ds)) (Err (OutOfLimit keys.Cue))) ps a.2 in
-    let c = tested (is_number 256 (length (list_of b.0))) (OutOfLimit keys.Cue) (each (cue_of weights takes) 0 (list_of b.0)) ps b.2 in
+    let a = bind_ok (value_at keys.Cue tables.Splice t) (λ d. array_of keys.Cue tables.Splice d >>= λ ds. cond (is_number 256 (length (list_of ds))) (each (cue_of weights takes) 0 (list_of ds)) (Err (OutOfLimit keys.Cue tables.Splice))) ps e in
+    let b = bind_ok (array_of keys.Cue tables.Splice a.0) (λ ds. cond (is_number 256 (length (list_of ds))) (each (cue_of weights takes) 0 (list_of ds)) (Err (OutOfLimit keys.Cue tables.Splice))) ps a.2 in
+    let c = tested (is_number 256 (length (list_of b.0))) (OutOfLimit keys.Cue tables.Splice) (each (cue_of weights takes) 0 (list_of b.0)) ps b.2 in
     let zip = each_ok (cue_of weights takes) (SaysCue weights takes) (λ i d p h. cue_ok weights takes i d p h) 0 (list_of b.0) ps c.1 in
-    let tables = tables_of weights takes (list_of b.0) ps zip in
-    let items : b.0 ≡ items_of (map table tables.0) = sym (items_of-list_of b.0) ∙ ap items_of tables.1 in
+    let stated = tables_of weights takes (list_of b.0) ps zip in
+    let items : b.0 ≡ items_of (map table stated.0) = sym (items_of-list_of b.0) ∙ ap items_of stated.1 in
     let long : length ps ≡ length (list_of b.0) = AllZip-long (SaysCue weights takes) (list_of b.0) ps zip in
     let few = number_parts 256 (length (list_of b.0)) c.0 in
     let each_fits = zip_right (SaysCue weights takes) (IsCueWithin weights takes) (λ d p h. h.2.limits) (list_of b.0) ps zip in
-    ((tables.0, value_ok keys.Cue t a.0 a.1 ∙ ap (λ (d : Data). Some d) (array_ok keys.Cue a.0 b.0 b.1 ∙ ap array items), tables.2), (omega arith, omega arith), All-from_recursion (IsCueWithin weights takes) ps each_fits)
+    ((stated.0, value_ok keys.Cue tables.Splice t a.0 a.1 ∙ ap (λ (d : Data). Some d) (array_ok keys.Cue tables.Splice a.0 b.0 b.1 ∙ ap array items), stated.2), (omega arith, omega arith), All-from_recursion (IsCueWithin weights takes) ps each_fits)
 
 pub splice_ok : (d : Data) (s : SpliceContent) → splice_of d ≡ Ok s → (t : Members) × (d ≡ table t) × IsSplice t s
 unfolding splice_of
 splice_ok d s e =
-    let a = bind_ok (table_of keys.Splice splice_keys d) (λ t. weights_at t >>= λ ws. takes_at t >>= λ ts. cues_at (length ws) (length ts) t >>= λ cs. cond (eqb (last_bridge cs) 0) (Ok (record { weights = ws; takes = ts; cues = cs })) (Err LastBridge)) s e in
+    let a = bind_ok _ _ s e in
     let t = a.0 in
-    let b = bind_ok (weights_at t) (λ ws. takes_at t >>= λ ts. cues_at (length ws) (length ts) t >>= λ cs. cond (eqb (last_bridge cs) 0) (Ok (record { weights = ws; takes = ts; cues = cs })) (Err LastBridge)) s a.2 in
-    let c = bind_ok (takes_at t) (λ ts. cues_at (length b.0) (length ts) t >>= λ cs. cond (eqb (last_bridge cs) 0) (Ok (record { weights = b.0; takes = ts; cues = cs })) (Err LastBridge)) s b.2 in
-    let f = bind_ok (cues_at (length b.0) (length c.0) t) (λ cs. cond (eqb (last_bridge cs) 0) (Ok (record { weights = b.0; takes = c.0; cues = cs })) (Err LastBridge)) s c.2 in
+    let b = bind_ok _ _ s a.2 in
+    let c = bind_ok _ _ s b.2 in
+    let f = bind_ok _ _ s c.2 in
     let made : SpliceContent = record { weights = b.0; takes = c.0; cues = f.0 } in
-    let g = passed (eqb (last_bridge f.0) 0) LastBridge made s f.2 in
-    let known = table_ok keys.Splice splice_keys d t a.1 in
+    let g = passed (eqb (last_bridge f.0) 0) _ made s f.2 in
+    let known = table_ok keys.Splice tables.Splice splice_keys d t a.1 in
     let weights = weights_ok t b.0 b.1 in
     let takes = takes_ok t c.0 c.1 in
     let cues = cues_ok (length b.0) (length c.0) t f.0 f.1 in
@@ -99,7 +100,7 @@ number_again limit n h = rw (le-leb 1 n h.0, le-leb n limit h.1)
 weights_kept : (ws : List ℤ) → AreWeights ws → are_weights ws ≡ true
 weights_kept ws h = rw (le-leb 2 (length ws) h.two_weights, le-leb (length ws) 12 h.few_weights, le-leb (sum_by unsigned_abs ws) 4096 h.small_sum)
 
-pub weights_taken : (t : Members) (ws : List ℤ) → integers_at keys.Weights t ≡ Ok ws → AreWeights ws → weights_at t ≡ Ok ws
+pub weights_taken : (t : Members) (ws : List ℤ) → integers_at keys.Weights tables.Splice t ≡ Ok ws → AreWeights ws → weights_at t ≡ Ok ws
 unfolding weights_at
 weights_taken t ws is fit = rw (is, weights_kept ws fit) refl
 
@@ -107,32 +108,32 @@ untrue : (b : Bool) → (b ≡ true → ⊥) → b ≡ false
 untrue true h = absurd (h refl)
 untrue false h = refl
 
-pub weights_refused : (t : Members) (ws : List ℤ) → integers_at keys.Weights t ≡ Ok ws → (AreWeights ws → ⊥) → weights_at t ≡ Err (OutOfLimit keys.Weights)
+pub weights_refused : (t : Members) (ws : List ℤ) → integers_at keys.Weights tables.Splice t ≡ Ok ws → (AreWeights ws → ⊥) → weights_at t ≡ Err (OutOfLimit keys.Weights tables.Splice)
 unfolding weights_at
 weights_refused t ws is unfit = rw (is, untrue (are_weights ws) (λ fit. unfit (weights_parts ws fit))) refl
 
 pub weights_again : (t : Members) (ws : List ℤ) → Has t keys.Weights (numbers ws) → AreWeights ws → weights_at t ≡ Ok ws
 unfolding weights_at
 weights_again t ws h fit =
-    rw (integers_again keys.Weights t ws h (fits_by_sum ws (omega (arith, fit.small_sum))), weights_kept ws fit)
+    rw (integers_again keys.Weights tables.Splice t ws h (fits_by_sum ws (omega (arith, fit.small_sum))), weights_kept ws fit)
 
 pub takes_again : (t : Members) (ts : List (List ℕ)) → Has t keys.Takes (texts ts) → (1 ≤ length ts) × (length ts ≤ 16) → takes_at t ≡ Ok ts
 unfolding takes_at
-takes_again t ts h fit = rw (texts_again keys.Takes t ts h, number_again 16 (length ts) fit)
+takes_again t ts h fit = rw (texts_again keys.Takes tables.Splice t ts h, number_again 16 (length ts) fit)
 
 pub cues_again : (weights takes : ℕ) (t : Members) (ts : List Members) (ps : List CueContent) → Has t keys.Cue (array (items_of (map table ts))) → AllZip (IsCue weights takes) ts ps → (1 ≤ length ps) × (length ps ≤ 256) → cues_at weights takes t ≡ Ok ps
 unfolding cues_at cues_of
 cues_again weights takes t ts ps h zip fit =
     let long : length (map table ts) ≡ length ps = length-map ts table ∙ sym (AllZip-long (IsCue weights takes) ts ps zip) in
     let few : is_number 256 (length (map table ts)) ≡ true = number_again 256 (length (map table ts)) (omega arith, omega arith) in
-    rw (value_again keys.Cue t (array (items_of (map table ts))) h, list_of-items_of (map table ts), few)
+    rw (value_again keys.Cue tables.Splice t (array (items_of (map table ts))) h, list_of-items_of (map table ts), few)
     (zip_again (cue_of weights takes) table (IsCue weights takes) (λ i s p says. cue_again weights takes i s p says) 0 ts ps zip)
 
 pub splice_again : (t : Members) (s : SpliceContent) → IsSplice t s → splice_of (table t) ≡ Ok s
 unfolding splice_of
 splice_again t s h =
     rw (
-      table_again keys.Splice splice_keys t h.no_others,
+      table_again keys.Splice tables.Splice splice_keys t h.no_others,
       weights_again t s.weights h.weights h.limits.weights_fit,
       takes_again t s.takes h.takes (h.limits.some_takes, h.limits.few_takes),
       cues_again (length s.weights) (length s.takes) t h.cues.0 s.cues h.cues.1 h.cues.2 (h.limits.some_cues, h.limits.few_cues),

@@ -1,7 +1,7 @@
 -- What a reading by steps is, one step at a time, and what is returned where a step fails.
-use Rattle.std.proofs.Common.{◌≡◌, Result, Ok, Err, IsErrAnd}
+use Rattle.std.proofs.Common.{◌≡◌, Result, Ok, Err, IsErrAnd, refl}
 use Rattle.project_core.specs.declared.fault.ProjectFault.{ProjectFault}
-use Rattle.project_core.specs.declared.fault.ProjectFault.TheVariants.{NotToml, UnknownKey, MissingKey, WrongKind, OutOfLimit, NoTake, ShortCue, LastBridge, Memory}
+use Rattle.project_core.specs.declared.fault.ProjectFault.TheVariants.{Memory}
 use Rattle.project_core.specs.Steps.{◌>>=◌, Fails, Gives}
 
 -- after a step with a value
@@ -14,14 +14,7 @@ then_is s f x r is h = rw is h
 -- at a step that fails
 pub step_fails : {A B : Type 0} (e : ProjectFault) (s : Result A ProjectFault) (f : A → Result B ProjectFault) → Fails e s → Fails e (s >>= f)
 step_fails Memory s f h = tt
-step_fails NotToml s f h = rw h
-step_fails UnknownKey s f h = rw h
-step_fails (MissingKey k) s f h = rw h
-step_fails (WrongKind k) s f h = rw h
-step_fails (OutOfLimit k) s f h = rw h
-step_fails (NoTake k) s f h = rw h
-step_fails (ShortCue k) s f h = rw h
-step_fails LastBridge s f h = rw h
+step_fails e s f h = rw h refl
 
 pub gives_fault : {X Y : Type 0} (view : X → Y) (r : Result X ProjectFault) (e : ProjectFault) (reading : Result Y ProjectFault) → IsErrAnd r (λ x. x ≡ e) → Fails e reading → Gives view r reading
 gives_fault view (Ok x) e reading h fails = absurd h

@@ -5,6 +5,7 @@ use Rattle.std.proofs.lemmas.Bool.{lt-ltb}
 use Rattle.std.proofs.lemmas.List.Sums.{sum_by-cons}
 use Rattle.toml.specs.Data.{Data, string, integer, table, Members}
 use Rattle.project_core.specs.declared.key.Key.{Key}
+use Rattle.project_core.specs.declared.key.Table.{Table}
 use Rattle.project_core.specs.declared.fault.ProjectFault.{ProjectFault}
 use Rattle.project_core.specs.Tables.{FindsOnly, Has, number, numbers, texts}
 use Rattle.project_core.specs.Reading.{value_at, integer_of, text_of, table_of, limited_at, unsigned_at, fits_i32, signed_of, integers_of, narrow, integers_at, texts_of, texts_at}
@@ -12,23 +13,23 @@ use Rattle.project_core.specs.Steps.{each}
 use Rattle.project_core.proofs.KeyLaws.{has_only_from}
 use Rattle.project_core.proofs.TableLaws.{list_of-items_of}
 
-pub table_again : (key : Key) (keys : List Key) (t : Members) → FindsOnly keys t → table_of key keys (table t) ≡ Ok t
+pub table_again : (key : Key) (place : Table) (keys : List Key) (t : Members) → FindsOnly keys t → table_of key place keys (table t) ≡ Ok t
 unfolding table_of
-table_again key keys t h = rw (has_only_from keys t h)
+table_again key place keys t h = rw (has_only_from keys t h)
 
-pub value_again : (key : Key) (t : Members) (d : Data) → Has t key d → value_at key t ≡ Ok d
+pub value_again : (key : Key) (place : Table) (t : Members) (d : Data) → Has t key d → value_at key place t ≡ Ok d
 unfolding value_at
-value_again key t d h = rw h
+value_again key place t d h = rw h
 
-pub limited_again : (key : Key) (limit : ℕ) (t : Members) (n : ℕ) → Has t key (number n) → n ≤ limit → limited_at key limit t ≡ Ok n
+pub limited_again : (key : Key) (place : Table) (limit : ℕ) (t : Members) (n : ℕ) → Has t key (number n) → n ≤ limit → limited_at key place limit t ≡ Ok n
 unfolding limited_at
-limited_again key limit t n h le =
+limited_again key place limit t n h le =
     let lt : n < limit + 1 = omega arith in
-    rw (value_again key t (number n) h, lt-ltb n (limit + 1) lt)
+    rw (value_again key place t (number n) h, lt-ltb n (limit + 1) lt)
 
-pub unsigned_again : (key : Key) (t : Members) (n : ℕ) → Has t key (number n) → n < 2 ^ 32 → unsigned_at key t ≡ Ok n
+pub unsigned_again : (key : Key) (place : Table) (t : Members) (n : ℕ) → Has t key (number n) → n < 2 ^ 32 → unsigned_at key place t ≡ Ok n
 unfolding unsigned_at
-unsigned_again key t n h lt = rw (value_again key t (number n) h, lt-ltb n (2 ^ 32) lt)
+unsigned_again key place t n h lt = rw (value_again key place t (number n) h, lt-ltb n (2 ^ 32) lt)
 
 -- what is written so is read
 pub each_again : {A B : Type 0} (f : ℕ → A → Result B ProjectFault) (v : B → A) (Q : B → Type 0) → ((i : ℕ) (y : B) → Q y → f i (v y) ≡ Ok y) → (i : ℕ) (ys : List B) → AllByRecursion Q ys → each f i (map v ys) ≡ Ok ys
@@ -49,16 +50,16 @@ always : {A : Type 0} (xs : List A) → AllByRecursion (λ _. Unit {0}) xs
 always [] = tt
 always (x ∷ xs) = (tt, always xs)
 
-pub integers_again : (key : Key) (t : Members) (zs : List ℤ) → Has t key (numbers zs) → AllByRecursion (λ z. fits_i32 z ≡ true) zs → integers_at key t ≡ Ok zs
+pub integers_again : (key : Key) (place : Table) (t : Members) (zs : List ℤ) → Has t key (numbers zs) → AllByRecursion (λ z. fits_i32 z ≡ true) zs → integers_at key place t ≡ Ok zs
 unfolding integers_at integers_of narrow
-integers_again key t zs h fits =
-    rw (value_again key t (numbers zs) h, list_of-items_of (map integer zs), each_again (λ _. integer_of key) integer (λ _. Unit {0}) (λ _ z _. refl) 0 zs (always zs))
-    (each_kept (λ _. signed_of key) (λ z. fits_i32 z ≡ true) (λ _ z fit. rw fit) 0 zs fits)
+integers_again key place t zs h fits =
+    rw (value_again key place t (numbers zs) h, list_of-items_of (map integer zs), each_again (λ _. integer_of key place) integer (λ _. Unit {0}) (λ _ z _. refl) 0 zs (always zs))
+    (each_kept (λ _. signed_of key place) (λ z. fits_i32 z ≡ true) (λ _ z fit. rw fit) 0 zs fits)
 
-pub texts_again : (key : Key) (t : Members) (ss : List (List ℕ)) → Has t key (texts ss) → texts_at key t ≡ Ok ss
+pub texts_again : (key : Key) (place : Table) (t : Members) (ss : List (List ℕ)) → Has t key (texts ss) → texts_at key place t ≡ Ok ss
 unfolding texts_at texts_of
-texts_again key t ss h =
-    rw (value_again key t (texts ss) h, list_of-items_of (map string ss)) (each_again (λ _. text_of key) string (λ _. Unit {0}) (λ _ s _. refl) 0 ss (always ss))
+texts_again key place t ss h =
+    rw (value_again key place t (texts ss) h, list_of-items_of (map string ss)) (each_again (λ _. text_of key place) string (λ _. Unit {0}) (λ _ s _. refl) 0 ss (always ss))
 
 pub fits_one : (z : ℤ) → unsigned_abs z < 2 ^ 31 → fits_i32 z ≡ true
 fits_one (pos n) h = lt-ltb n (2 ^ 31) h

@@ -6,6 +6,7 @@ use Rattle.std.proofs.lemmas.Bool.{ltb-true}
 use Rattle.toml.specs.Data.{Data, string, integer, float, boolean, datetime, array, table, Items, no_items, item, Members, get_member}
 use Rattle.toml.specs.View.{items_of}
 use Rattle.project_core.specs.declared.key.Key.{Key}
+use Rattle.project_core.specs.declared.key.Table.{Table}
 use Rattle.project_core.specs.declared.fault.ProjectFault.{ProjectFault}
 use Rattle.project_core.specs.declared.fault.ProjectFault.TheVariants.{UnknownKey, MissingKey, OutOfLimit}
 use Rattle.project_core.specs.Keys.{key_name}
@@ -38,47 +39,47 @@ pub ok_or_ok : {A : Type 0} (o : Option A) (d : ProjectFault) (x : A) → ok_or 
 ok_or_ok None d x e = absurd cc
 ok_or_ok (Some y) d x e = cc
 
-pub value_ok : (key : Key) (t : Members) (d : Data) → value_at key t ≡ Ok d → get_member (key_name key) t ≡ Some d
+pub value_ok : (key : Key) (place : Table) (t : Members) (d : Data) → value_at key place t ≡ Ok d → get_member (key_name key) t ≡ Some d
 unfolding value_at
-value_ok key t d e = ok_or_ok (get_member (key_name key) t) (MissingKey key) d e
+value_ok key place t d e = ok_or_ok (get_member (key_name key) t) (MissingKey key place) d e
 
-pub integer_ok : (key : Key) (d : Data) (z : ℤ) → integer_of key d ≡ Ok z → d ≡ integer z
-integer_ok key (string s) z e = absurd cc
-integer_ok key (integer x) z e = cc
-integer_ok key (float x) z e = absurd cc
-integer_ok key (boolean x) z e = absurd cc
-integer_ok key (datetime x) z e = absurd cc
-integer_ok key (array x) z e = absurd cc
-integer_ok key (table x) z e = absurd cc
+pub integer_ok : (key : Key) (place : Table) (d : Data) (z : ℤ) → integer_of key place d ≡ Ok z → d ≡ integer z
+integer_ok key place (string s) z e = absurd cc
+integer_ok key place (integer x) z e = cc
+integer_ok key place (float x) z e = absurd cc
+integer_ok key place (boolean x) z e = absurd cc
+integer_ok key place (datetime x) z e = absurd cc
+integer_ok key place (array x) z e = absurd cc
+integer_ok key place (table x) z e = absurd cc
 
-pub text_ok : (key : Key) (d : Data) (s : List ℕ) → text_of key d ≡ Ok s → d ≡ string s
-text_ok key (string x) s e = cc
-text_ok key (integer x) s e = absurd cc
-text_ok key (float x) s e = absurd cc
-text_ok key (boolean x) s e = absurd cc
-text_ok key (datetime x) s e = absurd cc
-text_ok key (array x) s e = absurd cc
-text_ok key (table x) s e = absurd cc
+pub text_ok : (key : Key) (place : Table) (d : Data) (s : List ℕ) → text_of key place d ≡ Ok s → d ≡ string s
+text_ok key place (string x) s e = cc
+text_ok key place (integer x) s e = absurd cc
+text_ok key place (float x) s e = absurd cc
+text_ok key place (boolean x) s e = absurd cc
+text_ok key place (datetime x) s e = absurd cc
+text_ok key place (array x) s e = absurd cc
+text_ok key place (table x) s e = absurd cc
 
-pub array_ok : (key : Key) (d : Data) (ds : Items) → array_of key d ≡ Ok ds → d ≡ array ds
-array_ok key (string x) ds e = absurd cc
-array_ok key (integer x) ds e = absurd cc
-array_ok key (float x) ds e = absurd cc
-array_ok key (boolean x) ds e = absurd cc
-array_ok key (datetime x) ds e = absurd cc
-array_ok key (array x) ds e = cc
-array_ok key (table x) ds e = absurd cc
+pub array_ok : (key : Key) (place : Table) (d : Data) (ds : Items) → array_of key place d ≡ Ok ds → d ≡ array ds
+array_ok key place (string x) ds e = absurd cc
+array_ok key place (integer x) ds e = absurd cc
+array_ok key place (float x) ds e = absurd cc
+array_ok key place (boolean x) ds e = absurd cc
+array_ok key place (datetime x) ds e = absurd cc
+array_ok key place (array x) ds e = cc
+array_ok key place (table x) ds e = absurd cc
 
-pub table_ok : (key : Key) (keys : List Key) (d : Data) (t : Members) → table_of key keys d ≡ Ok t → (d ≡ table t) × FindsOnly keys t
+pub table_ok : (key : Key) (place : Table) (keys : List Key) (d : Data) (t : Members) → table_of key place keys d ≡ Ok t → (d ≡ table t) × FindsOnly keys t
 unfolding table_of
-table_ok key keys (string x) t e = absurd cc
-table_ok key keys (integer x) t e = absurd cc
-table_ok key keys (float x) t e = absurd cc
-table_ok key keys (boolean x) t e = absurd cc
-table_ok key keys (datetime x) t e = absurd cc
-table_ok key keys (array x) t e = absurd cc
-table_ok key keys (table x) t e =
-    let p = passed (has_only keys x) UnknownKey x t e in
+table_ok key place keys (string x) t e = absurd cc
+table_ok key place keys (integer x) t e = absurd cc
+table_ok key place keys (float x) t e = absurd cc
+table_ok key place keys (boolean x) t e = absurd cc
+table_ok key place keys (datetime x) t e = absurd cc
+table_ok key place keys (array x) t e = absurd cc
+table_ok key place keys (table x) t e =
+    let p = passed (has_only keys x) (UnknownKey place) x t e in
     let same = p.1 in
     (ap table same, rw (← same) (finds_only keys x p.0))
 
@@ -94,17 +95,17 @@ below_ok bound (pos m) d n e = of_test (ltb m bound) refl e
 below_ok bound (negsuc m) d n e = absurd cc
 
 -- the integer at a key, and what follows
-pub integer_at_ok : {A : Type 0} (key : Key) (t : Members) (g : ℤ → Result A ProjectFault) (y : A) → (value_at key t >>= λ d. integer_of key d >>= g) ≡ Ok y → (z : ℤ) × (get_member (key_name key) t ≡ Some (integer z)) × (g z ≡ Ok y)
-integer_at_ok key t g y e =
-    let a = bind_ok (value_at key t) (λ d. integer_of key d >>= g) y e in
-    let b = bind_ok (integer_of key a.0) g y a.2 in
-    (b.0, value_ok key t a.0 a.1 ∙ ap (λ (d : Data). Some d) (integer_ok key a.0 b.0 b.1), b.2)
+pub integer_at_ok : {A : Type 0} (key : Key) (place : Table) (t : Members) (g : ℤ → Result A ProjectFault) (y : A) → (value_at key place t >>= λ d. integer_of key place d >>= g) ≡ Ok y → (z : ℤ) × (get_member (key_name key) t ≡ Some (integer z)) × (g z ≡ Ok y)
+integer_at_ok key place t g y e =
+    let a = bind_ok (value_at key place t) (λ d. integer_of key place d >>= g) y e in
+    let b = bind_ok (integer_of key place a.0) g y a.2 in
+    (b.0, value_ok key place t a.0 a.1 ∙ ap (λ (d : Data). Some d) (integer_ok key place a.0 b.0 b.1), b.2)
 
-pub limited_ok : (key : Key) (limit : ℕ) (t : Members) (n : ℕ) → limited_at key limit t ≡ Ok n → (get_member (key_name key) t ≡ Some (integer (pos n))) × (n ≤ limit)
+pub limited_ok : (key : Key) (place : Table) (limit : ℕ) (t : Members) (n : ℕ) → limited_at key place limit t ≡ Ok n → (get_member (key_name key) t ≡ Some (integer (pos n))) × (n ≤ limit)
 unfolding limited_at
-limited_ok key limit t n e =
-    let a = integer_at_ok key t (λ z. ok_or (below (limit + 1) z) (OutOfLimit key)) n e in
-    let b = below_ok (limit + 1) a.0 (OutOfLimit key) n a.2 in
+limited_ok key place limit t n e =
+    let a = integer_at_ok key place t (λ z. ok_or (below (limit + 1) z) (OutOfLimit key place)) n e in
+    let b = below_ok (limit + 1) a.0 (OutOfLimit key place) n a.2 in
     (a.1 ∙ ap (λ (z : ℤ). Some (integer z)) b.0, omega arith)
 
 -- how each item that was read relates to what it was read from
@@ -144,37 +145,37 @@ pub list_of-items_of : (ds : List Data) → list_of (items_of ds) ≡ ds
 list_of-items_of [] = refl
 list_of-items_of (d ∷ ds) = ap (λ (es : List Data). d ∷ es) (list_of-items_of ds)
 
-signed_ok : (key : Key) (z y : ℤ) → signed_of key z ≡ Ok y → z ≡ y
-signed_ok key z y e = (passed (fits_i32 z) (OutOfLimit key) z y e).1
+signed_ok : (key : Key) (place : Table) (z y : ℤ) → signed_of key place z ≡ Ok y → z ≡ y
+signed_ok key place z y e = (passed (fits_i32 z) (OutOfLimit key place) z y e).1
 
 -- the integers at a key that were read are those that it has
-pub integers_ok : (key : Key) (t : Members) (zs : List ℤ) → integers_at key t ≡ Ok zs → Has t key (numbers zs)
+pub integers_ok : (key : Key) (place : Table) (t : Members) (zs : List ℤ) → integers_at key place t ≡ Ok zs → Has t key (numbers zs)
 unfolding integers_at integers_of narrow
-integers_ok key t zs e =
-    let a = bind_ok (value_at key t) (λ d. array_of key d >>= λ ds. each (λ _. integer_of key) 0 (list_of ds) >>= λ ys. each (λ _. signed_of key) 0 ys) zs e in
-    let b = bind_ok (array_of key a.0) (λ ds. each (λ _. integer_of key) 0 (list_of ds) >>= λ ys. each (λ _. signed_of key) 0 ys) zs a.2 in
-    let c = bind_ok (each (λ _. integer_of key) 0 (list_of b.0)) (λ ys. each (λ _. signed_of key) 0 ys) zs b.2 in
-    let spelled : list_of b.0 ≡ map integer c.0 = zip_spelled integer (list_of b.0) c.0 (each_ok (λ _. integer_of key) (λ d z. d ≡ integer z) (λ _ d z h. integer_ok key d z h) 0 (list_of b.0) c.0 c.1) in
-    let same : c.0 ≡ zs = zip_same c.0 zs (each_ok (λ _. signed_of key) (λ z y. z ≡ y) (λ _ z y h. signed_ok key z y h) 0 c.0 zs c.2) in
+integers_ok key place t zs e =
+    let a = bind_ok (value_at key place t) (λ d. array_of key place d >>= λ ds. each (λ _. integer_of key place) 0 (list_of ds) >>= λ ys. each (λ _. signed_of key place) 0 ys) zs e in
+    let b = bind_ok (array_of key place a.0) (λ ds. each (λ _. integer_of key place) 0 (list_of ds) >>= λ ys. each (λ _. signed_of key place) 0 ys) zs a.2 in
+    let c = bind_ok (each (λ _. integer_of key place) 0 (list_of b.0)) (λ ys. each (λ _. signed_of key place) 0 ys) zs b.2 in
+    let spelled : list_of b.0 ≡ map integer c.0 = zip_spelled integer (list_of b.0) c.0 (each_ok (λ _. integer_of key place) (λ d z. d ≡ integer z) (λ _ d z h. integer_ok key place d z h) 0 (list_of b.0) c.0 c.1) in
+    let same : c.0 ≡ zs = zip_same c.0 zs (each_ok (λ _. signed_of key place) (λ z y. z ≡ y) (λ _ z y h. signed_ok key place z y h) 0 c.0 zs c.2) in
     let items : b.0 ≡ items_of (map integer zs) = sym (items_of-list_of b.0) ∙ ap items_of (spelled ∙ ap (map integer) same) in
-    value_ok key t a.0 a.1 ∙ ap (λ (d : Data). Some d) (array_ok key a.0 b.0 b.1 ∙ ap array items)
+    value_ok key place t a.0 a.1 ∙ ap (λ (d : Data). Some d) (array_ok key place a.0 b.0 b.1 ∙ ap array items)
 
 -- and the texts
-pub texts_ok : (key : Key) (t : Members) (ss : List (List ℕ)) → texts_at key t ≡ Ok ss → Has t key (texts ss)
+pub texts_ok : (key : Key) (place : Table) (t : Members) (ss : List (List ℕ)) → texts_at key place t ≡ Ok ss → Has t key (texts ss)
 unfolding texts_at texts_of
-texts_ok key t ss e =
-    let a = bind_ok (value_at key t) (λ d. array_of key d >>= λ ds. each (λ _. text_of key) 0 (list_of ds)) ss e in
-    let b = bind_ok (array_of key a.0) (λ ds. each (λ _. text_of key) 0 (list_of ds)) ss a.2 in
-    let spelled : list_of b.0 ≡ map string ss = zip_spelled string (list_of b.0) ss (each_ok (λ _. text_of key) (λ d s. d ≡ string s) (λ _ d s h. text_ok key d s h) 0 (list_of b.0) ss b.2) in
+texts_ok key place t ss e =
+    let a = bind_ok (value_at key place t) (λ d. array_of key place d >>= λ ds. each (λ _. text_of key place) 0 (list_of ds)) ss e in
+    let b = bind_ok (array_of key place a.0) (λ ds. each (λ _. text_of key place) 0 (list_of ds)) ss a.2 in
+    let spelled : list_of b.0 ≡ map string ss = zip_spelled string (list_of b.0) ss (each_ok (λ _. text_of key place) (λ d s. d ≡ string s) (λ _ d s h. text_ok key place d s h) 0 (list_of b.0) ss b.2) in
     let items : b.0 ≡ items_of (map string ss) = sym (items_of-list_of b.0) ∙ ap items_of spelled in
-    value_ok key t a.0 a.1 ∙ ap (λ (d : Data). Some d) (array_ok key a.0 b.0 b.1 ∙ ap array items)
+    value_ok key place t a.0 a.1 ∙ ap (λ (d : Data). Some d) (array_ok key place a.0 b.0 b.1 ∙ ap array items)
 
-unsigned_of_ok : (key : Key) (z : ℤ) (n : ℕ) → unsigned_of key z ≡ Ok n → z ≡ pos n
-unsigned_of_ok key (pos m) n e = ap pos ((passed (ltb m (2 ^ 32)) (OutOfLimit key) m n e).1)
-unsigned_of_ok key (negsuc m) n e = absurd cc
+unsigned_of_ok : (key : Key) (place : Table) (z : ℤ) (n : ℕ) → unsigned_of key place z ≡ Ok n → z ≡ pos n
+unsigned_of_ok key place (pos m) n e = ap pos ((passed (ltb m (2 ^ 32)) (OutOfLimit key place) m n e).1)
+unsigned_of_ok key place (negsuc m) n e = absurd cc
 
-pub unsigned_ok : (key : Key) (t : Members) (n : ℕ) → unsigned_at key t ≡ Ok n → Has t key (number n)
+pub unsigned_ok : (key : Key) (place : Table) (t : Members) (n : ℕ) → unsigned_at key place t ≡ Ok n → Has t key (number n)
 unfolding unsigned_at
-unsigned_ok key t n e =
-    let a = integer_at_ok key t (λ z. unsigned_of key z) n e in
-    a.1 ∙ ap (λ (z : ℤ). Some (integer z)) (unsigned_of_ok key a.0 n a.2)
+unsigned_ok key place t n e =
+    let a = integer_at_ok key place t (λ z. unsigned_of key place z) n e in
+    a.1 ∙ ap (λ (z : ℤ). Some (integer z)) (unsigned_of_ok key place a.0 n a.2)

@@ -5,6 +5,7 @@ use Rattle.fir_core.specs.declared.fault.TapsFault.{TapsFault}
 use Rattle.fir_core.specs.Decimator.{Decimator}
 use Rattle.fir_core.specs.Faults.{broken_limit}
 use Rattle.project_core.specs.declared.key.Key.TheVariants as keys
+use Rattle.project_core.specs.declared.key.Table.TheVariants as tables
 use Rattle.project_core.specs.declared.fault.ProjectFault.{ProjectFault}
 use Rattle.project_core.specs.Faults.{limit_fault}
 use Rattle.project_core.specs.Keys.{decimate_keys}
@@ -19,10 +20,10 @@ unless_broken (Some fault) d = Err (limit_fault fault)
 -- the decimator of the value at `decimate`: every key is read before any limit is tested
 unfoldable pub decimate_of : Data → Result Decimator ProjectFault
 decimate_of value = do
-  table ← table_of keys.Decimate decimate_keys value
-  taps ← integers_at keys.Taps table
-  factor ← unsigned_at keys.Factor table
-  delay ← unsigned_at keys.Delay table
-  shift ← unsigned_at keys.Shift table
-  width ← unsigned_at keys.Width table
+  table ← table_of keys.Decimate tables.Decimate decimate_keys value
+  taps ← integers_at keys.Taps tables.Decimate table
+  factor ← unsigned_at keys.Factor tables.Decimate table
+  delay ← unsigned_at keys.Delay tables.Decimate table
+  shift ← unsigned_at keys.Shift tables.Decimate table
+  width ← unsigned_at keys.Width tables.Decimate table
   let d : Decimator = record { taps = taps; factor = factor; delay = delay; shift = shift; width = width } in unless_broken (broken_limit d) d

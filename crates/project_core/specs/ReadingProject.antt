@@ -4,6 +4,7 @@ use Rattle.std.specs.Option.{ok_or}
 use Rattle.toml.specs.Data.{Members, get_member}
 use Rattle.fir_core.specs.Decimator.{Decimator}
 use Rattle.project_core.specs.declared.key.Key.TheVariants as keys
+use Rattle.project_core.specs.declared.key.Table.TheVariants.{Document}
 use Rattle.project_core.specs.declared.fault.ProjectFault.{ProjectFault}
 use Rattle.project_core.specs.declared.fault.ProjectFault.TheVariants.{NotToml, UnknownKey}
 use Rattle.project_core.specs.Keys.{key_name, top_keys}
@@ -31,7 +32,7 @@ unfoldable pub project_of : Members → Result ProjectContent ProjectFault
 project_of table =
     if has_only top_keys table
     then decimate_in table >>= (λ d. splice_in table >>= (λ s. Ok (record { decimate = d; splice = s })))
-    else Err UnknownKey
+    else Err (UnknownKey Document)
 
 -- the project of a text
 unfoldable pub project_at : List ℕ → Result ProjectContent ProjectFault

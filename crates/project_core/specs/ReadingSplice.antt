@@ -1,8 +1,9 @@
 -- Reading the table `splice`, to its content or the first fault.
-use Rattle.std.specs.Prelude.{ℕ, ℤ, unsigned_abs, List, length, Result, Ok, Err, Bool, ◌&&◌, nat_le, ◌==◌, if◌then◌else◌}
+use Rattle.std.specs.Prelude.{ℕ, ◌-◌, ℤ, unsigned_abs, List, length, Result, Ok, Err, Bool, ◌&&◌, nat_le, ◌==◌, if◌then◌else◌}
 use Rattle.std.specs.List.{sum_by}
 use Rattle.toml.specs.Data.{Data, Members}
 use Rattle.project_core.specs.declared.key.Key.TheVariants as keys
+use Rattle.project_core.specs.declared.key.Table.TheVariants as tables
 use Rattle.project_core.specs.declared.fault.ProjectFault.{ProjectFault}
 use Rattle.project_core.specs.declared.fault.ProjectFault.TheVariants.{OutOfLimit, LastBridge}
 use Rattle.project_core.specs.Keys.{splice_keys}
@@ -24,14 +25,14 @@ is_number limit n = nat_le 1 n && nat_le n limit
 -- the weights
 unfoldable pub weights_at : Members → Result (List ℤ) ProjectFault
 weights_at table = do
-  weights ← integers_at keys.Weights table
-  if are_weights weights then Ok weights else Err (OutOfLimit keys.Weights)
+  weights ← integers_at keys.Weights tables.Splice table
+  if are_weights weights then Ok weights else Err (OutOfLimit keys.Weights tables.Splice)
 
 -- the names of the takes
 unfoldable pub takes_at : Members → Result (List (List ℕ)) ProjectFault
 takes_at table = do
-  takes ← texts_at keys.Takes table
-  if is_number 16 (length takes) then Ok takes else Err (OutOfLimit keys.Takes)
+  takes ← texts_at keys.Takes tables.Splice table
+  if is_number 16 (length takes) then Ok takes else Err (OutOfLimit keys.Takes tables.Splice)
 
 -- the cues that all of the values are
 unfoldable pub cues_of : ℕ → ℕ → List Data → Result (List CueContent) ProjectFault
@@ -40,15 +41,15 @@ cues_of weights takes ds = each (cue_of weights takes) 0 ds
 -- the cues: first how many there are, and then each
 unfoldable pub cues_at : ℕ → ℕ → Members → Result (List CueContent) ProjectFault
 cues_at weights takes table = do
-  d ← value_at keys.Cue table
-  ds ← array_of keys.Cue d
-  if is_number 256 (length (list_of ds)) then cues_of weights takes (list_of ds) else Err (OutOfLimit keys.Cue)
+  d ← value_at keys.Cue tables.Splice table
+  ds ← array_of keys.Cue tables.Splice d
+  if is_number 256 (length (list_of ds)) then cues_of weights takes (list_of ds) else Err (OutOfLimit keys.Cue tables.Splice)
 
 -- the splice of the value at `splice`
 unfoldable pub splice_of : Data → Result SpliceContent ProjectFault
 splice_of value = do
-  table ← table_of keys.Splice splice_keys value
+  table ← table_of keys.Splice tables.Splice splice_keys value
   weights ← weights_at table
   takes ← takes_at table
   cues ← cues_at (length weights) (length takes) table
-  if last_bridge cues == 0 then Ok (record { weights = weights; takes = takes; cues = cues }) else Err LastBridge
+  if last_bridge cues == 0 then Ok (record { weights = weights; takes = takes; cues = cues }) else Err (LastBridge (length cues - 1) (last_bridge cues))

@@ -3,7 +3,7 @@
 ghost use Rattle.std.specs.Prelude.{◌≡◌};
 ghost use Rattle.project_core.specs.declared.fault.ProjectFault.TheVariants.{Memory};
 
-use crate::key::Key;
+use crate::key::{Key, Table};
 use fir_core::TapsFault;
 use std::alloc::{AllocError, AllocFailed};
 use thiserror::Error;
@@ -11,33 +11,54 @@ use thiserror::Error;
 /// Why a project text is not read: the first fault in the order of reading.
 ///
 /// A fault's text is its name. If it has a key, or the number of a cue counted from 0, this follows after one space. A
-/// key is spelled as in the project text.
+/// key is spelled as in the project text. What else was seen is not part of the text.
 #[derive(Clone, Copy, Debug, PartialEq, Eq, Error)]
 pub enum ProjectFault {
     /// The bytes are no TOML document.
     #[error("NotToml")]
     NotToml,
-    /// A table has a key that is none of its keys.
+    /// This table has a key that is none of its keys.
     #[error("UnknownKey")]
-    UnknownKey,
-    /// A table lacks this key.
+    UnknownKey(Table),
+    /// This table lacks this key.
     #[error("MissingKey {0}")]
-    MissingKey(Key),
-    /// The value at this key isn't of the right kind.
+    MissingKey(Key, Table),
+    /// The value at this key of this table isn't of the right kind. Of a key that should be a table, it is this table.
     #[error("WrongKind {0}")]
-    WrongKind(Key),
-    /// The value at this key is outside its limits.
+    WrongKind(Key, Table),
+    /// The value at this key of this table is outside its limits.
     #[error("OutOfLimit {0}")]
-    OutOfLimit(Key),
-    /// This cue names a take that isn't there.
-    #[error("NoTake {0}")]
-    NoTake(usize),
-    /// This cue is more than one bit shorter than the number of weights.
-    #[error("ShortCue {0}")]
-    ShortCue(usize),
+    OutOfLimit(Key, Table),
+    /// A cue names a take that isn't there.
+    #[error("NoTake {cue}")]
+    NoTake {
+        /// The number of the cue.
+        cue: usize,
+        /// The number of the take.
+        take: i64,
+        /// How many takes there are.
+        takes: usize,
+    },
+    /// A cue is more than one bit shorter than the number of weights.
+    #[error("ShortCue {cue}")]
+    ShortCue {
+        /// The number of the cue.
+        cue: usize,
+        /// Its first bit.
+        start: usize,
+        /// The place after its last bit.
+        stop: usize,
+        /// How many weights there are.
+        weights: usize,
+    },
     /// The last cue has a bridge.
     #[error("LastBridge")]
-    LastBridge,
+    LastBridge {
+        /// The number of the cue.
+        cue: usize,
+        /// The length of its bridge, in bits.
+        bridge: usize,
+    },
     /// Out of memory.
     #[error("Memory")]
     Memory,
@@ -65,13 +86,14 @@ impl From<TapsFault> for ProjectFault {
     ghost from_gives = { λ f e. e ≡ limit_fault f };
 
     fn from(fault: TapsFault) -> ProjectFault {
-        match fault {
-            TapsFault::TapNumber | TapsFault::TapSum => ProjectFault::OutOfLimit(Key::Taps),
-            TapsFault::Factor => ProjectFault::OutOfLimit(Key::Factor),
-            TapsFault::Delay => ProjectFault::OutOfLimit(Key::Delay),
-            TapsFault::Shift => ProjectFault::OutOfLimit(Key::Shift),
-            TapsFault::Width => ProjectFault::OutOfLimit(Key::Width),
-            TapsFault::Memory => ProjectFault::Memory,
-        }
+        let key = match fault {
+            TapsFault::TapNumber | TapsFault::TapSum => Key::Taps,
+            TapsFault::Factor => Key::Factor,
+            TapsFault::Delay => Key::Delay,
+            TapsFault::Shift => Key::Shift,
+            TapsFault::Width => Key::Width,
+            TapsFault::Memory => return ProjectFault::Memory,
+        };
+        ProjectFault::OutOfLimit(key, Table::Decimate)
     }
 }

@@ -44,6 +44,19 @@ pub enum Key {
     Title,
 }
 
+/// A table of a project text.
+#[derive(Clone, Copy, Debug, PartialEq, Eq)]
+pub enum Table {
+    /// The whole document.
+    Document,
+    /// The table of the decimator.
+    Decimate,
+    /// The table of the splice.
+    Splice,
+    /// The table of the cue of this number.
+    Cue(usize),
+}
+
 impl Key {
     /// The key as it is spelled in a text.
     #[tactic(auto, unfolding(crate::specs::Keys::key_name))]

@@ -66,9 +66,12 @@ mod reading;
 mod splice_table;
 mod table;
 
+pub use cue_table::{CUE_KEYS, MAX_BRIDGE, MAX_END, MAX_PLACE, MAX_TITLE};
+pub use decimate_table::DECIMATE_KEYS;
 pub use fault::ProjectFault;
-pub use key::Key;
+pub use key::{Key, Table};
 pub use laws::{one_project, read_as_said};
 pub use project::Project;
-pub use reading::read;
+pub use reading::{DOCUMENT_KEYS, read};
 pub use splice_core::{Cue, Splice, Target};
+pub use splice_table::{MAX_CUES, MAX_TAKES, MAX_WEIGHT_SUM, MAX_WEIGHTS, SPLICE_KEYS};

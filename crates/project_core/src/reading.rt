@@ -10,16 +10,16 @@ ghost use Rattle.project_core.specs.ReadingProject.{decimate_in, document, proje
 
 use crate::decimate_table::decimate_of;
 use crate::fault::ProjectFault;
-use crate::key::Key;
+use crate::key::{Key, Table};
 use crate::project::Project;
 use crate::splice_table::splice_of;
 use crate::table::{find, has_only};
 use fir_core::Taps;
 use splice_core::Splice;
 use std::alloc::Global;
-use toml::Table;
 
-const KEYS: [Key; 2] = [Key::Decimate, Key::Splice];
+/// The keys of the document.
+pub const DOCUMENT_KEYS: [Key; 2] = [Key::Decimate, Key::Splice];
 
 /// The project that a text states.
 ///
@@ -62,7 +62,7 @@ fn read_in_order(alloc: Global, bytes: &[u8]) -> Result<Project, ProjectFault>
 
 // The TOML document that the bytes are.
 #[tactic(auto, unfolding(crate::specs::ReadingProject::document))]
-fn document(alloc: Global, bytes: &[u8]) -> Result<Table, ProjectFault>
+fn document(alloc: Global, bytes: &[u8]) -> Result<toml::Table, ProjectFault>
     ensures { Gives (λ t. table_view t) result (document bytes.now) }
 {
     match toml::table_from_slice(alloc, bytes) {
@@ -79,11 +79,11 @@ fn document(alloc: Global, bytes: &[u8]) -> Result<Table, ProjectFault>
 
 // The project of a document.
 #[tactic(auto, unfolding(crate::specs::ReadingProject::project_of))]
-fn project_of(alloc: Global, table: &Table) -> Result<Project, ProjectFault>
+fn project_of(alloc: Global, table: &toml::Table) -> Result<Project, ProjectFault>
     ensures { Gives project_content result (project_of (table_view table.now)) }
 {
-    if !has_only(table, &KEYS) {
-        return Err(ProjectFault::UnknownKey);
+    if !has_only(table, &DOCUMENT_KEYS) {
+        return Err(ProjectFault::UnknownKey(Table::Document));
     }
     let decimate = decimate_in(alloc, table)?;
     let splice = splice_in(alloc, table)?;
@@ -92,7 +92,7 @@ fn project_of(alloc: Global, table: &Table) -> Result<Project, ProjectFault>
 
 // The decimator, if there is one.
 #[tactic(auto, unfolding(crate::specs::ReadingProject::decimate_in))]
-fn decimate_in(alloc: Global, table: &Table) -> Result<Option<Taps>, ProjectFault>
+fn decimate_in(alloc: Global, table: &toml::Table) -> Result<Option<Taps>, ProjectFault>
     ensures { Gives (λ o. o) result (decimate_in (table_view table.now)) }
 {
     let Some(value) = find(table, Key::Decimate) else {
@@ -103,7 +103,7 @@ fn decimate_in(alloc: Global, table: &Table) -> Result<Option<Taps>, ProjectFaul
 
 // The splice, if there is one.
 #[tactic(auto, unfolding(crate::specs::ReadingProject::splice_in))]
-fn splice_in(alloc: Global, table: &Table) -> Result<Option<Splice>, ProjectFault>
+fn splice_in(alloc: Global, table: &toml::Table) -> Result<Option<Splice>, ProjectFault>
     ensures { Gives (λ o. option_map splice_content o) result (splice_in (table_view table.now)) }
 {
     let Some(value) = find(table, Key::Splice) else {

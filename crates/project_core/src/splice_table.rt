@@ -11,25 +11,40 @@ ghost use Rattle.project_core.specs.ReadingSplice.{cues_at, cues_of, splice_of, 
 
 use crate::cue_table::cue_of;
 use crate::fault::ProjectFault;
-use crate::key::Key;
+use crate::key::{Key, Table};
 use crate::table::{integers_at, table_of, texts_at, value_at};
 use splice_core::{Cue, Splice};
 use std::alloc::Global;
-use toml::{Table, Value};
+use toml::Value;
 
-const KEYS: [Key; 3] = [Key::Weights, Key::Takes, Key::Cue];
+/// The most weights.
+pub const MAX_WEIGHTS: usize = 12;
+
+/// The greatest sum of the absolute values of weights.
+pub const MAX_WEIGHT_SUM: u64 = 4096;
+
+/// The most takes.
+pub const MAX_TAKES: usize = 16;
+
+/// The most cues.
+pub const MAX_CUES: usize = 256;
+
+/// The keys of the table `splice`.
+pub const SPLICE_KEYS: [Key; 3] = [Key::Weights, Key::Takes, Key::Cue];
 
 /// The splice of the value at `splice`.
 #[tactic(auto, unfolding(crate::specs::ReadingSplice::splice_of))]
 pub(crate) fn splice_of(alloc: Global, value: &Value) -> Result<Splice, ProjectFault>
     ensures { Gives splice_content result (splice_of (view value.now)) }
 {
-    let table = table_of(value, Key::Splice, &KEYS)?;
+    let table = table_of(value, Key::Splice, Table::Splice, &SPLICE_KEYS)?;
     let weights = weights_at(alloc, table)?;
     let takes = takes_at(alloc, table)?;
     let cues = cues_at(alloc, table, weights.len(), takes.len())?;
-    if last_bridge(&cues) != 0 {
-        return Err(ProjectFault::LastBridge);
+    let bridge = last_bridge(&cues);
+    if bridge != 0 {
+        let cue = cues.len().saturating_sub(1);
+        return Err(ProjectFault::LastBridge { cue, bridge });
     }
     Ok(Splice {
         weights,
@@ -40,24 +55,24 @@ pub(crate) fn splice_of(alloc: Global, value: &Value) -> Result<Splice, ProjectF
 
 // 2 to 12 weights, with absolute values that add up to at most 4096.
 #[tactic(auto, unfolding(crate::specs::ReadingSplice::weights_at))]
-fn weights_at(alloc: Global, table: &Table) -> Result<Vec<i32>, ProjectFault>
+fn weights_at(alloc: Global, table: &toml::Table) -> Result<Vec<i32>, ProjectFault>
     ensures { Gives (λ v. v.items) result (weights_at (table_view table.now)) }
 {
-    let weights = integers_at(alloc, table, Key::Weights)?;
-    if weights.len() < 2 || weights.len() > 12 || abs_sum(&weights) > 4096 {
-        return Err(ProjectFault::OutOfLimit(Key::Weights));
+    let weights = integers_at(alloc, table, Key::Weights, Table::Splice)?;
+    if weights.len() < 2 || weights.len() > MAX_WEIGHTS || abs_sum(&weights) > MAX_WEIGHT_SUM {
+        return Err(ProjectFault::OutOfLimit(Key::Weights, Table::Splice));
     }
     Ok(weights)
 }
 
 // The names of 1 to 16 takes.
 #[tactic(auto, unfolding(crate::specs::ReadingSplice::takes_at))]
-fn takes_at(alloc: Global, table: &Table) -> Result<Vec<String>, ProjectFault>
+fn takes_at(alloc: Global, table: &toml::Table) -> Result<Vec<String>, ProjectFault>
     ensures { Gives (λ v. map string_bytes v.items) result (takes_at (table_view table.now)) }
 {
-    let takes = texts_at(alloc, table, Key::Takes)?;
-    if takes.is_empty() || takes.len() > 16 {
-        return Err(ProjectFault::OutOfLimit(Key::Takes));
+    let takes = texts_at(alloc, table, Key::Takes, Table::Splice)?;
+    if takes.is_empty() || takes.len() > MAX_TAKES {
+        return Err(ProjectFault::OutOfLimit(Key::Takes, Table::Splice));
     }
     Ok(takes)
 }
@@ -66,17 +81,19 @@ fn takes_at(alloc: Global, table: &Table) -> Result<Vec<String>, ProjectFault>
 #[tactic(auto, using(crate::proofs::Each::list_of_length), unfolding(crate::specs::ReadingSplice::cues_at))]
 fn cues_at(
     alloc: Global,
-    table: &Table,
+    table: &toml::Table,
     weights: usize,
     takes: usize,
 ) -> Result<Vec<Cue>, ProjectFault>
     requires { weights ≤ 12 }
     ensures { Gives (λ v. map cue_content v.items) result (cues_at weights takes (table_view table.now)) }
 {
-    let value = value_at(table, Key::Cue)?;
-    let values = value.as_array().ok_or(ProjectFault::WrongKind(Key::Cue))?;
-    if values.is_empty() || values.len() > 256 {
-        return Err(ProjectFault::OutOfLimit(Key::Cue));
+    let value = value_at(table, Key::Cue, Table::Splice)?;
+    let values = value
+        .as_array()
+        .ok_or(ProjectFault::WrongKind(Key::Cue, Table::Splice))?;
+    if values.is_empty() || values.len() > MAX_CUES {
+        return Err(ProjectFault::OutOfLimit(Key::Cue, Table::Splice));
     }
     cues_of(alloc, values, weights, takes)
 }

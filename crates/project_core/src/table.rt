@@ -9,12 +9,12 @@ ghost use Rattle.project_core.specs.Tables.{has_only, is_among, list_of};
 ghost use Rattle.project_core.specs.Reading.{below, integer_of, integers_at, integers_of, limited_at, narrow, signed_of, table_of, text_of, texts_at, texts_of, unsigned_at, value_at};
 
 use crate::fault::ProjectFault;
-use crate::key::Key;
+use crate::key::{Key, Table};
 use std::alloc::Global;
-use toml::{Table, Value};
+use toml::Value;
 
 /// The value at a key, if there is one.
-pub(crate) fn find(table: &Table, key: Key) -> Option<&Value>
+pub(crate) fn find(table: &toml::Table, key: Key) -> Option<&Value>
     ensures { option_map (λ v. view v.now) result ≡ get_member (key_name key) (table_view table.now) }
 {
     table.get(key.name())
@@ -22,44 +22,47 @@ pub(crate) fn find(table: &Table, key: Key) -> Option<&Value>
 
 /// The value at a key that must be there.
 #[tactic(auto, unfolding(crate::specs::Reading::value_at))]
-pub(crate) fn value_at(table: &Table, key: Key) -> Result<&Value, ProjectFault>
-    ensures { Gives (λ v. view v.now) result (value_at key (table_view table.now)) }
+pub(crate) fn value_at(table: &toml::Table, key: Key, place: Table) -> Result<&Value, ProjectFault>
+    ensures { Gives (λ v. view v.now) result (value_at key place (table_view table.now)) }
 {
-    find(table, key).ok_or(ProjectFault::MissingKey(key))
+    find(table, key).ok_or(ProjectFault::MissingKey(key, place))
 }
 
 /// The integer that the value at a key is.
-pub(crate) fn integer_of(value: &Value, key: Key) -> Result<i64, ProjectFault>
-    ensures { Gives (λ z. z) result (integer_of key (view value.now)) }
+pub(crate) fn integer_of(value: &Value, key: Key, place: Table) -> Result<i64, ProjectFault>
+    ensures { Gives (λ z. z) result (integer_of key place (view value.now)) }
 {
-    value.as_integer().ok_or(ProjectFault::WrongKind(key))
+    value
+        .as_integer()
+        .ok_or(ProjectFault::WrongKind(key, place))
 }
 
 /// The text that the value at a key is.
-pub(crate) fn text_of(value: &Value, key: Key) -> Result<&str, ProjectFault>
-    ensures { Gives (λ t. t.now) result (text_of key (view value.now)) }
+pub(crate) fn text_of(value: &Value, key: Key, place: Table) -> Result<&str, ProjectFault>
+    ensures { Gives (λ t. t.now) result (text_of key place (view value.now)) }
 {
-    value.as_str().ok_or(ProjectFault::WrongKind(key))
+    value.as_str().ok_or(ProjectFault::WrongKind(key, place))
 }
 
-/// The table that the value at a key is. It must have no keys but these.
+/// The table that the value at a key is. It is the one at this place, and must have no keys but these.
 #[tactic(auto, unfolding(crate::specs::Reading::table_of))]
 pub(crate) fn table_of<'a>(
     value: &'a Value,
     key: Key,
+    place: Table,
     keys: &[Key],
-) -> Result<&'a Table, ProjectFault>
-    ensures { Gives (λ t. table_view t.now) result (table_of key keys.now (view value.now)) }
+) -> Result<&'a toml::Table, ProjectFault>
+    ensures { Gives (λ t. table_view t.now) result (table_of key place keys.now (view value.now)) }
 {
-    let table = value.as_table().ok_or(ProjectFault::WrongKind(key))?;
+    let table = value.as_table().ok_or(ProjectFault::WrongKind(key, place))?;
     if !has_only(table, keys) {
-        return Err(ProjectFault::UnknownKey);
+        return Err(ProjectFault::UnknownKey(place));
     }
     Ok(table)
 }
 
 /// Whether a table has no keys but these.
-pub(crate) fn has_only(table: &Table, keys: &[Key]) -> bool
+pub(crate) fn has_only(table: &toml::Table, keys: &[Key]) -> bool
     ensures { result ≡ has_only keys.now (table_view table.now) }
 {
     for (name, _) in table {
@@ -72,25 +75,30 @@ pub(crate) fn has_only(table: &Table, keys: &[Key]) -> bool
 
 /// The unsigned number of 32 bits at a key.
 #[tactic(auto, unfolding(crate::specs::Reading::unsigned_at))]
-pub(crate) fn unsigned_at(table: &Table, key: Key) -> Result<u32, ProjectFault>
-    ensures { Gives (λ n. n) result (unsigned_at key (table_view table.now)) }
+pub(crate) fn unsigned_at(table: &toml::Table, key: Key, place: Table) -> Result<u32, ProjectFault>
+    ensures { Gives (λ n. n) result (unsigned_at key place (table_view table.now)) }
 {
-    let integer = integer_of(value_at(table, key)?, key)?;
+    let integer = integer_of(value_at(table, key, place)?, key, place)?;
     match u32::try_from(integer) {
         Ok(number) => Ok(number),
-        Err(_) => Err(ProjectFault::OutOfLimit(key)),
+        Err(_) => Err(ProjectFault::OutOfLimit(key, place)),
     }
 }
 
 /// The number at a key, from 0 to a limit.
 #[tactic(auto, unfolding(crate::specs::Reading::limited_at))]
-pub(crate) fn limited_at(table: &Table, key: Key, limit: usize) -> Result<usize, ProjectFault>
+pub(crate) fn limited_at(
+    table: &toml::Table,
+    key: Key,
+    place: Table,
+    limit: usize,
+) -> Result<usize, ProjectFault>
     requires { limit < 2 ^ 63 }
-    ensures exact { Gives (λ n. n) result (limited_at key limit (table_view table.now)) }
+    ensures exact { Gives (λ n. n) result (limited_at key place limit (table_view table.now)) }
     ensures within { IfOk result (λ n. n ≤ limit) }
 {
-    let integer = integer_of(value_at(table, key)?, key)?;
-    below(integer, limit + 1).ok_or(ProjectFault::OutOfLimit(key))
+    let integer = integer_of(value_at(table, key, place)?, key, place)?;
+    below(integer, limit + 1).ok_or(ProjectFault::OutOfLimit(key, place))
 }
 
 /// The number, if it isn't negative and is below a bound.
@@ -105,23 +113,33 @@ pub(crate) fn below(integer: i64, bound: usize) -> Option<usize>
 
 /// The integers of the array at a key. First all must be integers, and then all must fit 32 bits.
 #[tactic(auto, unfolding(crate::specs::Reading::integers_at))]
-pub(crate) fn integers_at(alloc: Global, table: &Table, key: Key) -> Result<Vec<i32>, ProjectFault>
-    ensures { Gives (λ v. v.items) result (integers_at key (table_view table.now)) }
+pub(crate) fn integers_at(
+    alloc: Global,
+    table: &toml::Table,
+    key: Key,
+    place: Table,
+) -> Result<Vec<i32>, ProjectFault>
+    ensures { Gives (λ v. v.items) result (integers_at key place (table_view table.now)) }
 {
-    let value = value_at(table, key)?;
-    let array = value.as_array().ok_or(ProjectFault::WrongKind(key))?;
-    let integers = integers_of(alloc, array, key)?;
-    narrow(alloc, &integers, key)
+    let value = value_at(table, key, place)?;
+    let array = value.as_array().ok_or(ProjectFault::WrongKind(key, place))?;
+    let integers = integers_of(alloc, array, key, place)?;
+    narrow(alloc, &integers, key, place)
 }
 
 /// The texts of the array at a key.
 #[tactic(auto, unfolding(crate::specs::Reading::texts_at))]
-pub(crate) fn texts_at(alloc: Global, table: &Table, key: Key) -> Result<Vec<String>, ProjectFault>
-    ensures { Gives (λ v. map string_bytes v.items) result (texts_at key (table_view table.now)) }
+pub(crate) fn texts_at(
+    alloc: Global,
+    table: &toml::Table,
+    key: Key,
+    place: Table,
+) -> Result<Vec<String>, ProjectFault>
+    ensures { Gives (λ v. map string_bytes v.items) result (texts_at key place (table_view table.now)) }
 {
-    let value = value_at(table, key)?;
-    let array = value.as_array().ok_or(ProjectFault::WrongKind(key))?;
-    texts_of(alloc, array, key)
+    let value = value_at(table, key, place)?;
+    let array = value.as_array().ok_or(ProjectFault::WrongKind(key, place))?;
+    texts_of(alloc, array, key, place)
 }
 
 // Whether a name is that of one of these keys.
@@ -134,35 +152,40 @@ fn is_among(keys: &[Key], name: &str) -> bool
 
 // The integers that the values are. All must be integers.
 #[tactic(auto, unfolding(crate::specs::Reading::integers_of))]
-fn integers_of(alloc: Global, values: &[Value], key: Key) -> Result<Vec<i64>, ProjectFault>
-    ensures { Gives (λ v. v.items) result (integers_of key (list_of (items_view values.now))) }
+fn integers_of(
+    alloc: Global,
+    values: &[Value],
+    key: Key,
+    place: Table,
+) -> Result<Vec<i64>, ProjectFault>
+    ensures { Gives (λ v. v.items) result (integers_of key place (list_of (items_view values.now))) }
 {
     let mut integers = Vec::new(alloc);
     for value in values {
-        let integer = integer_of(value, key)?;
+        let integer = integer_of(value, key, place)?;
         integers.push(integer)?;
     }
     Ok(integers)
 }
 
 // The number, which must fit 32 bits.
-fn signed_of(integer: i64, key: Key) -> Result<i32, ProjectFault>
-    ensures { Gives (λ z. z) result (signed_of key integer) }
+fn signed_of(integer: i64, key: Key, place: Table) -> Result<i32, ProjectFault>
+    ensures { Gives (λ z. z) result (signed_of key place integer) }
 {
     match i32::try_from(integer) {
         Ok(number) => Ok(number),
-        Err(_) => Err(ProjectFault::OutOfLimit(key)),
+        Err(_) => Err(ProjectFault::OutOfLimit(key, place)),
     }
 }
 
 // The numbers, all of which must fit 32 bits.
 #[tactic(auto, unfolding(crate::specs::Reading::narrow))]
-fn narrow(alloc: Global, integers: &[i64], key: Key) -> Result<Vec<i32>, ProjectFault>
-    ensures { Gives (λ v. v.items) result (narrow key integers.now) }
+fn narrow(alloc: Global, integers: &[i64], key: Key, place: Table) -> Result<Vec<i32>, ProjectFault>
+    ensures { Gives (λ v. v.items) result (narrow key place integers.now) }
 {
     let mut numbers = Vec::new(alloc);
     for integer in integers {
-        let number = signed_of(*integer, key)?;
+        let number = signed_of(*integer, key, place)?;
         numbers.push(number)?;
     }
     Ok(numbers)
@@ -170,12 +193,17 @@ fn narrow(alloc: Global, integers: &[i64], key: Key) -> Result<Vec<i32>, Project
 
 // The texts that the values are. All must be texts.
 #[tactic(auto, unfolding(crate::specs::Reading::texts_of))]
-fn texts_of(alloc: Global, values: &[Value], key: Key) -> Result<Vec<String>, ProjectFault>
-    ensures { Gives (λ v. map string_bytes v.items) result (texts_of key (list_of (items_view values.now))) }
+fn texts_of(
+    alloc: Global,
+    values: &[Value],
+    key: Key,
+    place: Table,
+) -> Result<Vec<String>, ProjectFault>
+    ensures { Gives (λ v. map string_bytes v.items) result (texts_of key place (list_of (items_view values.now))) }
 {
     let mut texts = Vec::new(alloc);
     for value in values {
-        let text = text_of(value, key)?;
+        let text = text_of(value, key, place)?;
         let copy = String::from_str(alloc, text)?;
         texts.push(copy)?;
     }

@@ -58,7 +58,7 @@ gives_none : (left : Option (List ℕ)) (g n : ℕ) → IfSome left IsRefused �
 gives_none None g n refused = tt
 gives_none (Some file) g n refused = λ s accepted states. absurd (refused accepted.0 accepted.1)
 
--- ---- why a file isn't taken to its end, once its fault was told
+-- ---- why a file isn't taken to its end, once its fault was named
 module _ {R S : Type 0} (has : S → S → Sound → ℕ → List ℕ → Type 0) (refused : S → S → Sound → List ℕ → StreamFault → Type 0) (P : Type 0) (left : R → Option (List ℕ)) (first : Inlet R) (old new : S) where
   -- a file that is refused is so whatever more of it was read
   refused_later : (given more : ℕ) → StopsTaking has refused (left (inlet_reader first)) (inlet_given first) given old new FileRefused → StopsTaking has refused (left (inlet_reader first)) (inlet_given first) more old new FileRefused
@@ -103,7 +103,7 @@ pub exact_alone : (u : Unread) → (u ≡ answers.Stream FileRefused → (s : So
 exact_alone (answers.Refused e) h = tt
 exact_alone (answers.Stream f) h = λ is. (let refuses = h (ap (λ (g : StreamFault). answers.Stream g) is) in let both : FileRefused ≡ Memory = refuses.2 in absurd cc)
 
--- ---- why no sound is found before one, once the fault was told
+-- ---- why no sound is found before one, once the fault was named
 module _ {R : Type 0} (left : R → Option (List ℕ)) (first : Inlet R) (f : StreamFault) (a b : SoundReader R) (stops : IsHeaderFault (left (inlet_reader first)) f) (known : IsNamed ⊥ left first a f) where
   header_stated : f ≡ FileRefused → (u : Unread) → IsRefusedBy a.cause u → IsHeaderFault (left (inlet_reader first)) (plain u)
   header_stated is (answers.Refused e) how = subst (IsHeaderFault (left (inlet_reader first))) is stops

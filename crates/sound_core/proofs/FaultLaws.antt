@@ -50,7 +50,7 @@ reading_in_pass left n ahead f h = by_reading (IsPassFault left n ahead) tt tt t
 pub reading_in_tag : (left : Option (List ℕ)) (place stop : ℕ) (back : List ℕ) (f : StreamFault) → IsReadingFault f → IsTagFault left place stop back f
 reading_in_tag left place stop back f h = by_reading (IsTagFault left place stop back) tt tt tt f h
 
--- it would stand in the sound
+-- it would be in the sound
 pub early_tag : (left : Option (List ℕ)) (place stop : ℕ) (back : List ℕ) → place ≢ 0 → place < stop → IsTagFault left place stop back FileRefused
 early_tag None place stop back some early = tt
 early_tag (Some xs) place stop back some early = (some, inl early)

@@ -36,6 +36,7 @@ use Rattle.dsf_core.specs.Fields.{pointer}
 use Rattle.dsf_core.specs.Files.{IsDsf}
 use Rattle.dsf_core.specs.Headers as dsf
 use Rattle.dsf_core.specs.Reading as dsf_reading
+use Rattle.dsf_core.specs.Reading.{cut_fault, pointer_fault}
 use Rattle.dsf_core.proofs.DescribingLaws.{refused}
 use Rattle.dsf_core.proofs.FileLaws.{prefix_ok}
 use Rattle.dsf_core.specs.declared.locating.Located.{Located}
@@ -178,46 +179,47 @@ file_named left i j e named = by (left (inlet_reader i)) refl
         subst (λ f. opened_of f ≡ Err e) (sym ys.2) (subst (λ o. IfSome o (λ rest. opened_of (named.read ++ rest) ≡ Err e)) ys.1 named.sure.later)
 
 -- ---- a file that ends inside its sound
-blocks_cut : (head rest : List ℕ) (s : Sound) → dsf.sound_at head ≡ Found s → s.start ≡ length head → length (head ++ rest) < length head + s.size → dsf_reading.recording_of (head ++ rest) ≡ Err dsf_faults.DataCut
+blocks_cut : (head rest : List ℕ) (s : Sound) → dsf.sound_at head ≡ Found s → s.start ≡ length head → length (head ++ rest) < length head + s.size → dsf_reading.recording_of (head ++ rest) ≡ Err (cut_fault s (length (head ++ rest)))
 unfolding dsf_reading.ends_fit
 blocks_cut head rest s leads start short =
     let f = found_prefix head s leads in
-    let end : length (head ++ rest) < f.1.sound.start + f.1.sound.size = omega (arith, short, start, ap (λ (t : Sound). t.start) f.3, ap (λ (t : Sound). t.size) f.3) in
-    refused head f.1 f.2 [] (length (head ++ rest)) dsf_faults.DataCut (rw (lt-ltb (length (head ++ rest)) (f.1.sound.start + f.1.sound.size) end) refl) rest refl
+    let n : ℕ = length (head ++ rest) in
+    let end : n < f.1.sound.start + f.1.sound.size = omega (arith, short, start, ap (λ (t : Sound). t.start) f.3, ap (λ (t : Sound). t.size) f.3) in
+    subst (λ (t : Sound). dsf_reading.recording_of (head ++ rest) ≡ Err (cut_fault t n)) f.3 (refused head f.1 f.2 [] n (cut_fault f.1.sound n) (rw (lt-ltb n (f.1.sound.start + f.1.sound.size) end) refl) rest refl)
 
-pub cut_blocks : (head rest : List ℕ) (s : Sound) (at : IsHeaderOf head s) (order : BitOrder) → s.interleaving ≡ Blocks order → length (head ++ rest) < length head + s.size → opened_of (head ++ rest) ≡ Err (dsf_fault dsf_faults.DataCut)
+pub cut_blocks : (head rest : List ℕ) (s : Sound) (at : IsHeaderOf head s) (order : BitOrder) → s.interleaving ≡ Blocks order → length (head ++ rest) < length head + s.size → opened_of (head ++ rest) ≡ Err (dsf_fault (cut_fault s (length (head ++ rest))))
 cut_blocks head rest s at order stated short =
     let lead = leads head s at order stated in
     let holds = blocks_found head s lead in
-    blocks_named (head ++ rest) dsf_faults.DataCut (no_form_read head rest (omega (arith, holds.holds.fields)) holds.heads.first) (blocks_cut head rest s lead at.start short)
+    blocks_named (head ++ rest) _ (no_form_read head rest (omega (arith, holds.holds.fields)) holds.heads.first) (blocks_cut head rest s lead at.start short)
 
 -- a wrong place of the tag
-pointer_off : (head rest : List ℕ) (s : Sound) → dsf.sound_at head ≡ Found s → s.start ≡ length head → length head + s.size ≤ length (head ++ rest) → pointer head ≢ 0 → (pointer head < length head + s.size) ⊎ (length (head ++ rest) < pointer head)
-    → dsf_reading.recording_of (head ++ rest) ≡ Err dsf_faults.BadPointer
+pointer_off : (head rest : List ℕ) (s : Sound) (total : ℕ) → dsf.sound_at head ≡ Found s → s.start ≡ length head → length head + s.size ≤ length (head ++ rest) → pointer head ≢ 0
+    → (pointer head < length head + s.size) ⊎ ((length (head ++ rest) < pointer head) × (total ≡ length (head ++ rest))) → dsf_reading.recording_of (head ++ rest) ≡ Err (pointer_fault (pointer head) (length head + s.size) total)
 unfolding dsf_reading.ends_fit
-pointer_off head rest s leads start whole some off =
+pointer_off head rest s total leads start whole some off =
     let f = found_prefix head s leads in
     let n : ℕ = length (head ++ rest) in
+    let tag : ℕ = f.1.tag_at in
     let stop : ℕ = f.1.sound.start + f.1.sound.size in
     let stop_is : stop ≡ length head + s.size = omega (arith, start, ap (λ (t : Sound). t.start) f.3, ap (λ (t : Sound). t.size) f.3) in
-    let at : f.1.tag_at ≡ pointer head = ap (λ g. g.tag_at) (prefix_ok head f.1 f.2).1 in
-    let differs : f.1.tag_at ≢ 0 = λ zero. some (sym at ∙ zero) in
-    refused head f.1 f.2 [] n dsf_faults.BadPointer (elim (cases_lt f.1.tag_at stop) [
-      | inl early ↦ rw (le-ltb n stop (omega (arith, whole, stop_is)), ne_eqb f.1.tag_at 0 differs, lt-ltb f.1.tag_at stop early) refl
-      | inr later ↦ (
-          let late : n < f.1.tag_at = elim off [
-            | inl early ↦ absurd (omega (arith, early, later, stop_is, at))
-            | inr late ↦ omega (arith, late, at)
-          ] in
-          rw (le-ltb n stop (omega (arith, whole, stop_is)), ne_eqb f.1.tag_at 0 differs, le-ltb f.1.tag_at stop later, lt-ltb n f.1.tag_at late) refl)
+    let at : tag ≡ pointer head = ap (λ g. g.tag_at) (prefix_ok head f.1 f.2).1 in
+    let differs : tag ≢ 0 = λ zero. some (sym at ∙ zero) in
+    refused head f.1 f.2 [] n (pointer_fault tag stop total) (elim (cases_lt tag stop) [
+      | inl early ↦ rw (le-ltb n stop (omega (arith, whole, stop_is)), ne_eqb tag 0 differs, lt-ltb tag stop early) refl
+      | inr later ↦ elim off [
+        | inl early ↦ absurd (omega (arith, early, later, stop_is, at))
+        | inr late ↦ rw (le-ltb n stop (omega (arith, whole, stop_is)), ne_eqb tag 0 differs, le-ltb tag stop later, lt-ltb n tag (omega (arith, late.0, at)), late.1) refl
+      ]
     ]) rest refl
+    ∙ (λ j. Err (pointer_fault (at j) (stop_is j) total))
 
-pub blocks_pointer : (head rest : List ℕ) (s : Sound) (at : IsHeaderOf head s) (order : BitOrder) → s.interleaving ≡ Blocks order → length head + s.size ≤ length (head ++ rest) → pointer head ≢ 0 → (pointer head < length head + s.size) ⊎ (length (head ++ rest) < pointer head)
-    → opened_of (head ++ rest) ≡ Err (dsf_fault dsf_faults.BadPointer)
-blocks_pointer head rest s at order stated whole some off =
+pub blocks_pointer : (head rest : List ℕ) (s : Sound) (total : ℕ) (at : IsHeaderOf head s) (order : BitOrder) → s.interleaving ≡ Blocks order → length head + s.size ≤ length (head ++ rest) → pointer head ≢ 0
+    → (pointer head < length head + s.size) ⊎ ((length (head ++ rest) < pointer head) × (total ≡ length (head ++ rest))) → opened_of (head ++ rest) ≡ Err (dsf_fault (pointer_fault (pointer head) (length head + s.size) total))
+blocks_pointer head rest s total at order stated whole some off =
     let lead = leads head s at order stated in
     let holds = blocks_found head s lead in
-    blocks_named (head ++ rest) dsf_faults.BadPointer (no_form_read head rest (omega (arith, holds.holds.fields)) holds.heads.first) (pointer_off head rest s lead at.start whole some off)
+    blocks_named (head ++ rest) _ (no_form_read head rest (omega (arith, holds.holds.fields)) holds.heads.first) (pointer_off head rest s total lead at.start whole some off)
 
 pub form_cut_size : (head rest : List ℕ) (s : Sound) → dsdiff.EndsAt head s → length (head ++ rest) < length head + s.size → form_end (head ++ rest) < length head + last_size head
 form_cut_size head rest s ends short = omega (arith, short, (ends_at_head head s ends).1)

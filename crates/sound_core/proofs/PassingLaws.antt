@@ -1,13 +1,14 @@
 -- Chunks of a form that are passed, stage by stage.
-use Rattle.std.proofs.Common.{◌≡◌, ℕ, ◌+◌, ◌-◌, ◌≤◌, ◌<◌, ◌^◌, inl, inr, min, Bool, true, false, List, [], ◌++◌, length, drop, Option, Result, Err, refl, sym, ap, subst, ◌∙◌, arith, append-nil, append_assoc, length-append, length-drop}
+use Rattle.std.proofs.Common.{◌≡◌, ℕ, ◌+◌, ◌-◌, ◌≤◌, ◌<◌, ◌^◌, inl, inr, min, Bool, true, false, List, [], ◌++◌, length, drop, Option, None, Result, Err, refl, sym, ap, subst, ◌∙◌, arith, append-nil, append_assoc, length-append, length-drop}
 use Rattle.std.specs.Prelude.{◌⊎◌}
 use Rattle.std.proofs.lemmas.Bool.{cases_lt}
 use Rattle.std.proofs.lemmas.List.{drop-append-le, drop-drop, drop_at}
 use Rattle.std.specs.Io.KnownBytes.{IsAtEnd}
 use Rattle.chunk_core.specs.Inlets.{inlet_given, inlet_reader}
 use Rattle.chunk_core.specs.declared.inlet.Inlet.{Inlet}
+use Rattle.chunk_core.specs.declared.layout.Head.{Head}
 use Rattle.dsdiff_core.specs.declared.faulty.FaultyStart.{FaultyStart}
-use Rattle.dsdiff_core.specs.Faulty.{AreNext, EndsInNext, IsFaulty, IsSeen, next_place}
+use Rattle.dsdiff_core.specs.Faulty.{AreNext, EndsInNext, IsFaulty, IsNextHead, IsSeen, next_place}
 use Rattle.dsdiff_core.specs.Fields.{form_end, form_size}
 use Rattle.dsdiff_core.specs.Headers.{size_at}
 use Rattle.dsdiff_core.specs.declared.fault.DsdiffFault.{DsdiffFault}
@@ -48,20 +49,20 @@ failing d = Err (dsdiff_fault d)
 faulty_opened : (file : List ℕ) (s : FaultyStart) (d : DsdiffFault) → IsFaulty file s → recording_of file ≡ Err d → opened_of file ≡ failing d
 faulty_opened file s d h fails = (let long = long_file file s h in form_starts file d (omega (arith, long)) (form_ok file h.form).0 fails)
 
-pub ends_named : {R : Type 0} (left : R → Option (List ℕ)) (first : Inlet R) (old new : SoundReader R) (file : List ℕ) (s : FaultyStart) (total : ℕ) (d : DsdiffFault) → Reads left first old.inlet.now file → (e : EndsOn left old new file s) → total ≡ inlet_given new.inlet.now - new.given
-    → ((f : List ℕ) → IsFaulty f s → IsSeen f total → EndsInNext f s → recording_of f ≡ Err d) → NamesFault left first new.inlet.now (dsdiff_fault d)
-ends_named left first old new file s total d reads e counted fails =
+pub ends_named : {R : Type 0} (left : R → Option (List ℕ)) (first : Inlet R) (old new : SoundReader R) (file : List ℕ) (s : FaultyStart) (next : Option Head) (total : ℕ) (d : DsdiffFault) → Reads left first old.inlet.now file → (e : EndsOn left old new file s next) → total ≡ inlet_given new.inlet.now - new.given
+    → ((f : List ℕ) → IsFaulty f s → IsSeen f total → EndsInNext f s → IsNextHead f s next → recording_of f ≡ Err d) → NamesFault left first new.inlet.now (dsdiff_fault d)
+ends_named left first old new file s next total d reads e counted fails =
     let all : List ℕ = file ++ e.more in
     let long : length (file ++ e.more) ≡ total = omega (arith, counted, e.given) in
     record {
       read = file ++ e.more;
       reads = reads_on left first old.inlet.now new.inlet.now file e.more reads e.reads;
       sure = elim e.how [
-        | inl end ↦ sure_end (left (inlet_reader new.inlet.now)) (file ++ e.more) (dsdiff_fault d) end.0 (faulty_opened (file ++ e.more) s d end.1.0 (fails (file ++ e.more) end.1.0 (inl long) end.1.1))
+        | inl end ↦ sure_end (left (inlet_reader new.inlet.now)) (file ++ e.more) (dsdiff_fault d) end.0 (faulty_opened (file ++ e.more) s d end.1.0 (fails (file ++ e.more) end.1.0 (inl long) end.1.1 end.1.2))
         | inr form ↦ sure_all (left (inlet_reader new.inlet.now)) (file ++ e.more) (dsdiff_fault d) (λ rest.
             let h = form.1 rest in
             let size : form_size ((file ++ e.more) ++ rest) ≡ form_size (file ++ e.more) = number_prefix 8 4 (file ++ e.more) rest (omega (arith, form.0)) in
-            faulty_opened ((file ++ e.more) ++ rest) s d h.0 (fails ((file ++ e.more) ++ rest) h.0 (inr (omega (arith, form.0, long, size), omega (arith, long, length-append (file ++ e.more) rest))) h.1))
+            faulty_opened ((file ++ e.more) ++ rest) s d h.0 (fails ((file ++ e.more) ++ rest) h.0 (inr (omega (arith, form.0, long, size), omega (arith, long, length-append (file ++ e.more) rest))) h.1 h.2))
       ];
     }
 
@@ -82,11 +83,11 @@ walks_after left old mid new file bytes (passed.More s) reads h = record {
   reads = reads_on left old.inlet.now mid.inlet.now new.inlet.now bytes h.more reads h.reads;
   on = subst (λ (f : List ℕ). IsOn new f s) (append_assoc file bytes h.more) h.on;
 }
-walks_after left old mid new file bytes (passed.All s) reads h = record {
+walks_after left old mid new file bytes (passed.All s next) reads h = record {
   more = bytes ++ h.more;
   reads = reads_on left old.inlet.now mid.inlet.now new.inlet.now bytes h.more reads h.reads;
   given = subst (λ (f : List ℕ). inlet_given new.inlet.now ≡ new.given + length f) (append_assoc file bytes h.more) h.given;
-  how = subst (λ (f : List ℕ). (IsAtEnd (left (inlet_reader new.inlet.now)) × EndsFaulty f s) ⊎ ((12 + form_size f ≤ length f) × ((rest : List ℕ) → EndsFaulty (f ++ rest) s))) (append_assoc file bytes h.more) h.how;
+  how = subst (λ (f : List ℕ). (IsAtEnd (left (inlet_reader new.inlet.now)) × EndsFaulty f s next) ⊎ ((12 + form_size f ≤ length f) × ((rest : List ℕ) → EndsFaulty (f ++ rest) s next))) (append_assoc file bytes h.more) h.how;
 }
 
 -- the first chunks end in what was read
@@ -151,19 +152,19 @@ module _ {R : Type 0} (left : R → Option (List ℕ)) (mid : SoundReader R) (fi
   no_head tail n is few = λ fits. (let h = on.faulty tail in absurd (omega (arith, fits, few, is, h.size, h.low)))
 
   -- the file is at its end
-  pub ends_here : (last : FaultyStart) → IsAtEnd (left (inlet_reader mid.inlet.now)) → EndsFaulty file last → EndsOn left mid mid file last
-  ends_here last end e = record {
+  pub ends_here : (last : FaultyStart) (next : Option Head) → IsAtEnd (left (inlet_reader mid.inlet.now)) → EndsFaulty file last next → EndsOn left mid mid file last next
+  ends_here last next end e = record {
     more = [];
     reads = reads_none left mid.inlet.now;
     given = on.given ∙ ap (λ (f : List ℕ). mid.given + length f) (sym (append-nil file));
-    how = inl (end, subst (λ (f : List ℕ). EndsFaulty f last) (sym (append-nil file)) e);
+    how = inl (end, subst (λ (f : List ℕ). EndsFaulty f last next) (sym (append-nil file)) e);
   }
 
   module _ (new : SoundReader R) (same : new.given ≡ mid.given) where
     -- the rest of the form was passed, or what is there of it
-    pub form_passed : (whole : Bool) (n : ℕ) → n ≡ s.form - (s.end - 12) - s.pad → (whole ≡ true → Passes left mid.inlet.now new.inlet.now n mid.ahead.now.items new.ahead.now.items) → (whole ≡ false → FallsShort left mid.inlet.now new.inlet.now n mid.ahead.now.items)
-        → ((tail : List ℕ) → EndsInNext (file ++ tail) s) → EndsOn left mid new file s
-    form_passed true n is all short ends =
+    pub form_passed : (next : Option Head) (whole : Bool) (n : ℕ) → n ≡ s.form - (s.end - 12) - s.pad → (whole ≡ true → Passes left mid.inlet.now new.inlet.now n mid.ahead.now.items new.ahead.now.items) → (whole ≡ false → FallsShort left mid.inlet.now new.inlet.now n mid.ahead.now.items)
+        → ((tail : List ℕ) → EndsInNext (file ++ tail) s × IsNextHead (file ++ tail) s next) → EndsOn left mid new file s next
+    form_passed next true n is all short ends =
         let p = all refl in
         let h = on.faulty p.read in
         record {
@@ -172,28 +173,28 @@ module _ {R : Type 0} (left : R → Option (List ℕ)) (mid : SoundReader R) (fi
           given = omega (arith, on.given, p.reads.given, same, length-append file p.read);
           how = inr (
             omega (arith, h.size, h.low, is, file_long, length-append file p.read, ap length p.parts, length-append mid.ahead.now.items p.read, length-append p.passed new.ahead.now.items, p.long),
-            λ rest. subst (λ (f : List ℕ). EndsFaulty f s) (sym (append_assoc file p.read rest)) (on.faulty (p.read ++ rest), ends (p.read ++ rest)),
+            λ rest. subst (λ (f : List ℕ). EndsFaulty f s next) (sym (append_assoc file p.read rest)) (on.faulty (p.read ++ rest), (ends (p.read ++ rest)).0, (ends (p.read ++ rest)).1),
           );
         }
-    form_passed false n is all short ends =
+    form_passed next false n is all short ends =
         let f = short refl in
         record {
           more = f.read;
           reads = f.reads;
           given = omega (arith, on.given, f.reads.given, same, length-append file f.read);
-          how = inl (f.at_end, (on.faulty f.read, ends f.read));
+          how = inl (f.at_end, (on.faulty f.read, (ends f.read).0, (ends f.read).1));
         }
 
     -- the file ends in the data of the next chunk
-    pub chunk_cut : (n : ℕ) (rest : List ℕ) → rest ≡ drop 12 mid.ahead.now.items → 12 ≤ length mid.ahead.now.items → ((tail : List ℕ) → n ≡ size_at (file ++ tail) (next_place s)) → FallsShort left mid.inlet.now new.inlet.now n rest → EndsOn left mid new file s
-    chunk_cut n rest is head size f =
+    pub chunk_cut : (next : Option Head) (n : ℕ) (rest : List ℕ) → rest ≡ drop 12 mid.ahead.now.items → 12 ≤ length mid.ahead.now.items → ((tail : List ℕ) → (n ≡ size_at (file ++ tail) (next_place s)) × IsNextHead (file ++ tail) s next) → FallsShort left mid.inlet.now new.inlet.now n rest → EndsOn left mid new file s next
+    chunk_cut next n rest is head told f =
         let long : length (file ++ f.read) < next_place s + 12 + n = omega (arith, f.few, head, file_long, length-append file f.read, length-append rest f.read, ap length is, length-drop 12 mid.ahead.now.items) in
         let stop : form_end (file ++ f.read) ≤ length (file ++ f.read) = omega arith in
         record {
           more = f.read;
           reads = f.reads;
           given = omega (arith, on.given, f.reads.given, same, length-append file f.read);
-          how = inl (f.at_end, (on.faulty f.read, λ fits. ends_before (form_end (file ++ f.read)) (length (file ++ f.read)) (next_place s) n (size_at (file ++ f.read) (next_place s)) stop long (size f.read)));
+          how = inl (f.at_end, (on.faulty f.read, λ fits. ends_before (form_end (file ++ f.read)) (length (file ++ f.read)) (next_place s) n (size_at (file ++ f.read) (next_place s)) stop long (told f.read).0, (told f.read).1));
         }
 
   -- ---- the data of the next chunk were passed
@@ -238,15 +239,15 @@ module _ {R : Type 0} (left : R → Option (List ℕ)) (mid : SoundReader R) (fi
           }
 
       -- the file ends before its pad
-      pub pad_missing : FallsShort left k.inlet.now new.inlet.now after.pad k.ahead.now.items → EndsOn left mid new file after
+      pub pad_missing : FallsShort left k.inlet.now new.inlet.now after.pad k.ahead.now.items → EndsOn left mid new file after None
       pad_missing f =
           let all : List ℕ = p.read ++ f.read in
           let whole : (file ++ p.read) ++ f.read ≡ file ++ all = append_assoc file p.read f.read in
           let long : length ((file ++ p.read) ++ f.read) < next_place after = omega (arith, f.few, end, data_long, length-append (file ++ p.read) f.read, length-append k.ahead.now.items f.read) in
-          let ends : EndsFaulty ((file ++ p.read) ++ f.read) after = (faulty f.read, λ fits. absurd (omega (arith, fits, long))) in
+          let ends : EndsFaulty ((file ++ p.read) ++ f.read) after None = (faulty f.read, λ fits. absurd (omega (arith, fits, long)), omega (arith, long)) in
           record {
             more = all;
             reads = reads_on left mid.inlet.now k.inlet.now new.inlet.now p.read f.read p.reads f.reads;
             given = omega (arith, data_given, f.reads.given, same_new, length-append (file ++ p.read) f.read, ap length whole);
-            how = inl (f.at_end, subst (λ (g : List ℕ). EndsFaulty g after) whole ends);
+            how = inl (f.at_end, subst (λ (g : List ℕ). EndsFaulty g after None) whole ends);
           }

@@ -17,6 +17,7 @@ use Rattle.dsf_core.specs.Fields.{needed, pointer, stated_tag}
 use Rattle.dsf_core.specs.declared.fault.DsfFault.{DsfFault}
 use Rattle.dsf_core.specs.declared.fault.DsfFault.TheVariants as dsf_faults
 use Rattle.dsf_core.specs.Reading as dsf_reading
+use Rattle.dsf_core.specs.Reading.{pointer_fault}
 use Rattle.dsf_core.specs.Files.{IsDsf}
 use Rattle.dsf_core.specs.Headers as dsf
 use Rattle.dsf_core.proofs.FileLaws.{dsf_is_read}
@@ -154,20 +155,22 @@ module _ (head : List ℕ) (s : Sound) (at : IsHeaderOf head s) (order : BitOrde
   tag_fault left place stop back Memory tag_place stop_is h = tt
 
   -- the tag is not where it may be
-  pub tag_named : {R : Type 0} (left : R → Option (List ℕ)) (i j : Inlet R) (place stop : ℕ) (back : List ℕ) → place ≡ pointer head → stop ≡ length head + s.size → (off : StopsAtTag left i j place stop back) → (sound : List ℕ) → length sound ≡ s.size
-      → IsSure (left (inlet_reader j)) (head ++ (sound ++ (back ++ off.read))) (dsf_fault dsf_faults.BadPointer)
-  tag_named left i j place stop back place_is stop_is off sound long =
-      let e : ReadFault = dsf_fault dsf_faults.BadPointer in
+  pub tag_named : {R : Type 0} (left : R → Option (List ℕ)) (i j : Inlet R) (place stop total : ℕ) (back : List ℕ) → place ≡ pointer head → stop ≡ length head + s.size → (off : StopsAtTag left i j place stop back) → total ≡ stop + length (back ++ off.read)
+      → (sound : List ℕ) → length sound ≡ s.size → IsSure (left (inlet_reader j)) (head ++ (sound ++ (back ++ off.read))) (dsf_fault (pointer_fault place stop total))
+  tag_named left i j place stop total back place_is stop_is off total_is sound long =
+      let e : ReadFault = dsf_fault (pointer_fault place stop total) in
+      let same : pointer_fault (pointer head) (length head + s.size) total ≡ pointer_fault place stop total = λ j. pointer_fault (sym place_is j) (sym stop_is j) total in
+      let own : (f : List ℕ) → opened_of f ≡ Err (dsf_fault (pointer_fault (pointer head) (length head + s.size) total)) → opened_of f ≡ Err e = λ f h. subst (λ (d : DsfFault). opened_of f ≡ Err (dsf_fault d)) same h in
       let more : List ℕ = sound ++ (back ++ off.read) in
       let some : pointer head ≢ 0 = λ zero. off.some (place_is ∙ zero) in
       elim off.how [
         | inl early ↦
-            sure_all (left (inlet_reader j)) (head ++ more) e (λ rest. subst (λ f. opened_of f ≡ Err e) (sym (append_assoc head more rest)) (blocks_pointer head (more ++ rest) s at order stated (omega (arith, long, length-append head (more ++ rest), length-append more rest, length-append sound (back ++ off.read))) some (inl (omega (arith, early, place_is, stop_is)))))
+            sure_all (left (inlet_reader j)) (head ++ more) e (λ rest. subst (λ f. opened_of f ≡ Err e) (sym (append_assoc head more rest)) (own (head ++ (more ++ rest)) (blocks_pointer head (more ++ rest) s total at order stated (omega (arith, long, length-append head (more ++ rest), length-append more rest, length-append sound (back ++ off.read))) some (inl (omega (arith, early, place_is, stop_is))))))
         | inr late ↦
-            sure_end (left (inlet_reader j)) (head ++ more) e late.1 (blocks_pointer head more s at order stated (omega (arith, long, length-append head more, length-append sound (back ++ off.read))) some (inr (omega (arith, late.0, place_is, stop_is, long, length-append head more, length-append sound (back ++ off.read)))))
+            sure_end (left (inlet_reader j)) (head ++ more) e late.1 (own (head ++ more) (blocks_pointer head more s total at order stated (omega (arith, long, length-append head more, length-append sound (back ++ off.read))) some (inr (omega (arith, late.0, place_is, stop_is, long, length-append head more, length-append sound (back ++ off.read)), omega (arith, total_is, stop_is, long, length-append head more, length-append sound (back ++ off.read))))))
       ]
 
-  -- a fault of what stands around the sound
+  -- a fault of what is around the sound
   pub blocks_around_named : {R : Type 0} (left : R → Option (List ℕ)) (i j : Inlet R) (place gap total stop : ℕ) (back tag : List ℕ) (e : DsfFault) → (read : ReadsTag left i j place stop back tag gap) → total ≡ length head + s.size + length back + length read.read → e ≢ dsf_faults.Memory
       → ((rest : List ℕ) → length (head ++ rest) ≡ total → DsfFails e (dsf_reading.recording_of (head ++ rest))) → (sound : List ℕ) → length sound ≡ s.size → IsSure (left (inlet_reader j)) (head ++ (sound ++ (back ++ read.read))) (dsf_fault e)
   blocks_around_named left i j place gap total stop back tag e read size some fails sound long =

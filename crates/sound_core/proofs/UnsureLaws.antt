@@ -178,7 +178,7 @@ around_named head back d h some fails sound long =
     let file : List ℕ = head ++ (sound ++ back) in
     form_starts file d (omega (arith, least, length-append head (sound ++ back))) (take-append-le 4 head (sound ++ back) (omega (arith, least)) ∙ h.form) (fails_is d (recording_of file) some (fails_of file d (fails sound long)))
 
--- ---- a fault that was told, or that of reading on
+-- ---- a fault that was named, or that of reading on
 pub stated_unread : (Q : ReadFault → Type 0) (r : Result ReadFault StreamFault) → IfOk r Q → IfRefusedAs (unread_of r) Q
 stated_unread Q (Ok e) h = h
 stated_unread Q (Err f) h = tt

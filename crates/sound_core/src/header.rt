@@ -37,7 +37,7 @@ pub(crate) enum HeaderAnswer {
 }
 
 /// Reads the prefix of a file, until it tells of the file's sound: this is the answer, and what was read is ahead,
-/// which may end in the sound or behind it. A chunk before the sound is looked at once, however many reads it takes.
+/// which may end in the sound or after it. A chunk before the sound is looked at once, however many reads it takes.
 ///
 /// Refusals: `FileRefused` where no file that begins so holds a recording, or the file is at its end: what is known of
 /// its first fault is the reader's cause; `ReadFailed`, `TurnLimit` and `Memory`.

@@ -156,10 +156,14 @@ fn after_blocks<R: Read>(
     ensures fault { IfErr result (IsFaultAfter R.remaining reader.old sound.now head.now) }
 {
     let stop = (head.len() + sound.size) as u64;
-    let gap = match read_tag(dsf_core::tag_at(head), stop, reader) {
+    let place = dsf_core::tag_at(head);
+    let gap = match read_tag(place, stop, reader) {
         Ok(gap) => gap,
         Err(fault) => {
-            reader.cause = Cause::Fault(ReadFault::Dsf(DsfFault::BadPointer));
+            let total = reader.inlet.given().saturating_sub(reader.given);
+            reader.cause = Cause::Fault(ReadFault::from(dsf_core::pointer_fault(
+                place, stop, total,
+            )));
             return Err(fault);
         }
     };

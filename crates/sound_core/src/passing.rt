@@ -10,6 +10,7 @@ ghost use Rattle.sound_core.specs.Readers.{Counts, IsReading, IsSame};
 use crate::cause::Cause;
 use crate::fault::StreamFault;
 use crate::reader::SoundReader;
+use chunk_core::{Head, Order, head};
 use dsdiff_core::{FaultyStart, fault_after, next_chunk};
 use form_core::ReadFault;
 use std::io::Read;
@@ -19,8 +20,8 @@ use std::io::Read;
 pub(crate) enum Passed {
     /// To the next chunk: what those before it tell.
     More(FaultyStart),
-    /// To the end of the form or the file: what all whole chunks tell.
-    All(FaultyStart),
+    /// To the end of the form or the file: what all whole chunks tell, and the header of the next one, if there is one.
+    All(FaultyStart, Option<Head>),
 }
 
 /// The first fault of a DSDIFF file whose first chunks tell that it holds no recording.
@@ -54,9 +55,9 @@ fn name_passed<R: Read>(
     loop {
         match pass_chunk(reader, now)? {
             Passed::More(next) => now = next,
-            Passed::All(last) => {
+            Passed::All(last, next) => {
                 let total = reader.inlet.given() - reader.given;
-                return Ok(ReadFault::from(fault_after(last, total)));
+                return Ok(ReadFault::from(fault_after(last, next, total)));
             }
         }
     }
@@ -80,18 +81,21 @@ fn pass_chunk<R: Read>(
     let wanted = left.min(16);
     reader.read_until(wanted)?;
     if (reader.ahead.len() as u64) < wanted {
-        return Ok(Passed::All(last_passed(start, reader.ahead.as_slice())));
+        let (last, next) = last_passed(start, reader.ahead.as_slice());
+        return Ok(Passed::All(last, next));
     }
-    let Some(next) = next_chunk(start, reader.ahead.as_slice()) else {
+    let bytes = reader.ahead.as_slice();
+    let begun = head(Order::Big, bytes, 0);
+    let Some(next) = next_chunk(start, bytes) else {
         let _whole = reader.pass(left)?;
-        return Ok(Passed::All(start));
+        return Ok(Passed::All(start, begun));
     };
     reader.drop_ahead(12);
     if !reader.pass(next.size)? {
-        return Ok(Passed::All(start));
+        return Ok(Passed::All(start, begun));
     }
     if !reader.pass(next.after.pad as u64)? {
-        return Ok(Passed::All(next.after));
+        return Ok(Passed::All(next.after, None));
     }
     Ok(Passed::More(next.after))
 }
@@ -106,13 +110,14 @@ fn left_of(start: FaultyStart) -> u64
         .saturating_sub(start.pad as u64)
 }
 
-// What all whole chunks tell of a file that ends with these bytes, which are fewer than 16 from the next chunk on.
-fn last_passed(start: FaultyStart, bytes: &[u8]) -> FaultyStart
+// What all whole chunks tell of a file that ends with these bytes, which are fewer than 16 from the next chunk on, and
+// the header of the next one.
+fn last_passed(start: FaultyStart, bytes: &[u8]) -> (FaultyStart, Option<Head>)
     requires { length bytes.now < 16 }
-    ensures { EndsWith start bytes.now result }
+    ensures { EndsWith start bytes.now result.0 result.1 }
 {
     match next_chunk(start, bytes) {
-        Some(next) if next.size <= (bytes.len() - 12) as u64 => next.after,
-        _ => start,
+        Some(next) if next.size <= (bytes.len() - 12) as u64 => (next.after, None),
+        _ => (start, head(Order::Big, bytes, 0)),
     }
 }

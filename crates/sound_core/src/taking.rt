@@ -20,7 +20,6 @@ use crate::reader::{SoundReader, can_count, new_block};
 use crate::sink::SoundSink;
 use chunk_core::Inlet;
 use dsd_bits::Sound;
-use dsf_core::DsfFault;
 use form_core::ReadFault;
 use interleave_core::{segment_bits, segment_size};
 use std::alloc::Global;
@@ -142,7 +141,7 @@ fn cut_in(sound: &Sound, head: &[u8], total: u64) -> ReadFault
     ensures { IsCutFault head.now sound.now total result }
 {
     if sound.interleaving.has_blocks() {
-        return ReadFault::Dsf(DsfFault::DataCut);
+        return ReadFault::from(dsf_core::cut_fault(sound, total));
     }
     ReadFault::from(dsdiff_core::cut_fault(head, total))
 }

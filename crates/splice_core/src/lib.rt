@@ -5,7 +5,7 @@
 //! [`Splice`] need not check them again. Nothing is read here: `project_core` reads a splice from a text, and whoever
 //! makes one by hand proves the limits.
 //!
-//! The words of its contracts:
+//! Definitions that contracts use:
 //! - `splice_content` and `cue_content` (`specs/Splices.antt`, `specs/Cues.antt`): what is held, as lists and numbers.
 //! - `IsSplicing`, `AreWeights`, `IsCueWithin` and `IsTarget` (`specs/Cues.antt`): the limits.
 //!

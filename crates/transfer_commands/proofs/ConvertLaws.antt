@@ -10,8 +10,8 @@ use Rattle.form_core.specs.Laws.{HeldIsOpened}
 use Rattle.form_core.specs.Opening.{Opens, opened_of}
 use Rattle.form_core.specs.declared.fault.ReadFault.{ReadFault}
 use Rattle.form_core.specs.declared.fault.ReadFault.TheVariants as reads
-use Rattle.transfer_core.specs.Faults.{fault_of_file}
-use Rattle.transfer_core.specs.declared.fault.Fault as calls
+use Rattle.request_core.specs.Faults.{fault_of_file}
+use Rattle.request_core.specs.declared.fault.Fault as calls
 use Rattle.form_core.specs.Parts.{FitsIn, FormsWrittenInParts}
 use Rattle.form_core.specs.Steps.{FailsUnless}
 use Rattle.form_core.specs.declared.form.Form.{Form}
@@ -23,7 +23,7 @@ use Rattle.sound_core.specs.Outlines.{around_of, with_sound}
 use Rattle.sound_core.specs.declared.outline.Outline.{Outline}
 use Rattle.transfer_core.specs.Converting.{Converts, converted_of}
 use Rattle.transfer_core.specs.Conversions as streams
-use Rattle.transfer_core.specs.declared.fault.Fault.TheVariants.{Memory, NotWholeBytes}
+use Rattle.request_core.specs.declared.fault.Fault.TheVariants.{Memory, NotWholeBytes}
 use Rattle.transfer_commands.specs.declared.fault.CommandFault.{CommandFault}
 use Rattle.transfer_commands.specs.declared.fault.CommandFault.TheVariants as faults
 use Rattle.transfer_commands.specs.Converting.{ConvertComesTo, ConvertsFile, ConvertsSome, ConvertsTo, IsUnconverted, KeepsOld, LeavesConvertedPrefix}
@@ -31,7 +31,7 @@ use Rattle.transfer_commands.specs.Faults.{of_file}
 use Rattle.transfer_commands.specs.Outlining.{IsOutlined, IsUnoutlined, OutlinesRead}
 use Rattle.sound_core.proofs.HeldLaws.{channels_count}
 use Rattle.transfer_commands.proofs.ReadLaws.{last_of, unknown_view}
-use Rattle.transfer_core.proofs.FormLaws.{holds_as}
+use Rattle.request_core.proofs.FormLaws.{holds_as}
 use Rattle.transfer_commands.proofs.ReportLaws.{reported_number}
 
 -- ---- a file that was read whole

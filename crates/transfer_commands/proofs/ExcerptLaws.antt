@@ -7,9 +7,9 @@ use Rattle.form_core.specs.Steps.{FailsUnless}
 use Rattle.cut_core.specs.declared.fault.CutFault.{CutFault}
 use Rattle.cut_core.specs.declared.excerpts.Excerpts.{Excerpts}
 use Rattle.cut_core.specs.Opening.{ReturnsExcerpts, ReturnsAllExcerpts, take_in, takes_before, takes_of}
-use Rattle.transfer_core.specs.declared.fault.Fault.{Fault}
-use Rattle.transfer_core.specs.declared.fault.Fault.TheVariants.{Memory}
-use Rattle.transfer_core.specs.Projects.{SaysSplice, splice_of_text, take_names_of}
+use Rattle.request_core.specs.declared.fault.Fault.{Fault}
+use Rattle.request_core.specs.declared.fault.Fault.TheVariants.{Memory}
+use Rattle.request_core.specs.Projects.{SaysSplice, splice_of_text, take_names_of}
 use Rattle.folder_core.specs.Files.{AreReadOf, IsReadFault, IsReadOf, View}
 use Rattle.folder_core.specs.declared.fault.FileFault.{FileFault}
 use Rattle.folder_core.specs.declared.fault.FileFault.TheVariants as files

@@ -8,11 +8,11 @@ use Rattle.folder_core.specs.Files.{IsGiven, View}
 use Rattle.sound_core.specs.Files.{LeadsToSound}
 use Rattle.transfer_core.specs.Spans.{AreFramesOf, HaveFrames, IsFrameAt, IsFrameOr, IsNoMarkIn, IsSpanOf, SpanRefused}
 use Rattle.transfer_core.specs.declared.frames.PlayedFrames.{PlayedFrames}
-use Rattle.transfer_core.specs.declared.spans.Place.{Place}
-use Rattle.transfer_core.specs.declared.spans.Place.TheVariants.{Time, Frame, Mark}
+use Rattle.place_core.specs.declared.place.Place.{Place}
+use Rattle.place_core.specs.declared.place.Place.TheVariants.{Time, Frame, Mark}
 use Rattle.transfer_core.specs.declared.spans.Span.{Span}
-use Rattle.transfer_core.specs.declared.spans.SpanFault.{SpanFault}
-use Rattle.transfer_core.specs.declared.spans.SpanFault.TheVariants.{NoMark, PartOutside, PartReversed}
+use Rattle.request_core.specs.declared.span_fault.SpanFault.{SpanFault}
+use Rattle.request_core.specs.declared.span_fault.SpanFault.TheVariants.{NoMark, PartOutside, PartReversed}
 use Rattle.transfer_commands.specs.Outlining.{IsUnoutlined}
 use Rattle.transfer_commands.specs.PartPlaying.{DescribesRead, FindsSpan, HasSpanInSound, IsMark, IsNotInSound, IsUnfound, LacksSpan, NamesMark}
 use Rattle.transfer_commands.specs.Reporting.{ReportComesTo}

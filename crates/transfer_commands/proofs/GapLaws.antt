@@ -47,7 +47,7 @@ up_to_all n part channels a g r some small is six group all c p less earlier = e
 pub not_before : (start factor j i tap delay : ℕ) → start ≤ j → tap ≤ 4096 → i + tap ≡ j * factor + delay → start * factor ≤ i + 4096
 not_before start factor j i tap delay ordered few at = let most : start * factor ≤ j * factor = mul-le-mul_right factor ordered in omega (arith, most, few, at)
 
--- none lies far behind the last
+-- none lies far after the last
 pub not_after : (stop factor j i tap delay : ℕ) → j < stop → delay ≤ 4096 → i + tap ≡ j * factor + delay → i ≤ stop * factor + 4096
 not_after stop factor j i tap delay below few at = let most : j * factor ≤ stop * factor = mul-le-mul_right factor (omega (arith, below)) in omega (arith, most, few, at)
 

@@ -1,12 +1,10 @@
 -- What is known of a file whose prefix was read.
 use Rattle.std.proofs.Common.{◌≡◌, ℕ, Bool, List, [], ◌++◌, Option, None, Some, false, true, refl, subst, sym, ap}
-use Rattle.std.specs.Prelude.{IfSome}
 use Rattle.std.specs.Io.KnownBytes.{Consumes, prepend_known}
 use Rattle.folder_core.specs.Files.{IsGiven, IsReadOf, OpensAs, View}
 use Rattle.sound_core.specs.Outlines.{AreAround, around_of}
 use Rattle.sound_core.specs.declared.outline.Outline.{Outline}
-use Rattle.transfer_commands.specs.Opening.{OutlinesLeft}
-use Rattle.transfer_commands.specs.Outlining.{OutlinesRead}
+use Rattle.transfer_commands.specs.Outlining.{OutlinesLeft, OutlinesRead}
 use Rattle.transfer_commands.proofs.ReadLaws.{known_or_some, unknown_view}
 
 -- what was read of a reader that was opened, and what it has left, are what the opening gives
@@ -31,11 +29,7 @@ prefix_read view name prefix left given = by view.is_known refl
     by false is = ([], unknown_view view.is_known is)
 
 -- an outline of a file that was opened is one of bytes that were read of its name
-pub outlined : (view : View) (name : List ℕ) (left : Option (List ℕ)) (outline : Outline) → IsGiven view name left → OutlinesLeft left outline → OutlinesRead name view outline
-outlined view name left outline given h =
+pub outlined : (view : View) (name : List ℕ) (left : Option (List ℕ)) → IsGiven view name left → (outline : Outline) → OutlinesLeft left outline → OutlinesRead name view outline
+outlined view name left given outline h =
     let read = known_or_some view name left (AreAround (around_of outline)) given h.known h.some in
     record { file = read.0; file_read = read.1; is_outline = record { reported = h.reported; around = read.2 } }
-
-pub outlined_if : (view : View) (name : List ℕ) (left : Option (List ℕ)) → IsGiven view name left → (found : Option Outline) → IfSome found (OutlinesLeft left) → IfSome found (OutlinesRead name view)
-outlined_if view name left given None h = tt
-outlined_if view name left given (Some outline) h = outlined view name left outline given h

@@ -1,4 +1,4 @@
--- What is told of a file by its outline.
+-- What is reported of a file by its outline.
 use Rattle.std.proofs.Common.{◌≡◌, ℕ, List, [], Result, Err, Option, inl, inr, length, refl, sym, ap, ◌∙◌, subst}
 use Rattle.std.proofs.lemmas.List.{length-replicate}
 use Rattle.dsd_bits.specs.Contents.{described}
@@ -11,9 +11,9 @@ use Rattle.form_core.specs.Opening.{Opens, opened_of}
 use Rattle.form_core.specs.declared.fault.ReadFault.{ReadFault}
 use Rattle.form_core.specs.declared.fault.ReadFault.TheVariants as reads
 use Rattle.form_core.specs.declared.opening.Opened.{Opened}
-use Rattle.transfer_core.specs.Faults.{fault_of_file}
-use Rattle.transfer_core.specs.declared.fault.Fault as calls
-use Rattle.transfer_core.specs.declared.fault.Fault.TheVariants.{Memory}
+use Rattle.request_core.specs.Faults.{fault_of_file}
+use Rattle.request_core.specs.declared.fault.Fault as calls
+use Rattle.request_core.specs.declared.fault.Fault.TheVariants.{Memory}
 use Rattle.transfer_commands.proofs.ReadLaws.{known_or_some}
 use Rattle.sound_core.specs.Naming.{IfRefusedAs, NamesFault}
 use Rattle.sound_core.specs.Outlines.{around_of, with_sound}
@@ -24,7 +24,7 @@ use Rattle.sound_core.specs.declared.outline.Outline.{Outline}
 use Rattle.sound_core.proofs.HeldLaws.{channels_count, channels_number}
 use Rattle.folder_core.specs.Files.{IsGiven, IsReadOf, View}
 use Rattle.transfer_commands.specs.declared.reporting.Reported.{Reported}
-use Rattle.transfer_core.proofs.FormLaws.{holds_as}
+use Rattle.request_core.proofs.FormLaws.{holds_as}
 use Rattle.transfer_commands.specs.Outlining.{IsFirstFault, IsOutlined, IsUnoutlined, IsUnoutlinedLeft, IsUnread, OutlinesRead}
 use Rattle.transfer_commands.specs.Reporting.{IsReportOf, IsUnreported, ReportComesTo, ReportsFile}
 use Rattle.transfer_commands.specs.declared.fault.CommandFault.{CommandFault}
@@ -56,7 +56,7 @@ outline_reports file_name old mid new outline reported same again found states =
   same = again ∙ same;
 }
 
--- ---- a file whose fault was told in one pass
+-- ---- a file whose fault was named in one pass
 opens_err : (cause : ReadFault) (reading : Result Opened ReadFault) → reading ≡ Err cause → Opens (Err cause) reading
 opens_err reads.Memory reading e = tt
 opens_err reads.UnknownForm reading e = e

@@ -20,7 +20,7 @@ use Rattle.form_core.specs.Forms.{form_in}
 use Rattle.transfer_commands.specs.declared.fault.CommandFault.{CommandFault}
 use Rattle.sound_core.proofs.HeldLaws.{held, held_count, held_shape, held_silent}
 use Rattle.transfer_commands.proofs.ReadLaws.{known_or_some}
-use Rattle.transfer_core.proofs.FormLaws.{holds_as}
+use Rattle.request_core.proofs.FormLaws.{holds_as}
 
 -- the excerpts of what was kept of a file are those of its recording
 pub kept_excerpted : (kept : Kept) → HasShape kept.outline.recording → (splice : SpliceContent) (number : ℕ) (file : List ℕ) → AreStated (around_of kept.outline) → IsKeptOf (around_of kept.outline) (ranges_of splice number) (stretches_in kept) file

@@ -8,7 +8,7 @@ use Rattle.sound_core.specs.declared.outline.Outline.{Outline}
 use Rattle.sound_core.proofs.HeldLaws.{channels_count}
 use Rattle.form_core.specs.Forms.{form_in}
 use Rattle.folder_core.specs.Files.{IsGiven, View}
-use Rattle.transfer_core.proofs.FormLaws.{holds_as}
+use Rattle.request_core.proofs.FormLaws.{holds_as}
 use Rattle.transfer_commands.specs.Digesting.{IsDigesting}
 use Rattle.transfer_commands.specs.Outlining.{IsUnoutlined, IsUnoutlinedLeft}
 use Rattle.transfer_commands.specs.Summing.{AreSumsIn, IsMadeOf, SumComesTo}

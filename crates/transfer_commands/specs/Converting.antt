@@ -1,7 +1,7 @@
 -- How a folder changes if one of its files is converted to another.
 use Rattle.std.specs.Prelude.{◌≡◌, ℕ, List, Option, IsTrue, ◌⊎◌, Result, Ok, Err}
-use Rattle.transfer_core.specs.declared.fault.Fault as calls
-use Rattle.transfer_core.specs.declared.fault.Fault.TheVariants.{Memory}
+use Rattle.request_core.specs.declared.fault.Fault as calls
+use Rattle.request_core.specs.declared.fault.Fault.TheVariants.{Memory}
 use Rattle.sound_core.specs.Outlines.{around_of}
 use Rattle.sound_core.specs.declared.outline.Outline.{Outline}
 use Rattle.transfer_core.specs.Conversions.{ConversionApplies, ConvertsPrefix, ConvertsReader}

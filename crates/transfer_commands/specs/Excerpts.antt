@@ -12,7 +12,7 @@ use Rattle.cut_core.specs.declared.fault.CutFault.{CutFault}
 use Rattle.cut_core.specs.declared.excerpts.Excerpts.{Excerpts}
 use Rattle.cut_core.specs.Excerpts.{excerpts_content, excerpts_of, ranges_of}
 use Rattle.cut_core.specs.Opening.{IsOfTakes, ReturnsExcerpts, ReturnsAllExcerpts, take_in, takes_before, takes_of}
-use Rattle.transfer_core.specs.Projects.{SaysSplice}
+use Rattle.request_core.specs.Projects.{SaysSplice}
 use Rattle.folder_core.specs.Files.{AreReadOf, IsReadOf, View}
 use Rattle.transfer_commands.specs.Sources.{AreSources}
 use Rattle.transfer_commands.specs.declared.sources.Sources.{Sources}

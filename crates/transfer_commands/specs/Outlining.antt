@@ -4,9 +4,9 @@ use Rattle.form_core.specs.Opening.{opened_of}
 use Rattle.form_core.specs.declared.fault.ReadFault.{ReadFault}
 use Rattle.sound_core.specs.Outlines.{AreAround, AreStated, around_of}
 use Rattle.sound_core.specs.declared.outline.Outline.{Outline}
-use Rattle.transfer_core.specs.Faults.{fault_of_file}
-use Rattle.transfer_core.specs.declared.fault.Fault as calls
-use Rattle.transfer_core.specs.declared.fault.Fault.TheVariants.{Memory}
+use Rattle.request_core.specs.Faults.{fault_of_file}
+use Rattle.request_core.specs.declared.fault.Fault as calls
+use Rattle.request_core.specs.declared.fault.Fault.TheVariants.{Memory}
 use Rattle.folder_core.specs.Files.{IsReadOf, View}
 use Rattle.transfer_commands.specs.declared.fault.CommandFault.{CommandFault}
 use Rattle.transfer_commands.specs.declared.fault.CommandFault.TheVariants.{Call, ReadFailed, WriteFailed}
@@ -22,6 +22,13 @@ pub record OutlinesRead (file_name : List ℕ) (old : View) (outline : Outline) 
   pub file : List ℕ
   pub file_read : IsReadOf old file_name file
   pub is_outline : IsOutlined file outline
+
+-- the outline describes what a file holds; the reader's file, if it is known, is some sound in it, and so are some
+-- bytes otherwise
+pub record OutlinesLeft (left : Option (List ℕ)) (outline : Outline) : Type 0 where
+  pub reported : AreStated (around_of outline)
+  pub known : IfSome left (AreAround (around_of outline))
+  pub some : (file : List ℕ) × AreAround (around_of outline) file
 
 -- a file was not read: it could not be, or memory ran out
 abbrev pub IsUnread : CommandFault → Type 0

@@ -1,25 +1,21 @@
 -- What a folder comes to where a part of one of its files is played to another.
-use Rattle.std.specs.Prelude.{◌≡◌, ℕ, List, [], ◌++◌, length, IsTrue, Option, None, Some, ◌⊎◌, Result, Ok, Err, ⊤}
+use Rattle.std.specs.Prelude.{◌≡◌, ℕ, List, ◌++◌, length, IsTrue, Option, None, Some, ◌⊎◌, Result, Ok, Err, ⊤}
 use Rattle.dsd_bits.specs.Contents.{MarkContent}
 use Rattle.dsd_bits.specs.declared.sound.Sound.{Sound}
 use Rattle.sound_core.specs.Files.{LeadsToSound}
-use Rattle.player_core.specs.Playing.{PlaysFile, WritesPrefix}
-use Rattle.transfer_core.specs.declared.fault.Fault as calls
-use Rattle.transfer_core.specs.declared.fault.Fault.TheVariants.{Memory}
+use Rattle.request_core.specs.declared.fault.Fault as calls
+use Rattle.request_core.specs.declared.fault.Fault.TheVariants.{Memory}
 use Rattle.transfer_core.specs.declared.frames.PlayedFrames.{PlayedFrames}
-use Rattle.transfer_core.specs.declared.spans.Place.{Place}
-use Rattle.transfer_core.specs.declared.spans.Place.TheVariants.{Time, Frame, Mark}
+use Rattle.place_core.specs.declared.place.Place.{Place}
+use Rattle.place_core.specs.declared.place.Place.TheVariants.{Time, Frame, Mark}
 use Rattle.transfer_core.specs.declared.spans.Span.{Span}
-use Rattle.transfer_core.specs.declared.spans.SpanFault.{SpanFault}
-use Rattle.transfer_core.specs.PartStreaming.{PartApplies, PartOnlyFromOutside, PlaysPart}
+use Rattle.request_core.specs.declared.span_fault.SpanFault.{SpanFault}
 use Rattle.transfer_core.specs.Spans.{AreFramesOf, FramesRefused, IsSpanOf, SpanRefused}
-use Rattle.transfer_core.specs.Streaming.{FailsBeforeWriting}
-use Rattle.folder_core.specs.Files.{OpensAs, HadNone, IsGiven, IsPut, IsReadOf, KeepsOthers, View}
-use Rattle.transfer_commands.specs.Opening.{left_of}
+use Rattle.transfer_core.specs.Streaming.{PlaysRange, part_range}
+use Rattle.folder_core.specs.Files.{OpensAs, IsPut, IsReadOf, KeepsOthers, View}
+use Rattle.transfer_commands.specs.Playing.{EndsPlaying}
 use Rattle.transfer_commands.specs.Reporting.{IsReportOf, IsUnreported}
-use Rattle.transfer_commands.specs.declared.fault.CommandFault.{CommandFault}
 use Rattle.transfer_commands.specs.declared.fault.CommandFault.TheVariants.{Call, ReadFailed, WriteFailed}
-use Rattle.transfer_commands.specs.declared.parts.FoundPart.{FoundPart}
 use Rattle.transfer_commands.specs.declared.parts.Part.{Part}
 use Rattle.transfer_commands.specs.declared.parts.PartFault.{PartFault}
 use Rattle.transfer_commands.specs.declared.parts.PartFault.TheVariants.{Command, Span as Spans}
@@ -102,10 +98,6 @@ IsNotInSound project sound span (Command WriteFailed) = ⊥
 IsNotInSound project sound span (Spans fault) = (NamesMark span → ⊥) → (marks : List MarkContent) → LacksSpan project span fault sound.rate sound.count marks
 
 -- ---- the files
--- some bytes play so many of the part
-abbrev pub PlaysSome : List ℕ → ℕ → ℕ → ℕ → Type 0
-PlaysSome project start stop n = (read : List ℕ) × (bytes : List ℕ) × PlaysPart project start stop read bytes × (n ≡ length bytes)
-
 -- the output holds `count` bytes now: the WAVE file of the span's part of the recording that was read, as the project
 -- that was read plays it; no other file changed
 pub record PlaysPartFiles (project_name file_name output_name : List ℕ) (span : Span) (old new : View) (count : ℕ) : Type 0 where
@@ -119,25 +111,8 @@ pub record PlaysPartFiles (project_name file_name output_name : List ℕ) (span 
   pub has_span : FindsSpan project file_name old span start stop
   pub output_put : IsPut new output_name bytes
   pub others : KeepsOthers output_name old new
-  pub plays : PlaysPart project start stop file bytes
+  pub plays : PlaysRange project (part_range start stop) file bytes
   pub counted : count ≡ length bytes
-
--- a file that was given up holds a prefix of what project and file play of the part, where they do, and nothing where
--- the fault comes before the first write
-pub record HoldsPart (project : List ℕ) (start stop : ℕ) (file : List ℕ) (fault : calls.Fault) (held : Option (List ℕ)) : Type 0 where
-  pub prefix : (bytes : List ℕ) → PlaysPart project start stop file bytes → (prefix : List ℕ) × (rest : List ℕ) × (held ≡ Some prefix) × (bytes ≡ prefix ++ rest)
-  pub none : FailsBeforeWriting fault → held ≡ Some []
-
--- the output is as it was, or no old one had to be kept and it holds such a prefix
-abbrev pub LeavesPartPrefix : List ℕ → ℕ → ℕ → List ℕ → calls.Fault → List ℕ → View → View → Type 0
-LeavesPartPrefix project start stop file fault output old new = (new.file output ≡ old.file output) ⊎ (HoldsPart project start stop file fault (new.file output) × HadNone output old)
-
--- a fault ended the playing of a part, and is so; a part that is played is refused for memory, a device or the number
--- of reads alone
-pub record EndsPart (project : List ℕ) (start stop : ℕ) (file output_name : List ℕ) (old new : View) (fault : calls.Fault) : Type 0 where
-  pub stands : PartApplies (Some file) project start stop fault
-  pub outside : PartOnlyFromOutside (Some file) project start stop fault
-  pub prefix : LeavesPartPrefix project start stop file fault output_name old new
 
 -- the same of bytes that openings of the project and of a file give, where the folder has known bytes
 pub record LeavesPart (project_name file_name output_name : List ℕ) (span : Span) (old new : View) (fault : calls.Fault) : Type 0 where
@@ -146,7 +121,7 @@ pub record LeavesPart (project_name file_name output_name : List ℕ) (span : Sp
   pub stop : ℕ
   pub project_read : IsReadOf old project_name project
   pub has_span : FindsSpan project file_name old span start stop
-  pub ended : IsTrue old.is_known → (file : List ℕ) × OpensAs old file_name file × EndsPart project start stop file output_name old new fault
+  pub ended : IsTrue old.is_known → (file : List ℕ) × OpensAs old file_name file × EndsPlaying project (part_range start stop) file output_name old new fault
   pub others : KeepsOthers output_name old new
 
 -- a text was read of the project by which the span's part of the file is not found, for this fault; nothing changed
@@ -167,19 +142,6 @@ pub record IsPartUnwritten (project_name file_name output_name : List ℕ) (span
   pub same : new.file output_name ≡ old.file output_name
   pub others : KeepsOthers output_name old new
 
--- a part of a file that was opened under a name is played to an empty one and came to this: it is handed back, or given
--- up after a fault
-abbrev pub PlayedPartComesTo : List ℕ → ℕ → ℕ → List ℕ → List ℕ → View → View → Result ℕ CommandFault → Type 0
-PlayedPartComesTo project start stop input output old new (Ok count) = (file : List ℕ) × (bytes : List ℕ) × IsReadOf old input file × IsPut new output bytes × PlaysPart project start stop file bytes × (count ≡ length bytes) × KeepsOthers output old new
-PlayedPartComesTo project start stop input output old new (Err (Call fault)) = (IsTrue old.is_known → (file : List ℕ) × OpensAs old input file × EndsPart project start stop file output old new fault) × KeepsOthers output old new
-PlayedPartComesTo project start stop input output old new (Err WriteFailed) = KeepsOthers output old new × (new.file output ≡ old.file output)
-PlayedPartComesTo project start stop input output old new (Err ReadFailed) = ⊥
-
--- the same of a part that was found, whichever name its file was opened under
-abbrev pub FoundComesTo : {R : Type 0} → (R → Option (List ℕ)) → FoundPart R → List ℕ → View → View → Result ℕ CommandFault → Type 0
-FoundComesTo left found output old new came = (input : List ℕ) → IsGiven old input (left_of left found.opened)
-    → PlayedPartComesTo found.part.project.now found.part.start found.part.stop input output old new came
-
 -- the folder before and after a part of the input was played to the output by the project came to this
 abbrev pub PlayPartComesTo : List ℕ → List ℕ → List ℕ → Span → View → View → Result ℕ PartFault → Type 0
 PlayPartComesTo project input output span old new (Ok count) = PlaysPartFiles project input output span old new count
@@ -187,22 +149,3 @@ PlayPartComesTo project input output span old new (Err (Command (Call fault))) =
 PlayPartComesTo project input output span old new (Err (Command ReadFailed)) = new ≡ old
 PlayPartComesTo project input output span old new (Err (Command WriteFailed)) = IsPartUnwritten project input output span old new
 PlayPartComesTo project input output span old new (Err (Spans fault)) = IsPartRefused project input span old new (Spans fault)
-
--- ---- a reader's file
--- a part was played of a reader's file, if it is known, and of some bytes: its WAVE file of n bytes was written
-pub record WritesPart (part : Part) (left held written : Option (List ℕ)) (n : ℕ) : Type 0 where
-  pub plays : PlaysFile left (PlaysPart part.project.now part.start part.stop) held written n
-  pub some : PlaysSome part.project.now part.start part.stop n
-
--- a fault ended the playing of a part of a reader's file, and is so: what was written is a prefix, or nothing where it
--- comes before the first write
-pub record StopsPart (part : Part) (left held written : Option (List ℕ)) (fault : calls.Fault) : Type 0 where
-  pub stands : PartApplies left part.project.now part.start part.stop fault
-  pub outside : PartOnlyFromOutside left part.project.now part.start part.stop fault
-  pub prefix : WritesPrefix left (PlaysPart part.project.now part.start part.stop) held written
-  pub none : FailsBeforeWriting fault → written ≡ held
-
--- how playing a part of a reader's file to a writer ends
-abbrev pub PlaysTo : {W : Type 0} → (W → Option (List ℕ)) → Part → Option (List ℕ) → W → W → Result ℕ calls.Fault → Type 0
-PlaysTo held part left old new (Ok n) = WritesPart part left (held old) (held new) n
-PlaysTo held part left old new (Err fault) = StopsPart part left (held old) (held new) fault

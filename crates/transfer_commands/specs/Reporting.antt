@@ -1,8 +1,8 @@
 -- What is reported of a file of a folder.
 use Rattle.std.specs.Prelude.{◌≡◌, ℕ, List, ◌⊎◌, Result, Ok, Err}
-use Rattle.transfer_core.specs.declared.fault.Fault as calls
-use Rattle.transfer_core.specs.declared.fault.Fault.TheVariants.{Memory}
-use Rattle.transfer_core.specs.Faults.{fault_of_file}
+use Rattle.request_core.specs.declared.fault.Fault as calls
+use Rattle.request_core.specs.declared.fault.Fault.TheVariants.{Memory}
+use Rattle.request_core.specs.Faults.{fault_of_file}
 use Rattle.dsd_bits.specs.Contents.{Content, described}
 use Rattle.form_core.specs.Forms.{HoldsAs}
 use Rattle.form_core.specs.Opening.{Opens, opened_of}

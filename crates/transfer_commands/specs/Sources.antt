@@ -1,8 +1,8 @@
 -- What is read of a project and of the files of the takes that it names.
 use Rattle.std.specs.Prelude.{◌≡◌, ℕ, List, ◌⊎◌}
-use Rattle.transfer_core.specs.declared.fault.Fault as calls
-use Rattle.transfer_core.specs.declared.fault.Fault.TheVariants.{Memory}
-use Rattle.transfer_core.specs.Projects.{SaysTakes, take_names_of}
+use Rattle.request_core.specs.declared.fault.Fault as calls
+use Rattle.request_core.specs.declared.fault.Fault.TheVariants.{Memory}
+use Rattle.request_core.specs.Projects.{SaysTakes, take_names_of}
 use Rattle.form_core.specs.Steps.{FailsUnless}
 use Rattle.folder_core.specs.Files.{AreReadOf, IsReadOf, View}
 use Rattle.transfer_commands.specs.declared.fault.CommandFault.{CommandFault}

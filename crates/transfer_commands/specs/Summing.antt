@@ -6,7 +6,7 @@ use Rattle.dsd_bits.specs.Channels.{count_of}
 use Rattle.dsd_bits.specs.Contents.{Content}
 use Rattle.dsd_bits.specs.Packing.{packed}
 use Rattle.form_core.specs.Forms.{HoldsSome}
-use Rattle.transfer_core.specs.declared.fault.Fault.TheVariants.{Memory}
+use Rattle.request_core.specs.declared.fault.Fault.TheVariants.{Memory}
 use Rattle.folder_core.specs.Files.{IsReadOf, View}
 use Rattle.sound_core.specs.declared.outline.Outline.{Outline}
 use Rattle.transfer_commands.specs.Digesting.{HoldEach}
@@ -16,7 +16,7 @@ use Rattle.transfer_commands.specs.declared.summing.Sums.{Sums}
 use Rattle.transfer_commands.specs.declared.fault.CommandFault.{CommandFault}
 use Rattle.transfer_commands.specs.declared.fault.CommandFault.TheVariants.{Call, ReadFailed, WriteFailed}
 
--- the SHA-256 of each channel's bits, packed eight to a byte, the earliest the most significant, with zeros behind the
+-- the SHA-256 of each channel's bits, packed eight to a byte, the earliest the most significant, with zeros after the
 -- last
 abbrev pub digests_of : List (List Bool) → List (List ℕ)
 digests_of channels = map (λ (bits : List Bool). sha256 (packed bits)) channels

@@ -8,12 +8,21 @@ ghost use Rattle.transfer_commands.specs.Gaps.{HoldNoBitOf, HoldNoneBetween, Lie
 use dsd_bits::Sound;
 use folder_core::{Gap, Gaps};
 
-// A frame reads only bits from so many before its first on, up to as many behind its last: filters have at most 4096
+// A frame reads only bits from so many before its first on, up to as many after its last: filters have at most 4096
 // taps.
 const REACH: u64 = 4096;
 
 // The bytes of a block of one channel.
 const BLOCK: u64 = 4096;
+
+/// No byte.
+pub(crate) fn no_gaps() -> Gaps {
+    let none = Gap { start: 0, stop: 0 };
+    Gaps {
+        first: none,
+        second: none,
+    }
+}
 
 /// All of a sound.
 pub(crate) fn sound_gap(sound: &Sound) -> Gaps

@@ -1,22 +1,21 @@
 //! A file of a folder whose prefix was read.
 
-ghost use Rattle.std.specs.Prelude.{◌≡◌, ℕ, List, IfErr, IfOk, IfSome};
+ghost use Rattle.std.specs.Prelude.{◌≡◌, ℕ, List, IfErr, IfOk};
 ghost use Rattle.std.specs.Io.KnownBytes.{prepend_known};
 ghost use Rattle.folder_core.specs.Files.{IsGiven};
 ghost use Rattle.sound_core.specs.Files.{LeadsToSound};
-ghost use Rattle.transfer_commands.specs.Outlining.{IsUnoutlined, IsUnread, OutlinesRead};
-ghost use Rattle.transfer_commands.specs.Opening.{OutlinesLeft, left_of};
+ghost use Rattle.transfer_commands.specs.Outlining.{IsUnoutlined, IsUnoutlinedLeft, OutlinesLeft, OutlinesRead};
+ghost use Rattle.transfer_commands.specs.Opening.{left_of};
 
 use crate::fault::CommandFault;
 use crate::gaps::sound_gap;
-use crate::outlining::refusal_of;
+use crate::outlining::{outline_reader, refusal_of};
 use chunk_core::Inlet;
 use dsd_bits::Sound;
 use folder_core::{Folder, GappedFile};
-use sound_core::{Front, Outline, StreamFault, Unread, read_outline, read_prefix};
+use sound_core::{Front, Outline, read_prefix};
 use std::alloc::Global;
 use std::io::{Cursor, Read};
-use transfer_core::Fault;
 
 /// A file that was opened, and of which the first bytes were read, those that describe its sound.
 #[derive(Drop)]
@@ -67,25 +66,21 @@ fn opened_of<R>(prefix: Front, file: R) -> OpenedFile<R>
     }
 }
 
-/// What a file holds besides its sound, whose bytes the folder passes over if it can; None for a file that holds no
-/// recording, for whatever fault.
+/// What a file holds besides its sound, whose bytes the folder passes over if it can.
 ///
-/// Refusals: `ReadFailed` if it can't be opened, a read fails, or it isn't at its end after `2^40` reads; `Memory`.
+/// Refusals: `ReadFailed` if it can't be opened, a read fails, or it isn't at its end after `2^40` reads; `FileUnread`
+/// with the first fault of a file that holds no recording; `Memory`.
 pub(crate) fn outline_past_sound<F: Folder>(
     alloc: Global,
     folder: &mut F,
     name: &str,
-) -> Result<Option<Outline>, CommandFault>
+) -> Result<Outline, CommandFault>
     ensures same { F.view folder.new ≡ F.view folder.old }
-    ensures found { IfOk result (λ found. IfSome found (OutlinesRead name.now (F.view folder.old))) }
-    ensures fault { IfErr result IsUnread }
+    ensures found { IfOk result (OutlinesRead name.now (F.view folder.old)) }
+    ensures fault { IfErr result (IsUnoutlined name.now (F.view folder.old)) }
 {
-    match open_prefix(alloc, folder, name) {
-        Ok(opened) => outline_opened(alloc, folder, opened),
-        Err(CommandFault::Call(Fault::Memory)) => Err(CommandFault::Call(Fault::Memory)),
-        Err(CommandFault::ReadFailed) => Err(CommandFault::ReadFailed),
-        Err(_) => Ok(None),
-    }
+    let opened = open_prefix(alloc, folder, name)?;
+    outline_opened(alloc, folder, opened)
 }
 
 // The same of a file whose prefix was read.
@@ -93,9 +88,9 @@ fn outline_opened<F: Folder>(
     alloc: Global,
     folder: &F,
     opened: OpenedFile<F::In>,
-) -> Result<Option<Outline>, CommandFault>
-    ensures found { IfOk result (λ found. IfSome found (OutlinesLeft (left_of F.In.remaining opened))) }
-    ensures fault { IfErr result IsUnread }
+) -> Result<Outline, CommandFault>
+    ensures found { IfOk result (OutlinesLeft (left_of F.In.remaining opened)) }
+    ensures fault { IfErr result (IsUnoutlinedLeft (left_of F.In.remaining opened)) }
 {
     let OpenedFile {
         sound,
@@ -105,19 +100,4 @@ fn outline_opened<F: Folder>(
     let place = prefix.len() as u64;
     let rest = GappedFile::new(folder, file, place, sound_gap(&sound));
     outline_reader(alloc, Cursor::new(prefix).chain(rest))
-}
-
-// The same of a reader's file.
-fn outline_reader<R: Read + Drop>(alloc: Global, reader: R) -> Result<Option<Outline>, CommandFault>
-    ensures found { IfOk result (λ found. IfSome found (OutlinesLeft (R.remaining reader))) }
-    ensures fault { IfErr result IsUnread }
-{
-    let mut inlet = Inlet::new(reader);
-    match read_outline(alloc, &mut inlet) {
-        Ok(outline) => Ok(Some(outline)),
-        Err(Unread::Refused(_)) => Ok(None),
-        Err(Unread::Stream(StreamFault::FileRefused)) => Ok(None),
-        Err(Unread::Stream(StreamFault::Memory)) => Err(CommandFault::Call(Fault::Memory)),
-        Err(Unread::Stream(_)) => Err(CommandFault::ReadFailed),
-    }
 }

@@ -3,13 +3,14 @@
 ghost use Rattle.std.specs.Prelude.{◌≡◌, List, Option, ℕ, IfErr, IfOk};
 ghost use Rattle.sound_core.specs.Naming.{IfRefusedAs};
 ghost use Rattle.sound_core.specs.Outlines.{AreStated, around_of};
-ghost use Rattle.transfer_commands.specs.Outlining.{IsFirstFault, IsUnoutlined, IsUnoutlinedLeft, OutlinesRead};
+ghost use Rattle.transfer_commands.specs.Outlining.{IsFirstFault, IsUnoutlined, IsUnoutlinedLeft, OutlinesLeft, OutlinesRead};
 
 use crate::fault::CommandFault;
 use chunk_core::Inlet;
 use folder_core::Folder;
 use sound_core::{Outline, StreamFault, Unread, read_outline};
 use std::alloc::Global;
+use std::io::Read;
 use transfer_core::Fault;
 
 /// What a file holds besides its sound, read in one pass.
@@ -29,7 +30,18 @@ pub(crate) fn outline_file<F: Folder>(
     let Ok(file) = folder.open(name) else {
         return Err(CommandFault::ReadFailed);
     };
-    let mut inlet = Inlet::new(file);
+    outline_reader(alloc, file)
+}
+
+/// The same of a reader's file.
+pub(crate) fn outline_reader<R: Read + Drop>(
+    alloc: Global,
+    reader: R,
+) -> Result<Outline, CommandFault>
+    ensures found { IfOk result (OutlinesLeft (R.remaining reader)) }
+    ensures fault { IfErr result (IsUnoutlinedLeft (R.remaining reader)) }
+{
+    let mut inlet = Inlet::new(reader);
     match read_outline(alloc, &mut inlet) {
         Ok(outline) => Ok(outline),
         Err(unread) => Err(refusal_of(unread)),

@@ -4,21 +4,22 @@ ghost use Rattle.std.specs.Prelude.{◌≡◌, ◌↔◌, IfErr, IfOk, IsTrue};
 ghost use Rattle.folder_core.specs.Files.{IsGiven};
 ghost use Rattle.transfer_commands.specs.Faults.{of_file};
 ghost use Rattle.transfer_commands.specs.Opening.{left_of};
-ghost use Rattle.transfer_commands.specs.PartPlaying.{FoundComesTo, HasSpanInSound, IsFound, IsMark, IsNotInSound, IsUnfound, NamesMark, PlayPartComesTo, PlaysTo};
+ghost use Rattle.transfer_core.specs.Streaming.{part_range};
+ghost use Rattle.transfer_commands.specs.PartPlaying.{HasSpanInSound, IsFound, IsMark, IsNotInSound, IsUnfound, NamesMark, PlayPartComesTo};
 ghost use Rattle.transfer_commands.specs.declared.fault.CommandFault.TheVariants as commands;
 ghost use Rattle.transfer_commands.specs.declared.parts.PartFault.TheVariants as faults;
 
 use crate::fault::CommandFault;
 use crate::gaps::gaps_around;
 use crate::opened::{OpenedFile, open_prefix};
-use crate::playing::read_project;
+use crate::playing::{Source, play_to, read_project};
 use crate::reporting::open_past_sound;
-use chunk_core::{Inlet, Outlet};
 use dsd_bits::Sound;
-use folder_core::{FileFault, Folder, GappedFile, hand_back};
+use folder_core::{FileFault, Folder};
+use place_core::Place;
+use player_core::FrameRange;
 use std::alloc::Global;
-use std::io::{Cursor, Read, Write};
-use transfer_core::{Fault, Place, Span, SpanFault, frames_of, play_part_stream, span_of};
+use transfer_core::{Fault, Span, SpanFault, frames_of, span_of};
 
 /// Why a command that plays a part is refused.
 #[derive(Clone, Copy)]
@@ -61,7 +62,7 @@ impl From<SpanFault> for PartFault {
     }
 }
 
-// A part that is played: the project's text, how many bits make a frame, the first frame, and the first behind it.
+// A part that is played: the project's text, how many bits make a frame, the first frame, and the first after it.
 #[derive(Clone, Copy)]
 struct Part<'a> {
     project: &'a [u8],
@@ -83,7 +84,7 @@ struct FoundPart<'a, R> {
 ///
 /// Refusals before the WAVE file is created, in this order: `ReadFailed` of the project, `ReadFailed` of the recording,
 /// `FileUnread`, `Project`, `NoDecimation`, `RateNotDivided`, `NoMark`, `PartOutside`, `PartReversed`. Then
-/// `WriteFailed` if it can't be created, and those of [`play_part_stream`]. Out of memory is always `Memory`.
+/// `WriteFailed` if it can't be created, and those of [`play_stream`](transfer_core::play_stream). Out of memory is always `Memory`.
 ///
 /// A recording that can be read again is opened and read through first, and then opened again to be played. Any other
 /// is opened once: its part is found by what its first bytes say, so that a mark is not found in it (`ReadFailed`). The
@@ -100,7 +101,7 @@ pub fn play_part_file<F: Folder>(
 {
     let project = read_project(alloc, folder, project)?;
     let found = find_part(alloc, folder, &project, input, span)?;
-    Ok(play_part_to(alloc, folder, found, output)?)
+    Ok(play_to(alloc, folder, source_of(found), output)?)
 }
 
 // The part of a file that a span names, by a project's text, and the file, opened to be played.
@@ -192,70 +193,27 @@ fn is_mark(place: Option<Place>) -> bool
     }
 }
 
-// Creates a file, plays a part of another to it, and keeps it, or gives it up after a fault.
-fn play_part_to<F: Folder>(
-    alloc: Global,
-    folder: &mut F,
-    found: FoundPart<'_, F::In>,
-    output: &str,
-) -> Result<u64, CommandFault>
-    ensures { FoundComesTo F.In.remaining found.entry output.now (F.view folder.old) (F.view folder.new) result }
+// The file of a part that was found, to be played. The folder passes over the sound that the part doesn't need.
+fn source_of<R>(found: FoundPart<'_, R>) -> Source<'_, R>
+    ensures project { result.project.now ≡ found.entry.part.project.now }
+    ensures range { result.range ≡ part_range found.entry.part.start found.entry.part.stop }
+    ensures bytes { result.prefix.items ≡ found.entry.opened.prefix.items }
+    ensures file { result.file ≡ found.entry.opened.file }
 {
-    let Ok(wave) = folder.create(output) else {
-        return Err(CommandFault::WriteFailed);
-    };
     let FoundPart { part, opened } = found;
-    let (played, wave) = play_opened(alloc, folder, part, opened, wave);
-    let handed = hand_back(folder, output, &played, wave);
-    match played {
-        Ok(count) => match handed {
-            Ok(()) => Ok(count),
-            Err(_) => Err(CommandFault::WriteFailed),
-        },
-        Err(fault) => Err(CommandFault::Call(fault)),
-    }
-}
-
-// Plays a part of a file whose prefix was read to one that was created, and returns that one. The folder passes over
-// the sound that the part doesn't need.
-fn play_opened<F: Folder>(
-    alloc: Global,
-    folder: &F,
-    part: Part<'_>,
-    opened: OpenedFile<F::In>,
-    wave: F::Out,
-) -> (Result<u64, Fault>, F::Out)
-    ensures { PlaysTo F.Out.contents part.entry (left_of F.In.remaining opened) wave result.1 result.0 }
-{
     let OpenedFile {
         sound,
         prefix,
         file,
     } = opened;
-    let place = prefix.len() as u64;
-    let gaps = gaps_around(&sound, part.factor, part.start, part.stop);
-    let rest = GappedFile::new(folder, file, place, gaps);
-    play_reader(alloc, part, Cursor::new(prefix).chain(rest), wave)
-}
-
-// Plays a part of a reader's file to a writer, and returns that.
-fn play_reader<R: Read + Drop, W: Write>(
-    alloc: Global,
-    part: Part<'_>,
-    reader: R,
-    wave: W,
-) -> (Result<u64, Fault>, W)
-    ensures { PlaysTo W.contents part.entry (R.remaining reader) wave result.1 result.0 }
-{
-    let mut inlet = Inlet::new(reader);
-    let mut outlet = Outlet::new(wave);
-    let played = play_part_stream(
-        alloc,
-        part.project,
-        part.start,
-        part.stop,
-        &mut inlet,
-        &mut outlet,
-    );
-    (played, outlet.into_inner())
+    Source {
+        project: part.project,
+        range: FrameRange {
+            start: part.start,
+            stop: Some(part.stop),
+        },
+        prefix,
+        file,
+        gaps: gaps_around(&sound, part.factor, part.start, part.stop),
+    }
 }

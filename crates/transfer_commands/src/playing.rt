@@ -2,13 +2,31 @@
 
 ghost use Rattle.std.specs.Prelude.{◌≡◌, IfErr, IfOk};
 ghost use Rattle.folder_core.specs.Files.{IsReadFault, IsReadOf};
-ghost use Rattle.transfer_commands.specs.Playing.{OpenComesTo, PlayComesTo};
+ghost use Rattle.transfer_commands.specs.Playing.{PlayComesTo, PlaysTo, SourceComesTo, left_in};
 
 use crate::fault::CommandFault;
+use crate::gaps::no_gaps;
 use chunk_core::{Inlet, Outlet};
-use folder_core::{FileFault, Folder, hand_back, read_file};
+use folder_core::{FileFault, Folder, GappedFile, Gaps, hand_back, read_file};
+use player_core::FrameRange;
 use std::alloc::Global;
-use transfer_core::play_stream;
+use std::io::{Cursor, Read, Write};
+use transfer_core::{Fault, play_stream, whole_plays};
+
+/// A file that is played by a project's text.
+#[derive(Drop)]
+pub(crate) struct Source<'a, R> {
+    /// The project's text.
+    pub(crate) project: &'a [u8],
+    /// The frames that are played.
+    pub(crate) range: FrameRange,
+    /// The first bytes of the file, which were read.
+    pub(crate) prefix: Vec<u8>,
+    /// The file, which has the others left.
+    pub(crate) file: R,
+    /// Bytes of the file that no frame reads.
+    pub(crate) gaps: Gaps,
+}
 
 /// Reads the project, opens the recording, creates the WAVE file and plays the one to the other. Returns how many bytes
 /// the WAVE file has. After a fault of playing the WAVE file may hold a prefix of what was due, but a folder that keeps
@@ -22,11 +40,19 @@ pub fn play_file<F: Folder>(
 ) -> Result<u64, CommandFault>
     ensures { PlayComesTo project.now input.now output.now (F.view folder.old) (F.view folder.new) result }
 {
+    whole_plays();
     let project = read_project(alloc, folder, project)?;
     let Ok(file) = folder.open(input) else {
         return Err(CommandFault::ReadFailed);
     };
-    play_to(alloc, folder, &project, file, output)
+    let source = Source {
+        project: &project,
+        range: FrameRange::whole(),
+        prefix: Vec::new(alloc),
+        file,
+        gaps: no_gaps(),
+    };
+    play_to(alloc, folder, source, output)
 }
 
 /// The bytes of a project's file, which the folder protects from then on.
@@ -44,23 +70,20 @@ pub(crate) fn read_project<F: Folder>(
     read
 }
 
-// Creates a file, plays another to it, and keeps it, or gives it up after a fault.
-fn play_to<F: Folder>(
+/// Creates a file, plays another to it, and keeps it, or gives it up after a fault.
+pub(crate) fn play_to<F: Folder>(
     alloc: Global,
     folder: &mut F,
-    project: &[u8],
-    file: F::In,
+    source: Source<'_, F::In>,
     output: &str,
 ) -> Result<u64, CommandFault>
-    ensures { OpenComesTo project.now (F.In.remaining file) output.now (F.view folder.old) (F.view folder.new) result }
+    ensures { SourceComesTo F.In.remaining source.entry output.now (F.view folder.old) (F.view folder.new) result }
 {
     let Ok(wave) = folder.create(output) else {
         return Err(CommandFault::WriteFailed);
     };
-    let mut inlet = Inlet::new(file);
-    let mut outlet = Outlet::new(wave);
-    let played = play_stream(alloc, project, &mut inlet, &mut outlet);
-    let handed = hand_back(folder, output, &played, outlet.into_inner());
+    let (played, wave) = play_source(alloc, folder, source, wave);
+    let handed = hand_back(folder, output, &played, wave);
     match played {
         Ok(count) => match handed {
             Ok(()) => Ok(count),
@@ -68,4 +91,42 @@ fn play_to<F: Folder>(
         },
         Err(fault) => Err(CommandFault::Call(fault)),
     }
+}
+
+// Plays a file to one that was created, and returns that one. The folder passes over the gaps if it can.
+fn play_source<F: Folder>(
+    alloc: Global,
+    folder: &F,
+    source: Source<'_, F::In>,
+    wave: F::Out,
+) -> (Result<u64, Fault>, F::Out)
+    ensures { PlaysTo F.Out.contents source.entry.project.now source.entry.range (left_in F.In.remaining source.entry)
+        wave result.1 result.0 }
+{
+    let Source {
+        project,
+        range,
+        prefix,
+        file,
+        gaps,
+    } = source;
+    let place = prefix.len() as u64;
+    let rest = GappedFile::new(folder, file, place, gaps);
+    play_reader(alloc, project, range, Cursor::new(prefix).chain(rest), wave)
+}
+
+// Plays a reader's file to a writer, and returns that.
+fn play_reader<R: Read + Drop, W: Write>(
+    alloc: Global,
+    project: &[u8],
+    range: FrameRange,
+    reader: R,
+    wave: W,
+) -> (Result<u64, Fault>, W)
+    ensures { PlaysTo W.contents project.now range (R.remaining reader) wave result.1 result.0 }
+{
+    let mut inlet = Inlet::new(reader);
+    let mut outlet = Outlet::new(wave);
+    let played = play_stream(alloc, project, range, &mut inlet, &mut outlet);
+    (played, outlet.into_inner())
 }

@@ -35,8 +35,7 @@ pub fn open_file<F: Folder>(
     Ok(reported_by(outline))
 }
 
-/// The same, but the folder passes over the sound's bytes if it can. A file that isn't read to its end so is read as
-/// [`open_file`] does.
+/// The same, but the folder passes over the sound's bytes if it can.
 pub(crate) fn open_past_sound<F: Folder>(
     alloc: Global,
     folder: &mut F,
@@ -44,10 +43,8 @@ pub(crate) fn open_past_sound<F: Folder>(
 ) -> Result<Reported, CommandFault>
     ensures { ReportComesTo file.now (F.view folder.old) (F.view folder.new) result }
 {
-    if let Some(outline) = outline_past_sound(alloc, folder, file)? {
-        return Ok(reported_by(outline));
-    }
-    open_file(alloc, folder, file)
+    let outline = outline_past_sound(alloc, folder, file)?;
+    Ok(reported_by(outline))
 }
 
 // What is reported of a file by its outline.

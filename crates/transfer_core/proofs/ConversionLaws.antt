@@ -8,7 +8,7 @@ use Rattle.dsd_bits.specs.declared.interleaving.Interleaving.{Interleaving}
 use Rattle.dsd_bits.specs.declared.interleaving.Interleaving.TheVariants.{Bytes, Blocks}
 use Rattle.dsd_bits.specs.Blocks.{unblocked}
 use Rattle.dsd_bits.specs.Channels.{count_of}
-use Rattle.dsd_bits.specs.Contents.{Content, described}
+use Rattle.dsd_bits.specs.Contents.{described}
 use Rattle.dsd_bits.specs.Lacing.{unlaced}
 use Rattle.dsd_bits.specs.Sounds.{sound_channels, sound_size}
 use Rattle.dsd_bits.proofs.BlockLemmas.{unblocked_count}
@@ -18,7 +18,7 @@ use Rattle.interleave_core.specs.Reinterleaving.{laced_in}
 use Rattle.interleave_core.proofs.TakenLaws.{unlaced_count}
 use Rattle.sound_core.specs.declared.fault.StreamFault.{StreamFault}
 use Rattle.sound_core.specs.declared.fault.StreamFault.TheVariants as faults
-use Rattle.sound_core.specs.Outlines.{AreStated, HoldsIn, IsPlacedIn, Surroundings, with_sound}
+use Rattle.sound_core.specs.Outlines.{AreStated, IsPlacedIn, Surroundings, with_sound}
 use Rattle.player_core.proofs.PieceLaws.{prefix_nil}
 use Rattle.sound_core.specs.declared.relaying.NewFile.{NewFile}
 use Rattle.sound_core.specs.Relays.{IsRelayFault, Relays, RelaysPrefix, RelaysGiven, relayed}
@@ -26,14 +26,15 @@ use Rattle.form_core.specs.declared.fault.ReadFault.{ReadFault}
 use Rattle.form_core.specs.declared.form.Form.{Form}
 use Rattle.form_core.specs.declared.form.Form.TheVariants as forms
 use Rattle.form_core.specs.declared.opening.Opened.{Opened}
-use Rattle.form_core.specs.Forms.{HoldsAs, dropped_in, form_in, text_in}
+use Rattle.form_core.specs.Forms.{dropped_in, form_in, text_in}
 use Rattle.form_core.specs.Opening.{opened_of}
 use Rattle.form_core.specs.Parts.{FitsIn, FormsWrittenInParts, head_in, interleaving_in, tail_in}
-use Rattle.form_core.proofs.OpeningLaws.{held_is_opened, holds_dsf}
+use Rattle.form_core.proofs.OpeningLaws.{held_is_opened}
 use Rattle.transfer_core.specs.Conversions.{ConversionApplies, ConvertsReader, ConvertsPrefix, ConvertsGiven}
 use Rattle.transfer_core.specs.Converting.{Converts}
-use Rattle.transfer_core.specs.declared.fault.Fault.TheVariants.{NotWholeBytes, Stream}
-use Rattle.transfer_core.specs.Faults.{as_stream, fault_of_stream, fault_of_writing}
+use Rattle.request_core.proofs.FormLaws.{holds_as}
+use Rattle.request_core.specs.declared.fault.Fault.TheVariants.{NotWholeBytes, Stream}
+use Rattle.request_core.specs.Faults.{as_stream, fault_of_stream, fault_of_writing}
 
 -- ---- channels in sound bytes
 channel_number : (interleaving : Interleaving) (channels count : ℕ) (bytes : List ℕ) → length (sound_channels interleaving channels count bytes) ≡ channels
@@ -44,11 +45,6 @@ channel_count : (interleaving : Interleaving) (channels count : ℕ) (bytes : Li
     → count_of (sound_channels interleaving channels count bytes) ≡ count
 channel_count Bytes channels count bytes some whole size = unlaced_count bytes channels count some (whole refl) size
 channel_count (Blocks order) channels count bytes some whole size = unblocked_count order bytes channels count some
-
--- ---- the form of a file
-held : (interleaving : Interleaving) (file : List ℕ) (r : Content) → HoldsIn interleaving file r → HoldsAs file (form_in interleaving) r
-held Bytes file r is = is
-held (Blocks order) file r is = holds_dsf file r order is
 
 -- ---- what is dropped is not in the channels
 dropped_beside : (form : Form) (o : Surroundings) (sound : List ℕ) → dropped_in form (described o.recording) ≡ dropped_in form (described (with_sound o.recording o.sound sound))
@@ -84,7 +80,7 @@ module _ (laws : FormsWrittenInParts) (o : Surroundings) (reported : AreStated o
   converts file sound stands = record {
     source = form_in o.sound.interleaving;
     recording = with_sound o.recording o.sound sound;
-    file_holds = held o.sound.interleaving file (with_sound o.recording o.sound sound) (reported.holds file sound stands);
+    file_holds = holds_as o.sound.interleaving file (with_sound o.recording o.sound sound) (reported.holds file sound stands);
     text = text sound stands.sound_long;
     dropped_is = dropped_beside form o sound;
   }

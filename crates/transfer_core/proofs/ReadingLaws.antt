@@ -1,13 +1,7 @@
 -- The relations of the calls say what their readings in order come to.
-use Rattle.std.proofs.Common.{◌≡◌, ℕ, ◌%◌, List, None, Option, Some, IsErrOf, Ok, Err, inl, inr, option_map, Vec, Global, refl}
-use Rattle.std.specs.Option.{ok_or}
+use Rattle.std.proofs.Common.{◌≡◌, ℕ, ◌%◌, List, None, Some, IsErrOf, Ok, Err, inl, inr, Vec, Global, refl}
 use Rattle.std.proofs.lemmas.Bool.{ne_eqb}
 use Rattle.fir_core.specs.Decimator.{Decimator}
-use Rattle.project_core.proofs.ProjectLaws.{project_again}
-use Rattle.project_core.specs.Projects.{ProjectContent}
-use Rattle.project_core.specs.ReadingProject.{project_at}
-use Rattle.splice_core.specs.Splices.{SpliceContent, splice_content}
-use Rattle.splice_core.specs.declared.splice.Splice.{Splice}
 use Rattle.sound_core.specs.declared.fault.StreamFault.TheVariants.{RateNotDivided}
 use Rattle.wave_core.specs.declared.fault.WaveFault.{WaveFault}
 use Rattle.wave_core.specs.declared.fault.WaveFault.TheVariants as waves
@@ -23,41 +17,24 @@ use Rattle.form_core.specs.declared.fault.ReadFault.{ReadFault}
 use Rattle.form_core.specs.declared.fault.ReadFault.TheVariants as reads
 use Rattle.form_core.specs.declared.opening.Opened.{Opened}
 use Rattle.form_core.specs.Opening.{Opens, opened_of}
-use Rattle.form_core.specs.Steps.{FailsUnless, GivesUnless}
+use Rattle.form_core.specs.Steps.{FailsUnless}
 use Rattle.form_core.proofs.OpeningLaws.{held_is_opened}
-use Rattle.transfer_core.specs.declared.fault.Fault.{Fault}
-use Rattle.transfer_core.specs.declared.fault.Fault.TheVariants.{Memory, NoSplice, Stream}
+use Rattle.request_core.specs.declared.fault.Fault.{Fault}
+use Rattle.request_core.specs.declared.fault.Fault.TheVariants.{Memory, Stream}
 use Rattle.transfer_core.specs.Converting.{converted_of}
-use Rattle.transfer_core.specs.Faults.{fault_of_file, fault_of_wave, fault_of_writing}
-use Rattle.transfer_core.specs.Laws.{ConvertsInOrder, PlaysInOrder, SaysTakesInOrder}
+use Rattle.request_core.specs.Faults.{fault_of_file, fault_of_wave, fault_of_writing}
+use Rattle.transfer_core.specs.Laws.{ConvertsInOrder, PlaysInOrder}
 use Rattle.transfer_core.specs.Playing.{played_of}
-use Rattle.transfer_core.specs.Projects.{SaysDecimator, SaysSplice, decimator_of_text, splice_of_text, take_names_of}
+use Rattle.request_core.proofs.ProjectLaws.{says_decimator}
+use Rattle.request_core.specs.Projects.{decimator_of_text}
 
 pub converts : ConvertsInOrder
 unfolding converted_of
 converts = λ file form bytes dropped is. rw (held_is_opened file is.source is.recording is.file_holds, is.text, is.dropped_is) refl
 
-pub says_decimator : (text : List ℕ) (d : Decimator) → SaysDecimator text d → decimator_of_text text ≡ Ok d
-unfolding decimator_of_text
-says_decimator text d is = rw (project_again text is.project is.says, is.has) refl
-
 pub plays : PlaysInOrder
 unfolding played_of
 plays = λ project file bytes is. rw (says_decimator project is.decimator is.project_says, held_is_opened file is.form is.recording is.file_holds, is.rate_divided, is.text) refl
-
-pub says_takes : SaysTakesInOrder
-unfolding take_names_of splice_of_text
-says_takes = λ text names is. rw (project_again text is.says.project is.says.says, is.says.has, is.names_are) refl
-
-pub says_splice : (text : List ℕ) (s : SpliceContent) → SaysSplice text s → splice_of_text text ≡ Ok s
-unfolding splice_of_text
-says_splice text s is = rw (project_again text is.project is.says, is.has) refl
-
--- the splice of a project that was read, or that it has none
-pub splice_given : (text : List ℕ) (p : ProjectContent) → project_at text ≡ Ok p → (s : Option Splice) → p.splice ≡ option_map splice_content s → GivesUnless Memory splice_content (ok_or s NoSplice) (splice_of_text text)
-unfolding splice_of_text
-splice_given text p read None is = inr (rw (read, is) refl)
-splice_given text p read (Some s) is = rw (read, is) refl
 
 -- ---- what is converted, or the first fault
 module _ (file : List ℕ) (form : Form) where

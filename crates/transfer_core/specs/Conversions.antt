@@ -8,10 +8,10 @@ use Rattle.sound_core.specs.Reads.{Reads}
 use Rattle.form_core.specs.declared.form.Form.{Form}
 use Rattle.form_core.specs.Parts.{FitsIn}
 use Rattle.sound_core.specs.Relays.{IsRelayFault}
-use Rattle.transfer_core.specs.declared.fault.Fault.{Fault}
-use Rattle.transfer_core.specs.declared.fault.Fault.TheVariants.{NotWholeBytes}
+use Rattle.request_core.specs.declared.fault.Fault.{Fault}
+use Rattle.request_core.specs.declared.fault.Fault.TheVariants.{NotWholeBytes}
 use Rattle.transfer_core.specs.Converting.{Converts}
-use Rattle.transfer_core.specs.Faults.{OfStream}
+use Rattle.request_core.specs.Faults.{OfStream}
 
 -- if the reader's file is known, what it is converted to was written, and `dropped` parts of its recording are not in
 -- that

@@ -7,9 +7,9 @@ use Rattle.form_core.specs.declared.form.Form.{Form}
 use Rattle.form_core.specs.Forms.{HoldsAs, dropped_in, text_in}
 use Rattle.form_core.specs.Opening.{opened_of}
 use Rattle.transfer_core.specs.declared.converting.Converted.{Converted}
-use Rattle.transfer_core.specs.declared.fault.Fault.{Fault}
-use Rattle.transfer_core.specs.declared.fault.Fault.TheVariants.{NotWholeBytes}
-use Rattle.transfer_core.specs.Faults.{fault_of_file}
+use Rattle.request_core.specs.declared.fault.Fault.{Fault}
+use Rattle.request_core.specs.declared.fault.Fault.TheVariants.{NotWholeBytes}
+use Rattle.request_core.specs.Faults.{fault_of_file}
 use Rattle.form_core.specs.Steps.{map_err}
 
 -- the bytes are the file of the form that is written for the recording in a file, and `dropped` parts of it are not in

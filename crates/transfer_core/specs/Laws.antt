@@ -1,9 +1,10 @@
 -- Laws: the relations of the calls hold of what their readings in order return.
-use Rattle.std.specs.Prelude.{◌≡◌, ℕ, List, Ok}
+use Rattle.std.specs.Prelude.{◌≡◌, ◌↔◌, ℕ, List, Ok}
 use Rattle.form_core.specs.declared.form.Form.{Form}
+use Rattle.player_core.specs.Ranges.{whole_range}
 use Rattle.transfer_core.specs.Converting.{Converts, converted_of}
 use Rattle.transfer_core.specs.Playing.{Plays, played_of}
-use Rattle.transfer_core.specs.Projects.{SaysTakes, take_names_of}
+use Rattle.transfer_core.specs.Streaming.{PlaysRange}
 
 -- what a file converts to
 abbrev pub ConvertsInOrder : Type 0
@@ -13,6 +14,6 @@ ConvertsInOrder = (file : List ℕ) (form : Form) (bytes : List ℕ) (dropped : 
 abbrev pub PlaysInOrder : Type 0
 PlaysInOrder = (project file bytes : List ℕ) → Plays project file bytes → played_of project file ≡ Ok bytes
 
--- which takes a text cuts
-abbrev pub SaysTakesInOrder : Type 0
-SaysTakesInOrder = (text : List ℕ) (names : List (List ℕ)) → SaysTakes text names → take_names_of text ≡ Ok names
+-- the range of all frames of a file plays what the file plays
+abbrev pub WholePlays : Type 0
+WholePlays = (project file bytes : List ℕ) → PlaysRange project whole_range file bytes ↔ Plays project file bytes

@@ -1,10 +1,7 @@
 pub mod Conversions
 pub mod Converting
 pub mod Ends
-pub mod Faults
 pub mod Laws
-pub mod PartStreaming
 pub mod Playing
-pub mod Projects
 pub mod Spans
 pub mod Streaming

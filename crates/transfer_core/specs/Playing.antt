@@ -10,10 +10,10 @@ use Rattle.form_core.specs.declared.form.Form.{Form}
 use Rattle.form_core.specs.Forms.{HoldsAs}
 use Rattle.form_core.specs.Opening.{opened_of}
 use Rattle.sound_core.specs.declared.fault.StreamFault.TheVariants.{RateNotDivided, TooLarge}
-use Rattle.transfer_core.specs.declared.fault.Fault.{Fault}
-use Rattle.transfer_core.specs.declared.fault.Fault.TheVariants.{Stream}
-use Rattle.transfer_core.specs.Faults.{fault_of_file}
-use Rattle.transfer_core.specs.Projects.{SaysDecimator, decimator_of_text}
+use Rattle.request_core.specs.declared.fault.Fault.{Fault}
+use Rattle.request_core.specs.declared.fault.Fault.TheVariants.{Stream}
+use Rattle.request_core.specs.Faults.{fault_of_file}
+use Rattle.request_core.specs.Projects.{SaysDecimator, decimator_of_text}
 use Rattle.form_core.specs.Steps.{map_err}
 
 -- the project's text says a decimator, the file holds a recording, the factor divides its rate, and these bytes are the

@@ -6,15 +6,15 @@ use Rattle.dsdiff_core.specs.MarkPlaces.{place_of}
 use Rattle.fir_core.specs.Decimator.{Decimator}
 use Rattle.form_core.specs.Steps.{FailsUnless}
 use Rattle.sound_core.specs.declared.fault.StreamFault.TheVariants.{RateNotDivided}
-use Rattle.transfer_core.specs.declared.fault.Fault.{Fault}
-use Rattle.transfer_core.specs.declared.fault.Fault.TheVariants.{Memory, Stream}
-use Rattle.transfer_core.specs.declared.spans.Place.{Place}
-use Rattle.transfer_core.specs.declared.spans.Place.TheVariants.{Time, Frame, Mark}
+use Rattle.request_core.specs.declared.fault.Fault.{Fault}
+use Rattle.request_core.specs.declared.fault.Fault.TheVariants.{Memory, Stream}
+use Rattle.place_core.specs.declared.place.Place.{Place}
+use Rattle.place_core.specs.declared.place.Place.TheVariants.{Time, Frame, Mark}
 use Rattle.transfer_core.specs.declared.frames.PlayedFrames.{PlayedFrames}
 use Rattle.transfer_core.specs.declared.spans.Span.{Span}
-use Rattle.transfer_core.specs.declared.spans.SpanFault.{SpanFault}
-use Rattle.transfer_core.specs.declared.spans.SpanFault.TheVariants.{NoMark, PartOutside, PartReversed}
-use Rattle.transfer_core.specs.Projects.{SaysDecimator, decimator_of_text}
+use Rattle.request_core.specs.declared.span_fault.SpanFault.{SpanFault}
+use Rattle.request_core.specs.declared.span_fault.SpanFault.TheVariants.{NoMark, PartOutside, PartReversed}
+use Rattle.request_core.specs.Projects.{SaysDecimator, decimator_of_text}
 
 -- the frames that a project plays of `count` bits a channel at this rate, which its factor divides
 pub record AreFramesOf (project : List ℕ) (rate count : ℕ) (f : PlayedFrames) : Type 0 where
@@ -69,7 +69,7 @@ abbrev pub IsNoMarkIn : List MarkContent → Option Place → Type 0
 IsNoMarkIn marks (Some place) = IsNoMark marks place
 IsNoMarkIn marks None = ⊥
 
--- why there is no such part, the first of these: a mark that isn't there; a place behind the recording's end; an end
+-- why there is no such part, the first of these: a mark that isn't there; a place after the recording's end; an end
 -- before the beginning, where both lie in the recording
 abbrev pub SpanRefused : PlayedFrames → ℕ → List MarkContent → Span → SpanFault → Type 0
 SpanRefused f rate marks span NoMark = IsNoMarkIn marks span.from ⊎ IsNoMarkIn marks span.to

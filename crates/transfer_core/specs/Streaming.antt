@@ -1,32 +1,54 @@
 -- What is played from a reader to a writer, and which faults apply.
-use Rattle.std.specs.Prelude.{ℕ, ◌-◌, ◌<◌, ◌⊎◌, List, Option, IfSome, ⊤}
+use Rattle.std.specs.Prelude.{◌≡◌, ℕ, ◌-◌, ◌%◌, ◌<◌, ◌⊎◌, List, Option, Some, IfSome, ⊤}
+use Rattle.dsd_bits.specs.Contents.{Content}
 use Rattle.dsd_bits.specs.declared.sound.Sound.{Sound}
 use Rattle.fir_core.specs.Decimator.{Decimator}
+use Rattle.wave_core.specs.Texts.{wave_text}
+use Rattle.form_core.specs.declared.form.Form.{Form}
+use Rattle.form_core.specs.Forms.{HoldsAs}
 use Rattle.form_core.specs.Steps.{FailsUnless}
 use Rattle.sound_core.specs.Faults as streams
 use Rattle.sound_core.specs.Files.{LeadsToSound}
 use Rattle.sound_core.specs.Sinks.{sound_given}
+use Rattle.player_core.specs.Frames.{frame_count}
 use Rattle.player_core.specs.Pace.{WritesFrames}
-use Rattle.player_core.specs.Playing.{Applies}
-use Rattle.transfer_core.specs.declared.fault.Fault.{Fault}
-use Rattle.transfer_core.specs.declared.fault.Fault.TheVariants.{Project, NoDecimation, Memory}
-use Rattle.transfer_core.specs.Faults.{OfStream}
-use Rattle.transfer_core.specs.Playing.{Plays}
-use Rattle.transfer_core.specs.Projects.{SaysDecimator, decimator_of_text}
+use Rattle.player_core.specs.Playing.{Applies, range_pcm}
+use Rattle.player_core.specs.Ranges.{IsInside}
+use Rattle.player_core.specs.declared.range.FrameRange.{FrameRange}
+use Rattle.request_core.specs.declared.fault.Fault.{Fault}
+use Rattle.request_core.specs.declared.fault.Fault.TheVariants.{Project, NoDecimation, Memory}
+use Rattle.request_core.specs.Faults.{OfStream}
+use Rattle.request_core.specs.Projects.{SaysDecimator, decimator_of_text}
+
+-- the frames from one on, up to another that is not among them
+abbrev pub part_range : ℕ → ℕ → FrameRange
+part_range start stop = record { start = start; stop = Some stop }
+
+-- the project's text says a decimator, the file holds a recording that has these frames, the factor divides its rate,
+-- and these bytes are the WAVE text of their samples
+pub record PlaysRange (project : List ℕ) (range : FrameRange) (file bytes : List ℕ) : Type 0 where
+  pub decimator : Decimator
+  pub form : Form
+  pub recording : Content
+  pub project_says : SaysDecimator project decimator
+  pub file_holds : HoldsAs file form recording
+  pub rate_divided : recording.rate % decimator.factor ≡ 0
+  pub inside : IsInside range (frame_count decimator recording.channels)
+  pub text : wave_text (range_pcm recording decimator range) ≡ Some bytes
 
 -- a file that can be played is refused only for memory, a device or the number of reads
-abbrev pub OnlyFromOutside : Option (List ℕ) → List ℕ → Fault → Type 0
-OnlyFromOutside left project fault = IfSome left (λ file. (bytes : List ℕ) → Plays project file bytes → OfStream streams.IsFromOutside fault)
+abbrev pub OnlyFromOutside : Option (List ℕ) → List ℕ → FrameRange → Fault → Type 0
+OnlyFromOutside left project range fault = IfSome left (λ file. (bytes : List ℕ) → PlaysRange project range file bytes → OfStream streams.IsFromOutside fault)
 
 -- if more than 131,072 bytes of the sound of a file that can be played were read, what was written lags by at most that
--- many: it holds the header, and each frame whose place is in the bytes before
-abbrev pub KeepsUp : Option (List ℕ) → List ℕ → ℕ → Option (List ℕ) → Option (List ℕ) → Type 0
-KeepsUp left project given held_old held_new = IfSome left (λ file. (bytes : List ℕ) (s : Sound) (plays : Plays project file bytes) → LeadsToSound file s → 131072 < sound_given s given
-    → WritesFrames plays.decimator s (sound_given s given - 131072) bytes held_old held_new)
+-- many: it holds the header, and each frame of the range whose place is in the bytes before
+abbrev pub KeepsUp : Option (List ℕ) → List ℕ → FrameRange → ℕ → Option (List ℕ) → Option (List ℕ) → Type 0
+KeepsUp left project range given held_old held_new = IfSome left (λ file. (bytes : List ℕ) (s : Sound) (plays : PlaysRange project range file bytes) → LeadsToSound file s → 131072 < sound_given s given
+    → WritesFrames plays.decimator s range (sound_given s given - 131072) bytes held_old held_new)
 
 -- this fault applies: it is the first of the project and its decimator, or applies to a file that is played by that
-abbrev pub StreamApplies : Option (List ℕ) → List ℕ → Fault → Type 0
-StreamApplies left project fault = FailsUnless Memory fault (decimator_of_text project) ⊎ OfStream (λ f. IfSome left (λ file. (d : Decimator) × SaysDecimator project d × Applies d file f)) fault
+abbrev pub StreamApplies : Option (List ℕ) → List ℕ → FrameRange → Fault → Type 0
+StreamApplies left project range fault = FailsUnless Memory fault (decimator_of_text project) ⊎ OfStream (λ f. IfSome left (λ file. (d : Decimator) × SaysDecimator project d × Applies d range file f)) fault
 
 -- a fault that comes before the first write
 abbrev pub FailsBeforeWriting : Fault → Type 0

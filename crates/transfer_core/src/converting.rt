@@ -10,11 +10,11 @@ ghost use Rattle.form_core.specs.Steps.{GivesUnless};
 ghost use Rattle.transfer_core.specs.Conversions.{ConversionApplies};
 ghost use Rattle.transfer_core.specs.Converting.{IsConverted, IsKept, contents, converted_of};
 ghost use Rattle.transfer_core.specs.Ends.{AreSpent, ConvertsAll, Rewrites, StartsFile, WritesNothing, left_in};
-ghost use Rattle.transfer_core.specs.Faults.{as_stream};
+ghost use Rattle.request_core.specs.Faults.{as_stream};
 
-use crate::fault::Fault;
 use chunk_core::{Inlet, Outlet};
 use form_core::{Form, dropped_in, ends_in, interleaving_in, read_any, write_in, written_in_parts};
+use request_core::Fault;
 use sound_core::{NewFile, Outline, StreamFault, relay};
 use std::alloc::Global;
 use std::io::{Read, Write};
@@ -30,7 +30,7 @@ pub struct Converted {
 }
 
 /// The recording of a DSDIFF or DSF file as a file of the form, with every bit of every channel, at the same rate. A
-/// file that already has the form is written anew.
+/// file that already has the form is written again.
 ///
 /// Refusals, in this order: `FileUnread`; `NotWholeBytes` if `form` is DSDIFF and the number of bits of each channel
 /// isn't a multiple of 8. Out of memory is always `Memory`.

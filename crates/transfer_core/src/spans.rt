@@ -5,25 +5,12 @@ ghost use Rattle.dsd_bits.specs.Contents.{mark_content};
 ghost use Rattle.dsdiff_core.specs.MarkPlaces.{place_of};
 ghost use Rattle.transfer_core.specs.Spans.{AreFramesOf, FramesRefused, IsFrameAt, IsFrameOr, IsNoMark, IsNoMarkIn, IsSpanOf, SpanRefused, from_start};
 
-use crate::fault::Fault;
 use crate::frames::PlayedFrames;
-use crate::projects::decimator_of;
 use dsd_bits::Mark;
+use place_core::Place;
+use request_core::{Fault, SpanFault, decimator_of};
 use sound_core::StreamFault;
 use std::alloc::Global;
-use std::fmt;
-use thiserror::Error;
-
-/// A place in a recording.
-#[derive(Clone, Copy)]
-pub enum Place {
-    /// A time from the beginning, in nanoseconds.
-    Time(u64),
-    /// A frame of what is played, the first being 0.
-    Frame(u64),
-    /// A mark of a DSDIFF 1.5 file, the first being 0.
-    Mark(u64),
-}
 
 /// Where a part begins and ends. Without a place it begins with the recording, or ends with it.
 #[derive(Clone, Copy)]
@@ -32,23 +19,6 @@ pub struct Span {
     pub from: Option<Place>,
     /// The place of the first frame that is no longer played.
     pub to: Option<Place>,
-}
-
-/// Why a part isn't found in a recording. A fault's text is its name.
-#[derive(Clone, Copy, Debug, PartialEq, Eq, Error)]
-pub enum SpanFault {
-    /// A mark that is named isn't there.
-    NoMark,
-    /// The part begins or ends behind the recording's end.
-    PartOutside,
-    /// The part ends before it begins.
-    PartReversed,
-}
-
-impl fmt::Display for SpanFault {
-    fn fmt<W: fmt::Write>(&self, f: &mut fmt::Formatter<W>) -> fmt::Result {
-        fmt::Debug::fmt(self, f)
-    }
 }
 
 /// The frames that a project plays of `count` bits of each channel at a rate in hertz.
@@ -75,7 +45,7 @@ pub fn frames_of(
     })
 }
 
-/// The first frame of a part, and the first behind it: of each place the last frame that begins at it or before it, by
+/// The first frame of a part, and the first after it: of each place the last frame that begins at it or before it, by
 /// the rate of what is played. The recording has this rate in hertz, and these marks.
 ///
 /// Refusals, in this order: `NoMark`, `PartOutside`, `PartReversed`.

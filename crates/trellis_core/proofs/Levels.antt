@@ -1,7 +1,7 @@
 -- A level's row and its decisions, as they are chosen over lists.
-use Rattle.std.proofs.Common.{◌≡◌, ℕ, ◌+◌, ◌*◌, ◌/◌, ◌^◌, ◌<◌, ◌≤◌, false, cond, ltb, min, List, take, drop, length, get_or, refl, sym, ap, ◌∙◌, inl, inr, arith}
+use Rattle.std.proofs.Common.{◌≡◌, ℕ, ◌+◌, ◌/◌, ◌^◌, ◌<◌, ◌≤◌, false, cond, ltb, min, List, take, drop, length, get_or, refl, sym, ap, ◌∙◌, inl, inr, arith}
 use Rattle.std.proofs.lemmas.Bool.{cases_Bool, ltb-true, ltb-false}
-use Rattle.std.proofs.lemmas.List.{ext_get_or, get_or-take, get_or-drop, length-take-le, length-drop}
+use Rattle.std.proofs.lemmas.List.{ext_get_or}
 use Rattle.std.proofs.lemmas.Simd.{length-zip2}
 use Rattle.cost_core.specs.Trellis.{Trellis, states, newest, digit, IsBounded}
 use Rattle.cost_core.specs.Bridges.{Bridging}
@@ -12,7 +12,7 @@ use Rattle.cost_core.specs.Ways.{AreWays}
 use Rattle.cost_core.specs.Rows.{seconds, least, twice, lower, upper}
 use Rattle.trellis_core.proofs.Bests.{best_le}
 use Rattle.trellis_core.proofs.Decisions.{cond_digit}
-use Rattle.trellis_core.proofs.RowLaws.{row_length, row_at, best_from, sum_0, sum_1, low_state, high_state}
+use Rattle.trellis_core.proofs.RowLaws.{row_length, row_at, best_from, sum_0, sum_1}
 use Rattle.cost_core.proofs.WayLaws.{are_ways, high_long, high_sum, lens, low_long, low_sum}
 use Rattle.cost_core.proofs.Chunks.{at_least, at_seconds, rows_long}
 

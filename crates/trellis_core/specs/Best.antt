@@ -41,7 +41,7 @@ total t q = best t t.levels q + t.tail q
 unfoldable pub total_row : Trellis → List ℕ
 total_row t = map (total t) (range_with_len 0 (states t))
 
--- of the states whose bits but for the n oldest are those of q, the one of the least total: on a tie the one with 0 at the newest bit that differs
+-- of the states whose bits except for the n oldest are those of q, the one of the least total: on a tie the one with 0 at the newest bit that differs
 unfoldable pub final : Trellis → ℕ → ℕ → ℕ
 final t zero q = q
 final t (suc n) q =

@@ -22,7 +22,7 @@
 //! (`choosing`), or one at a time if there are fewer than sixteen. After the last level the costs of ending are added
 //! to its row, and the end is chosen from these totals (`ends`).
 //!
-//! The words of the contracts are those of `cost_core`, `IsFirstLeastBridge` and `bridge_cost` among them, and these:
+//! Contracts use the definitions of `cost_core`, `IsFirstLeastBridge` and `bridge_cost` among them, and these:
 //!
 //! - `IsBest t level q v` says that `v` is the lesser of `2^63` and the least sum of steps over all lists of `level`
 //!   bits that lead to state `q`. `BestRows t rows` says that there is a row of these for each level. There is one such

@@ -1,5 +1,6 @@
 -- What a WAVE file of PCM samples holds, as lists and numbers (RIFF WAVE; the limits are this project's).
 use Rattle.std.specs.Prelude.{◌≡◌, ℕ, ◌-◌, ◌%◌, ◌^◌, ◌<◌, ◌≤◌, ◌⊎◌, ℤ, pos, negsuc, List, length, All}
+use Rattle.dsd_bits.specs.Limits.{most_channels}
 
 -- samples of a width in bits at a rate in frames per second: the channels of a frame in order, frame by frame
 pub record Pcm : Type 0 where
@@ -34,7 +35,7 @@ spec_of channels rate width = record { channels = channels; rate = rate; width =
 -- the rules that it obeys
 pub record IsWaveSpec (s : WaveSpec) : Type 0 where
   pub some_channel : 1 ≤ s.channels
-  pub six_channels : s.channels ≤ 6
+  pub six_channels : s.channels ≤ most_channels
   pub lowest_rate : 1 ≤ s.rate
   pub highest_rate : s.rate ≤ 6250000
   pub known_width : IsWidth s.width

@@ -1,7 +1,7 @@
 -- What the words of a command line ask for, and why they ask for nothing.
-use Rattle.std.specs.Prelude.{◌≡◌, ◌⊎◌, ⊤, None}
+use Rattle.std.specs.Prelude.{◌≡◌, ◌⊎◌, ⊤, None, codes}
 use Rattle.words_core.specs.declared.fault.WordsFault.{WordsFault}
-use Rattle.words_core.specs.declared.fault.WordsFault.TheVariants.{Memory, WrongWords}
+use Rattle.words_core.specs.declared.fault.WordsFault.TheVariants.{UnknownForm}
 use Rattle.words_core.specs.declared.task.Task.{Task}
 use Rattle.words_core.specs.declared.task.Task.TheVariants.{PlayPart}
 
@@ -12,4 +12,10 @@ HasPlaces _ = ⊤
 
 -- a fault of words that name no form
 abbrev pub IsNoForm : WordsFault → Type 0
-IsNoForm fault = (fault ≡ WrongWords) ⊎ (fault ≡ Memory)
+IsNoForm (UnknownForm command form) = ⊥
+IsNoForm _ = ⊤
+
+-- a fault of a form is one of `convert` or `edit`, which take a form
+abbrev pub TakesForm : WordsFault → Type 0
+TakesForm (UnknownForm command form) = (command.now ≡ codes "convert") ⊎ (command.now ≡ codes "edit")
+TakesForm _ = ⊤

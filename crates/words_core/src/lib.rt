@@ -1,29 +1,25 @@
-//! The words of a command line: [`task_of`] reads which [`Task`] they ask for, with the names of its files.
-//! [`sum_task_of`] reads those of `sum`, which takes any number of files. An [`Explanation`] is the text of a line that
-//! explains a fault or a rejection.
+//! The words of a command line. [`Words`] are read once. They ask for a [`Task`], with the names of its files, or a
+//! [`WordsFault`] says what is wrong with them.
 //!
-//! What it promises, beside that it is safe: which place a word names (frames and marks in `specs/Places.antt`, times
-//! in `specs/Times.antt`), that a part that is asked for has a place, that `sum` isn't refused for a form
-//! (`specs/Asked.antt`), and that an explanation isn't empty. Which words ask for what is tested by
-//! `tests/try_commands`.
+//! What it promises, beside that it is safe: that a part that is asked for has a place, and that no command is refused
+//! for a form but those that take one (`specs/Asked.antt`). Which words ask for what is tested by `tests/try_commands`.
 //!
 //! ```text
-//! match task_of(alloc, &words) {
+//! let (is_explained, words) = split_explain(&all);
+//! match Words::read(alloc, words)?.task() {
 //!     Ok(Task::Info { file }) => ..
-//!     Err(WordsFault::WrongWords) => ..
+//!     Err(WordsFault::UnknownCommand(word)) => ..
 //! ```
 #![tactic(auto)]
 
-mod explanation;
 mod fault;
-mod place;
-mod sums;
+mod options;
+mod reading;
 mod task;
 mod words;
 
-pub use explanation::Explanation;
-pub use fault::WordsFault;
-pub use place::{Place, place_named};
-pub use sums::{SumTask, sum_task_of};
+pub use fault::{Misfit, WordsFault};
+pub use options::options_of;
+pub use reading::Words;
 pub use task::Task;
-pub use words::{COMMANDS, PLACES, task_of};
+pub use words::{COMMANDS, NAMES, split_explain};

@@ -1,7 +1,7 @@
 //! What a command line asks for.
 
-use crate::place::Place;
 use form_core::Form;
+use place_core::Place;
 
 /// What a command line asks for, with the names of the files.
 #[derive(Clone, Copy)]
@@ -42,5 +42,10 @@ pub enum Task<'a> {
     /// `info FILE`
     Info {
         file: &'a str,
+    },
+    /// `sum FILE..`, or with `--check` files that are lists by which others are checked
+    Sum {
+        is_check: bool,
+        files: &'a [&'a str],
     },
 }

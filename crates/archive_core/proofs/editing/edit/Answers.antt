@@ -1,7 +1,7 @@
 use Rattle.std.proofs.Common.{◌∙◌, Some, inl, refl, subst}
 use Rattle.std.proofs.lemmas.Result.{err_from_is_err_and}
 use Rattle.cut_core.specs.Opening.{file_bytes}
-use Rattle.judge_core.proofs.CuttingLaws.{only_memory}
+use Rattle.request_core.proofs.CuttingLaws.{only_memory}
 use Rattle.archive_core.specs.Planning.{CertifiesPlanned}
 use Rattle.archive_core.specs.declared.planning.PlannedMaster.{PlannedMaster}
 use Rattle.archive_core.proofs.editing.edit.Goals as goal

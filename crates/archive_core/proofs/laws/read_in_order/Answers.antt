@@ -1,5 +1,6 @@
-use Rattle.judge_core.proofs.CuttingLaws.{says_cut}
-use Rattle.transfer_core.proofs.ReadingLaws.{converts, plays, says_takes}
+use Rattle.request_core.proofs.CuttingLaws.{says_cut}
+use Rattle.request_core.proofs.ProjectLaws.{says_takes}
+use Rattle.transfer_core.proofs.ReadingLaws.{converts, plays}
 use Rattle.archive_core.proofs.laws.read_in_order.Goals as goal
 
 pub returns-clause-converts : goal.returns-clause-converts

@@ -3,12 +3,12 @@ use Rattle.std.proofs.lemmas.Result.{err_from_is_err_and}
 use Rattle.dsdiff_core.specs.declared.write_fault.WriteFault.TheVariants as writes
 use Rattle.form_core.specs.Parts.{FitsIn}
 use Rattle.cut_core.specs.Cuts.{CutContent, master_length}
-use Rattle.transfer_core.specs.declared.fault.Fault.TheVariants.{Memory}
+use Rattle.request_core.specs.declared.fault.Fault.TheVariants.{Memory}
 use Rattle.master_core.specs.Best.{IsBestMaster, master_of}
 use Rattle.master_core.proofs.ChoiceLaws.{cert_holds, cert_is}
-use Rattle.judge_core.specs.Cutting.{SaysCut}
-use Rattle.transfer_core.specs.Faults.{fault_of_writing}
-use Rattle.judge_core.proofs.CuttingLaws.{one_cut, says_cut}
+use Rattle.request_core.specs.Cutting.{SaysCut}
+use Rattle.request_core.specs.Faults.{fault_of_writing}
+use Rattle.request_core.proofs.CuttingLaws.{one_cut, says_cut}
 use Rattle.archive_core.proofs.EditLaws.{any_form, file_certificate, file_costs, file_is_accepted, file_is_master, file_least, one_answer, one_file, plan_only_memory}
 use Rattle.archive_core.proofs.planning.plan_master.Goals as goal
 use Rattle.archive_core.proofs.planning.plan_master.Given.{Over}

@@ -1,7 +1,6 @@
-use Rattle.std.proofs.Common.{refl, length, take, subst, ◌<◌, ◌≡◌, false, true, sym, ◌∙◌, below_more, arith}
+use Rattle.std.proofs.Common.{refl, length, take, subst, ◌≡◌, false, true, sym, ◌∙◌, below_more, arith}
 use Rattle.cost_core.specs.StateCosts.{trellis_of}
 use Rattle.cert_core.specs.Reasons.{Exceeds}
-use Rattle.std.specs.Simd.Lanes.{Each1}
 use Rattle.cost_core.proofs.StepRows.{states_whole}
 use Rattle.cost_core.proofs.WayLaws.{are_ways}
 use Rattle.cert_core.specs.Within.{WithinBoth}

@@ -1,5 +1,3 @@
-use Rattle.std.proofs.Common.{subst}
-use Rattle.transfer_commands.specs.PartPlaying.{PlayPartComesTo}
 use Rattle.command_core.proofs.performing.perform.Goals as goal
 
 pub returns-in-Play : goal.returns-in-Play
@@ -18,4 +16,4 @@ pub returns-in-Info : goal.returns-in-Info
 returns-in-Info g c = rw c.in-Info.is (c.open_file.result, c.reported.ensures, c.open_file.ensures)
 
 pub returns-in-PlayPart : goal.returns-in-PlayPart
-returns-in-PlayPart g c = rw c.in-PlayPart.is (c.play_part_file.result, c.played_part.ensures, subst (λ s. PlayPartComesTo c.in-PlayPart.project.now c.in-PlayPart.input.now c.in-PlayPart.output.now s (g.F.Folder.view c.args.folder.now) (g.F.Folder.view c.play_part_file.new.folder) c.play_part_file.result) c.span_of.ensures c.play_part_file.ensures)
+returns-in-PlayPart g c = rw c.in-PlayPart.is (c.play_part_file.result, c.played_part.ensures, c.play_part_file.ensures)

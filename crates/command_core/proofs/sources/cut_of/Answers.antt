@@ -1,5 +1,5 @@
 use Rattle.std.proofs.lemmas.Result.{err_from_is_err_and}
-use Rattle.judge_core.specs.Cutting.{said_cut}
+use Rattle.request_core.specs.Cutting.{said_cut}
 use Rattle.command_core.proofs.SourceLaws.{are_takes, gives_refused, not_excerpted, of_takes}
 use Rattle.command_core.proofs.sources.cut_of.Goals as goal
 

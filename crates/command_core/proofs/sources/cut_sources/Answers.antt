@@ -1,5 +1,5 @@
 use Rattle.std.proofs.Common.{Some}
-use Rattle.judge_core.specs.Cutting.{said_cut}
+use Rattle.request_core.specs.Cutting.{said_cut}
 use Rattle.command_core.proofs.SourceLaws.{memory_refused}
 use Rattle.command_core.proofs.sources.cut_sources.Goals as goal
 

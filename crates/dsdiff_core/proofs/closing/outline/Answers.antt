@@ -1,8 +1,7 @@
-use Rattle.std.proofs.Common.{◌≡◌, Some, Ok, ap, subst, sym, ◌∙◌}
+use Rattle.std.proofs.Common.{Some, ap, subst, sym}
 use Rattle.std.specs.Result.{result_ok}
 use Rattle.dsd_bits.specs.Contents.{Content}
 use Rattle.dsdiff_core.specs.Outlines.{StatesOutline}
-use Rattle.dsdiff_core.specs.SoundBytes.{description_of, with_zeros}
 use Rattle.dsdiff_core.proofs.ClosingLaws.{long_zeros, outlines}
 use Rattle.dsdiff_core.proofs.HeadLaws.{ends_at_head}
 use Rattle.dsdiff_core.proofs.closing.outline.Goals as goal

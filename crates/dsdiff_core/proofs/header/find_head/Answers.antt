@@ -1,6 +1,6 @@
 use Rattle.std.proofs.Common.{◌≡◌, true, false, take, drop, sym, ap, ◌∙◌, arith}
 use Rattle.dsd_bits.specs.Ids.{same_id, DSD}
-use Rattle.dsdiff_core.proofs.SeekLoop.{data_cut, data_fit, data_wanted, here, no_head, past_end, walked_here, walked_on}
+use Rattle.dsdiff_core.proofs.SeekLoop.{data_fit, data_past, data_wanted, here, no_head, past_end, walked_here, walked_on}
 use Rattle.dsdiff_core.proofs.header.find_head.Goals as goal
 
 pub returns-in_default-clause-exact : goal.returns-in_default-clause-exact
@@ -12,7 +12,7 @@ pub returns-then-size-at-clause-exact : goal.returns-then-size-at-clause-exact
 returns-then-size-at-clause-exact c =
     let found = c.in-Some.ensures in
     let sought = walked_here c.args.prefix.now c.loop-at.at c.args.size c.requires.long c.requires.size c.loop-at.invariant in
-    data_cut c.args.prefix.now c.loop-at.at c.args.size sought (omega arith) found.whole (omega (arith, found.size))
+    data_past c.args.prefix.now c.loop-at.at c.args.size sought (omega arith) found.whole (omega (arith, found.size))
 
 pub returns-then-eq-clause-exact : goal.returns-then-eq-clause-exact
 returns-then-eq-clause-exact c =

@@ -1,5 +1,6 @@
-use Rattle.std.proofs.Common.{◌∙◌, ap}
+use Rattle.std.proofs.Common.{◌∙◌, ap, sym, ℕ, Option, Result, Err}
 use Rattle.chunk_core.specs.Steps.{◌>>=◌}
+use Rattle.dsdiff_core.specs.declared.fault.DsdiffFault.{DsdiffFault}
 use Rattle.dsdiff_core.specs.Headers.{seek}
 use Rattle.dsdiff_core.specs.Walks.{sought_by}
 use Rattle.dsdiff_core.proofs.ExitLaws.{exact_at}
@@ -18,16 +19,16 @@ find_head-requires-clause-walked c = walked_first c.args.prefix.now
 
 pub returns-in-Head-clause-exact : goal.returns-in-Head-clause-exact
 returns-in-Head-clause-exact c =
-    long_prefix c.args.prefix.now c.if-prefix-lt16.false ∙ ap (λ r. r >>= λ form. seek c.args.prefix.now) c.in_ok-check_form.ensures ∙ c.find_head.ensures.exact ∙ ap sought_by c.in-Head.is
+    long_prefix c.args.prefix.now c.if-prefix-lt16.false ∙ ap (λ r. r >>= λ form. seek c.args.prefix.now) c.in_ok-check_form.ensures ∙ c.find_head.ensures.exact ∙ ap (sought_by c.args.prefix.now) c.in-Head.is
 
 pub returns-in-More-clause-exact : goal.returns-in-More-clause-exact
 returns-in-More-clause-exact c =
-    long_prefix c.args.prefix.now c.if-prefix-lt16.false ∙ ap (λ r. r >>= λ form. seek c.args.prefix.now) c.in_ok-check_form.ensures ∙ c.find_head.ensures.exact ∙ ap sought_by c.in-More.is
+    long_prefix c.args.prefix.now c.if-prefix-lt16.false ∙ ap (λ r. r >>= λ form. seek c.args.prefix.now) c.in_ok-check_form.ensures ∙ c.find_head.ensures.exact ∙ ap (sought_by c.args.prefix.now) c.in-More.is
 
 pub returns-in-Lost-clause-exact : goal.returns-in-Lost-clause-exact
 returns-in-Lost-clause-exact c =
-    long_prefix c.args.prefix.now c.if-prefix-lt16.false ∙ ap (λ r. r >>= λ form. seek c.args.prefix.now) c.in_ok-check_form.ensures ∙ c.find_head.ensures.exact ∙ ap sought_by c.in-Lost.is
+    long_prefix c.args.prefix.now c.if-prefix-lt16.false ∙ ap (λ r. r >>= λ form. seek c.args.prefix.now) c.in_ok-check_form.ensures ∙ c.find_head.ensures.exact ∙ ap (sought_by c.args.prefix.now) c.in-Lost.is
 
 pub returns-in-Past-clause-exact : goal.returns-in-Past-clause-exact
 returns-in-Past-clause-exact c =
-    long_prefix c.args.prefix.now c.if-prefix-lt16.false ∙ ap (λ r. r >>= λ form. seek c.args.prefix.now) c.in_ok-check_form.ensures ∙ c.find_head.ensures.exact ∙ ap sought_by c.in-Past.is
+    long_prefix c.args.prefix.now c.if-prefix-lt16.false ∙ ap (λ r. r >>= λ form. seek c.args.prefix.now) c.in_ok-check_form.ensures ∙ c.find_head.ensures.exact ∙ ap (sought_by c.args.prefix.now) c.in-Past.is ∙ ap (λ (e : DsdiffFault). let r : Result (Option ℕ) DsdiffFault = Err e in r) (sym c.data_cut.ensures)

@@ -1,1 +1,0 @@
-use Rattle.fir_core.proofs.decimator.decimate.Goals as goal

@@ -1,4 +1,4 @@
-use Rattle.std.proofs.Common.{◌≡◌, ℕ, ◌+◌, ◌-◌, ◌∙◌, arith, map, subst, to_z, w32}
+use Rattle.std.proofs.Common.{◌≡◌, ℕ, ◌+◌, ◌∙◌, arith, map, subst, to_z, w32}
 use Rattle.std.proofs.lemmas.List.{length-map}
 use Rattle.fir_core.specs.Blocks.{sum_within}
 use Rattle.fir_core.proofs.InPlace.{chunk_written}

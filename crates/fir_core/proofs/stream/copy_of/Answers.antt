@@ -1,1 +1,0 @@
-use Rattle.fir_core.proofs.stream.copy_of.Goals as goal

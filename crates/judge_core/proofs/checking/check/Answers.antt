@@ -1,13 +1,13 @@
 use Rattle.std.proofs.Common.{◌≡◌, ◌∙◌, None, Ok, ap, arith, subst}
 use Rattle.std.proofs.lemmas.Result.{err_from_is_err_and}
 use Rattle.cut_core.specs.Opening.{file_bytes}
-use Rattle.judge_core.specs.Cutting.{SaysCut}
+use Rattle.request_core.specs.Cutting.{SaysCut}
 use Rattle.cert_core.specs.Readers.{cert_inlet}
 use Rattle.chunk_core.specs.Inlets.{inlet_failures, inlet_reader}
 use Rattle.judge_core.specs.Accepting.{Accepts, IfMasterAccepted, IfMasterRejected, IsAcceptedAt, RejectsFirst}
 use Rattle.judge_core.specs.Finding.{IsFoundHeld, IsFoundIn}
 use Rattle.judge_core.proofs.FindLaws.{held_some, held_there}
-use Rattle.judge_core.proofs.CuttingLaws.{only_memory}
+use Rattle.request_core.proofs.CuttingLaws.{only_memory}
 use Rattle.judge_core.proofs.checking.check.Goals as goal
 use Rattle.judge_core.proofs.checking.check.Goals.{In-Ok}
 

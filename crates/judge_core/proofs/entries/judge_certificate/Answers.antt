@@ -2,7 +2,7 @@ use Rattle.std.proofs.Common.{◌≡◌, Bool, List, None, Option, Some, length,
 use Rattle.chunk_core.specs.Inlets.{inlet_reader}
 use Rattle.cert_core.specs.Readers.{cert_inlet}
 use Rattle.cert_core.specs.declared.verdict.CertReason.{CertReason}
-use Rattle.judge_core.specs.Claims.{claims}
+use Rattle.cut_core.specs.Claims.{claims}
 use Rattle.judge_core.specs.Judging.{JudgesClaims, JudgesHead}
 use Rattle.judge_core.specs.declared.verdict.Verdict.{Verdict}
 use Rattle.judge_core.specs.declared.verdict.Verdict.TheVariants.{Accepted, Rejected}

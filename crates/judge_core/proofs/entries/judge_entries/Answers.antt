@@ -8,7 +8,7 @@ use Rattle.chunk_core.specs.Inlets.{inlet_reader}
 use Rattle.cert_core.specs.Certificates.{Claim}
 use Rattle.cert_core.specs.Readers.{cert_inlet}
 use Rattle.judge_core.specs.Judging.{JudgesClaim, LacksClaim, ReadsEntries, ShowsClaim}
-use Rattle.judge_core.specs.Claims.{IsLeastClaim, claim_cost}
+use Rattle.cut_core.specs.Claims.{IsLeastClaim, claim_cost}
 use Rattle.judge_core.specs.Kept.{claim_from, kept_items}
 use Rattle.judge_core.proofs.EntryLaws.{lacks_one, shown_more}
 use Rattle.judge_core.proofs.entries.judge_entries.Goals as goal

@@ -3,7 +3,7 @@ use Rattle.std.specs.List.{All, sum_by}
 use Rattle.chunk_core.specs.Inlets.{inlet_failures, inlet_reader}
 use Rattle.cert_core.specs.Readers.{cert_inlet, has_read_head, read_version}
 use Rattle.judge_core.specs.Judging.{ReadsEntries}
-use Rattle.judge_core.specs.Claims.{IsLeastClaim, claim_cost}
+use Rattle.cut_core.specs.Claims.{IsLeastClaim, claim_cost}
 use Rattle.judge_core.specs.Kept.{claim_from, kept_items}
 use Rattle.judge_core.proofs.entries.judge_entries.Given as goal
 

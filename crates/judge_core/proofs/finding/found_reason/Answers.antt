@@ -3,7 +3,7 @@ use Rattle.std.proofs.lemmas.Result.{err_from_is_err_and}
 use Rattle.std.specs.Prelude.{MatchOption}
 use Rattle.judge_core.specs.Checking.{IsLike, OuterReason}
 use Rattle.judge_core.specs.declared.finding.CuedPlace.{CuedPlace}
-use Rattle.judge_core.specs.declared.verdict.Reason.{Reason}
+use Rattle.request_core.specs.declared.reason.Reason.{Reason}
 use Rattle.judge_core.proofs.FoundLaws.{found_kept, found_none, found_outer, found_some}
 use Rattle.judge_core.proofs.JudgeLaws.{some_is}
 use Rattle.judge_core.proofs.finding.found_reason.Goals as goal

@@ -6,8 +6,9 @@ use Rattle.cert_core.specs.Readers.{cert_inlet}
 use Rattle.dsd_bits.specs.Contents.{Content}
 use Rattle.judge_core.proofs.FoundLaws.{kept_bits}
 use Rattle.judge_core.proofs.JudgeLaws.{for_known, judged_least, judged_only, judged_whole, reason_against, some_is}
-use Rattle.judge_core.specs.Checking.{IsMasterOf, MasterReason}
-use Rattle.judge_core.specs.Claims.{IsCertOf}
+use Rattle.cut_core.specs.Masters.{IsMasterOf}
+use Rattle.judge_core.specs.Checking.{MasterReason}
+use Rattle.cut_core.specs.Claims.{IsCertOf}
 use Rattle.judge_core.specs.Judging.{JudgesCert, JudgesMaster}
 use Rattle.judge_core.specs.Kept.{IsFoundOf, kept_at, kept_items}
 use Rattle.judge_core.specs.declared.verdict.Verdict.TheVariants.{Rejected}

@@ -4,9 +4,9 @@ use Rattle.splice_core.specs.Cues.{CueContent}
 use Rattle.dsd_bits.specs.Rooms.{RoomContent}
 use Rattle.cost_core.specs.Bridges.{bridge_cost}
 use Rattle.cut_core.specs.Cuts.{cue_at, window}
-use Rattle.judge_core.proofs.ChannelLaws.{nothing_first}
+use Rattle.cut_core.proofs.ChannelLaws.{nothing_first}
 use Rattle.master_core.proofs.PartLaws.{best_bridge}
-use Rattle.judge_core.proofs.SliceLaws.{length-slice, slice_all}
+use Rattle.cut_core.proofs.SliceLaws.{length-slice, slice_all}
 use Rattle.master_core.proofs.parting.push_bridge_part.Goals as goal
 
 pub returns-then-stop-range-clause-bridged : goal.returns-then-stop-range-clause-bridged

@@ -4,10 +4,10 @@ use Rattle.dsd_bits.specs.Rooms.{RoomContent}
 use Rattle.splice_core.specs.Cues.{CueContent}
 use Rattle.cut_core.proofs.CutLaws.{fits_at}
 use Rattle.cut_core.specs.Cuts.{cue_at, cue_bits, span}
-use Rattle.judge_core.specs.Claims.{bridge_start}
+use Rattle.cut_core.specs.Claims.{bridge_start}
 use Rattle.master_core.specs.Parting.{within}
 use Rattle.master_core.proofs.PartLaws.{part_more, prefix_best, prefix_long, prefix_nothing}
-use Rattle.judge_core.proofs.SliceLaws.{length-slice}
+use Rattle.cut_core.proofs.SliceLaws.{length-slice}
 use Rattle.master_core.proofs.parting.push_part.Goals as goal
 use Rattle.master_core.proofs.parting.push_part.Goals.{In-loop-cue}
 

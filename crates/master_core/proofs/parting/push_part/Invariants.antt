@@ -1,6 +1,6 @@
 use Rattle.std.proofs.Common.{◌≡◌}
 use Rattle.cut_core.specs.Keeping.{CanCut}
-use Rattle.judge_core.specs.Claims.{bridge_start}
+use Rattle.cut_core.specs.Claims.{bridge_start}
 use Rattle.master_core.proofs.PartLaws.{IsPrefixPart}
 use Rattle.master_core.proofs.parting.push_part.Given as goal
 

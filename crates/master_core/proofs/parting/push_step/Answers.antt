@@ -3,8 +3,8 @@ use Rattle.std.proofs.lemmas.List.Sums.{sum_by_more_le}
 use Rattle.dsd_bits.specs.Rooms.{RoomContent}
 use Rattle.splice_core.specs.Cues.{CueContent}
 use Rattle.cut_core.specs.Cuts.{cue_at, cue_bits, master_length, span}
-use Rattle.judge_core.specs.Claims.{bridge_start}
-use Rattle.judge_core.proofs.SliceLaws.{length-slice}
+use Rattle.cut_core.specs.Claims.{bridge_start}
+use Rattle.cut_core.proofs.SliceLaws.{length-slice}
 use Rattle.master_core.proofs.parting.push_step.Goals as goal
 
 pub push_bridge_part-requires : goal.push_bridge_part-requires

@@ -1,5 +1,5 @@
 use Rattle.std.proofs.Common.{◌++◌, Bool, List, ap}
-use Rattle.judge_core.proofs.SliceLaws.{slice-slice}
+use Rattle.cut_core.proofs.SliceLaws.{slice-slice}
 use Rattle.master_core.proofs.parting.push_within.Goals as goal
 
 pub returns : goal.returns

@@ -4,15 +4,15 @@ use Rattle.cut_core.specs.Bridges.{IsPlace}
 use Rattle.cut_core.specs.declared.bridges.BridgePlace.{BridgePlace}
 use Rattle.cut_core.proofs.CutLaws.{first_shape}
 use Rattle.master_core.specs.Choosing.{chosen_claims}
-use Rattle.judge_core.specs.Claims.{windows_total}
+use Rattle.cut_core.specs.Claims.{windows_total}
 use Rattle.master_core.specs.Best.{master_of}
-use Rattle.judge_core.specs.Masters.{total_cost}
+use Rattle.cut_core.specs.Masters.{total_cost}
 use Rattle.master_core.proofs.ChoiceLaws.{claims_stand, costs_stand}
 use Rattle.master_core.proofs.FilingLaws as files
 use Rattle.master_core.proofs.MasterLaws.{are_channels, best_are_least, cues_held, is_master, shape_is}
-use Rattle.judge_core.proofs.LeastLaws.{cost_least}
+use Rattle.cut_core.proofs.LeastLaws.{cost_least}
 use Rattle.master_core.proofs.PartLaws.{one_best}
-use Rattle.judge_core.proofs.TotalLaws.{windows_are_total}
+use Rattle.cut_core.proofs.TotalLaws.{windows_are_total}
 use Rattle.master_core.proofs.planning.is_master.Goals as goal
 
 pub returns : goal.returns

@@ -1,4 +1,4 @@
-use Rattle.player_core.proofs.PartPlayLaws.{part_is_played}
+use Rattle.player_core.proofs.PlayLaws.{part_is_played}
 use Rattle.player_core.proofs.laws.part_is_played.Goals as goal
 
 pub returns : goal.returns

@@ -9,33 +9,42 @@ use Rattle.player_core.proofs.FaultLaws.{of_err, writes_are}
 use Rattle.player_core.proofs.PlayLaws.{only_outside}
 use Rattle.player_core.proofs.playing.play.Goals as goal
 
+pub play_file-requires : goal.play_file-requires
+play_file-requires g c = record { least = rw c.new-sink.ensures.taps c.keeps_limits.ensures.least_factor }
+
 pub returns : goal.returns
 returns g c =
     let left = g.R.Read.remaining (inlet_reader c.args.inlet.now) in
     let taps = c.new-sink.ensures.taps in
+    let range = c.new-sink.ensures.range in
     let was = c.new-sink.ensures.outlet in
     let is = sym (c.outlet-1.given.1 (sym (c.play_file.ensures.same ∙ c.new-sink.ensures.reference))) in
     let held = g.W.Write.contents in
     let end = c.outlet-1.given.0 in
-    let mid = c.play_file.new.sink.outlet.now in
     let given = inlet_given c.play_file.new.inlet - inlet_given c.args.inlet.now in
-    let fails : IfErr c.play_file.result (PlayFails held left c.args.taps.now given c.args.outlet.now end)
-    = subst (λ d. IfErr c.play_file.result (PlayFails held left d given c.args.outlet.now end)) taps
-    (subst (λ i. IfErr c.play_file.result (PlayFails held left c.new-sink.result.taps.now given i end)) was (subst (λ j. IfErr c.play_file.result (PlayFails held left c.new-sink.result.taps.now given c.new-sink.result.outlet.now j)) is c.play_file.ensures.fault)) in
+    let r = c.play_file.result in
+    let made = c.new-sink.result in
+    let fails : IfErr r (PlayFails held left c.args.taps.now c.args.range given c.args.outlet.now end)
+    = subst (λ d. IfErr r (PlayFails held left d c.args.range given c.args.outlet.now end)) taps
+    (subst (λ m. IfErr r (PlayFails held left made.taps.now m given c.args.outlet.now end)) range
+    (subst (λ i. IfErr r (PlayFails held left made.taps.now made.range given i end)) was
+    (subst (λ j. IfErr r (PlayFails held left made.taps.now made.range given made.outlet.now j)) is c.play_file.ensures.fault))) in
     record {
-      ok = subst (λ d. IfOk c.play_file.result (PlaysFile left (PlaysBy d) (held (outlet_writer c.args.outlet.now)) (held (outlet_writer end)))) taps
-          (subst (λ i. IfOk c.play_file.result (PlaysFile left (PlaysBy c.new-sink.result.taps.now) (held (outlet_writer i)) (held (outlet_writer end)))) was
-          (subst (λ j. IfOk c.play_file.result (PlaysFile left (PlaysBy c.new-sink.result.taps.now) (held (outlet_writer c.new-sink.result.outlet.now)) (held (outlet_writer j)))) is c.play_file.ensures.ok));
-      any_reader = subst (λ d. IfOk c.play_file.result (PlaysGiven g.R.Read.remaining c.args.inlet.now c.play_file.new.inlet (PlaysBy d) (held (outlet_writer c.args.outlet.now)) (held (outlet_writer end)))) taps
-          (subst (λ i. IfOk c.play_file.result (PlaysGiven g.R.Read.remaining c.args.inlet.now c.play_file.new.inlet (PlaysBy c.new-sink.result.taps.now) (held (outlet_writer i)) (held (outlet_writer end)))) was
-          (subst (λ j. IfOk c.play_file.result (PlaysGiven g.R.Read.remaining c.args.inlet.now c.play_file.new.inlet (PlaysBy c.new-sink.result.taps.now) (held (outlet_writer c.new-sink.result.outlet.now)) (held (outlet_writer j)))) is c.play_file.ensures.any_reader));
-      fault = IfErr-weaker c.play_file.result _ _ (λ f h. h.fault) fails;
-      cause = IfErr-weaker c.play_file.result _ _ (λ f h. only_outside c.sound_is_played.ensures left c.args.taps.now f h.fault) fails;
-      unwritten = IfErr-weaker c.play_file.result _ _ (λ f h. h.unwritten) fails;
-      prefix = of_err c.play_file.result _ _ (λ f h. h.prefix) fails;
-      keeps_up = IfErr-weaker c.play_file.result _ _ (λ f h. h.keeps_up) fails;
+      ok = subst (λ d. IfOk r (PlaysFile left (PlaysBy d c.args.range) (held (outlet_writer c.args.outlet.now)) (held (outlet_writer end)))) taps
+          (subst (λ m. IfOk r (PlaysFile left (PlaysBy made.taps.now m) (held (outlet_writer c.args.outlet.now)) (held (outlet_writer end)))) range
+          (subst (λ i. IfOk r (PlaysFile left (PlaysBy made.taps.now made.range) (held (outlet_writer i)) (held (outlet_writer end)))) was
+          (subst (λ j. IfOk r (PlaysFile left (PlaysBy made.taps.now made.range) (held (outlet_writer made.outlet.now)) (held (outlet_writer j)))) is c.play_file.ensures.ok)));
+      any_reader = subst (λ d. IfOk r (PlaysGiven g.R.Read.remaining c.args.inlet.now c.play_file.new.inlet (PlaysBy d c.args.range) (held (outlet_writer c.args.outlet.now)) (held (outlet_writer end)))) taps
+          (subst (λ m. IfOk r (PlaysGiven g.R.Read.remaining c.args.inlet.now c.play_file.new.inlet (PlaysBy made.taps.now m) (held (outlet_writer c.args.outlet.now)) (held (outlet_writer end)))) range
+          (subst (λ i. IfOk r (PlaysGiven g.R.Read.remaining c.args.inlet.now c.play_file.new.inlet (PlaysBy made.taps.now made.range) (held (outlet_writer i)) (held (outlet_writer end)))) was
+          (subst (λ j. IfOk r (PlaysGiven g.R.Read.remaining c.args.inlet.now c.play_file.new.inlet (PlaysBy made.taps.now made.range) (held (outlet_writer made.outlet.now)) (held (outlet_writer j)))) is c.play_file.ensures.any_reader)));
+      fault = IfErr-weaker r _ _ (λ f h. h.fault) fails;
+      cause = IfErr-weaker r _ _ (λ f h. only_outside c.part_is_played.ensures c.args.taps.now c.keeps_limits.ensures.least_factor c.args.range left f h.fault) fails;
+      unwritten = IfErr-weaker r _ _ (λ f h. h.unwritten) fails;
+      prefix = of_err r _ _ (λ f h. h.prefix) fails;
+      keeps_up = IfErr-weaker r _ _ (λ f h. h.keeps_up) fails;
       read_failed = c.play_file.ensures.read_failed;
-      write_failed = writes_are c.play_file.result _ _ (subst (λ i. OnOk c.play_file.result (outlet_failures end ≡ outlet_failures i)) was (subst (λ j. OnOk c.play_file.result (outlet_failures j ≡ outlet_failures c.new-sink.result.outlet.now)) is c.play_file.ensures.failures)) (IfErr-weaker c.play_file.result _ _ (λ f h. h.failures) fails);
+      write_failed = writes_are r _ _ (subst (λ i. OnOk r (outlet_failures end ≡ outlet_failures i)) was (subst (λ j. OnOk r (outlet_failures j ≡ outlet_failures made.outlet.now)) is c.play_file.ensures.failures)) (IfErr-weaker r _ _ (λ f h. h.failures) fails);
       reads = c.play_file.ensures.reads;
       turn_limit = λ is. subst (λ o. (CanFail o → ⊥) ⊎ RunsOut c.args.inlet.now c.play_file.new.inlet) was (c.play_file.ensures.turn_limit is);
     }

@@ -1,4 +1,4 @@
-use Rattle.std.proofs.Common.{arith, map, length, string_bytes, ◌≡◌, ap₂, refl, sym, ◌∙◌}
+use Rattle.std.proofs.Common.{arith, map, length, string_bytes, ◌≡◌, ◌-◌, ap₂, refl, sym, ◌∙◌}
 use Rattle.std.proofs.lemmas.Bool.{ne_eqb}
 use Rattle.std.proofs.lemmas.List.{length-map}
 use Rattle.splice_core.specs.Cues.{cue_content, last_bridge}
@@ -18,7 +18,7 @@ invariant_of-result c =
     let cues = cues_ok _ _ _ (map cue_content c.in_ok-cues.cues.items) c.in_ok-cues.ensures in
     let m : length c.in_ok-weights.weights.items ≡ c.len.result = omega arith in
     let n : length c.in_ok-takes.takes.items ≡ c.len-2.result = omega arith in
-    let last : last_bridge (map cue_content c.in_ok-cues.cues.items) ≡ 0 = rw (← c.deref.ensures.value) (sym c.last_bridge.ensures ∙ c.if-last_bridge-ne0.false) in
+    let last : last_bridge (map cue_content c.in_ok-cues.cues.items) ≡ 0 = rw (← c.deref.ensures.value) (sym c.last_bridge-bridge.ensures ∙ c.if-bridge-ne0.false) in
     record {
       limits = record {
         weights_fit = (weights_ok _ c.in_ok-weights.weights.items c.in_ok-weights.ensures).1;
@@ -42,18 +42,19 @@ returns-in_err-cues c =
     gives_fault _ _ c.in_err-cues.field-0.0 _ c.from_residual-in_err-cues.ensures.1
     (then_fails c.in_err-cues.field-0.0 _ _ _ c.in_ok-table.ensures (then_fails c.in_err-cues.field-0.0 _ _ _ c.in_ok-weights.ensures (then_fails c.in_err-cues.field-0.0 _ _ _ c.in_ok-takes.ensures (rw (numbers.0, numbers.1) (step_fails c.in_err-cues.field-0.0 _ _ c.in_err-cues.ensures)))))
 
-pub returns-then-last_bridge-ne0 : goal.returns-then-last_bridge-ne0
+pub returns-then-bridge-ne0 : goal.returns-then-bridge-ne0
 unfolding splice_of
-returns-then-last_bridge-ne0 c =
-    let numbers = numbers_are (goal.at.returns-then-last_bridge-ne0 c).After-len-2 in
+returns-then-bridge-ne0 c =
+    let numbers = numbers_are (goal.at.returns-then-bridge-ne0 c).After-len-2 in
     let cues = ap₂ (λ m n. cues_at m n (table_view c.in_ok-table.table.now)) numbers.0 numbers.1 ∙ c.in_ok-cues.ensures in
-    let last : last_bridge (map cue_content c.in_ok-cues.cues.items) ≡ c.last_bridge.result = rw (← c.deref.ensures.value) (sym c.last_bridge.ensures) in
-    then_is _ _ _ _ c.in_ok-table.ensures (then_is _ _ _ _ c.in_ok-weights.ensures (then_is _ _ _ _ c.in_ok-takes.ensures (then_is _ _ _ _ cues (rw (last, ne_eqb _ 0 c.if-last_bridge-ne0.true) refl))))
+    let last : last_bridge (map cue_content c.in_ok-cues.cues.items) ≡ c.last_bridge-bridge.result = rw (← c.deref.ensures.value) (sym c.last_bridge-bridge.ensures) in
+    let number : length (map cue_content c.in_ok-cues.cues.items) - 1 ≡ c.saturating_sub-cue.result = omega (arith, length-map c.in_ok-cues.cues.items cue_content) in
+    then_is _ _ _ _ c.in_ok-table.ensures (then_is _ _ _ _ c.in_ok-weights.ensures (then_is _ _ _ _ c.in_ok-takes.ensures (then_is _ _ _ _ cues (rw (last, number, ne_eqb _ 0 c.if-bridge-ne0.true) refl))))
 
 pub returns : goal.returns
 unfolding splice_of
 returns c =
     let numbers = numbers_are (goal.at.returns c).After-len-2 in
     let cues = ap₂ (λ m n. cues_at m n (table_view c.in_ok-table.table.now)) numbers.0 numbers.1 ∙ c.in_ok-cues.ensures in
-    let last : last_bridge (map cue_content c.in_ok-cues.cues.items) ≡ c.last_bridge.result = rw (← c.deref.ensures.value) (sym c.last_bridge.ensures) in
-    then_is _ _ _ _ c.in_ok-table.ensures (then_is _ _ _ _ c.in_ok-weights.ensures (then_is _ _ _ _ c.in_ok-takes.ensures (then_is _ _ _ _ cues (rw (last, c.if-last_bridge-ne0.false) refl))))
+    let last : last_bridge (map cue_content c.in_ok-cues.cues.items) ≡ c.last_bridge-bridge.result = rw (← c.deref.ensures.value) (sym c.last_bridge-bridge.ensures) in
+    then_is _ _ _ _ c.in_ok-table.ensures (then_is _ _ _ _ c.in_ok-weights.ensures (then_is _ _ _ _ c.in_ok-takes.ensures (then_is _ _ _ _ cues (rw (last, c.if-bridge-ne0.false) refl))))

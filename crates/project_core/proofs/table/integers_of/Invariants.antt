@@ -6,4 +6,4 @@ use Rattle.project_core.proofs.Each.{values_left}
 use Rattle.project_core.proofs.table.integers_of.Given as goal
 
 abbrev pub invariant-loop-value : goal.invariant-loop-value
-invariant-loop-value l = values_left (λ _. integer_of l.key) l.integers.items l.value-index l.values ≡ integers_of l.key (list_of (items_view l.values))
+invariant-loop-value l = values_left (λ _. integer_of l.key l.place) l.integers.items l.value-index l.values ≡ integers_of l.key l.place (list_of (items_view l.values))

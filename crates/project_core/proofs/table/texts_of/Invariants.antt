@@ -6,4 +6,4 @@ use Rattle.project_core.proofs.Each.{values_left}
 use Rattle.project_core.proofs.table.texts_of.Given as goal
 
 abbrev pub invariant-loop-value : goal.invariant-loop-value
-invariant-loop-value l = values_left (λ _. text_of l.key) (map string_bytes l.texts.items) l.value-index l.values ≡ texts_of l.key (list_of (items_view l.values))
+invariant-loop-value l = values_left (λ _. text_of l.key l.place) (map string_bytes l.texts.items) l.value-index l.values ≡ texts_of l.key l.place (list_of (items_view l.values))

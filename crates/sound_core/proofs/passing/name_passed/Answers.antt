@@ -55,8 +55,8 @@ returns-in-All g c =
       same = same_on c.args.reader.now c.loop-next.reader c.pass_chunk.new.reader so_far.1 c.pass_chunk.ensures.same;
       named = λ first file on reads.
           let h = so_far.3 file on in
-          let ends : EndsOn g.R.Read.remaining c.args.reader.now c.pass_chunk.new.reader file c.in-All.last = walks_after g.R.Read.remaining c.args.reader.now c.loop-next.reader c.pass_chunk.new.reader file h.more (passed.All c.in-All.last) h.reads (last (file ++ h.more) h.on) in
-          rw c.from.ensures (ends_named g.R.Read.remaining first c.args.reader.now c.pass_chunk.new.reader file c.in-All.last _ c.fault_after.result reads ends (omega (arith, c.given.ensures)) c.fault_after.ensures);
+          let ends : EndsOn g.R.Read.remaining c.args.reader.now c.pass_chunk.new.reader file c.in-All.last c.in-All.next = walks_after g.R.Read.remaining c.args.reader.now c.loop-next.reader c.pass_chunk.new.reader file h.more (passed.All c.in-All.last c.in-All.next) h.reads (last (file ++ h.more) h.on) in
+          rw c.from.ensures (ends_named g.R.Read.remaining first c.args.reader.now c.pass_chunk.new.reader file c.in-All.last c.in-All.next _ c.fault_after.result reads ends (omega (arith, c.given.ensures)) c.fault_after.ensures);
       counts = counts_ok c.args.reader.now c.loop-next.reader c.pass_chunk.new.reader _ _ so_far.1.limit so_far.2 c.in_ok-next.ensures.counts;
       fault = tt;
     }

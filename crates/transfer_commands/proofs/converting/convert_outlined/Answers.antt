@@ -2,7 +2,7 @@ use Rattle.std.proofs.Common.{false, true, ◌≡◌, ◌∙◌, IsTrue, Ok, Som
 use Rattle.std.specs.Prelude.{is_ok}
 use Rattle.folder_core.specs.Files.{IsGiven, IsGivenUp, KeepsOthers, View}
 use Rattle.folder_core.proofs.FileLaws.{given_up, not_kept}
-use Rattle.transfer_core.specs.declared.fault.Fault.{Fault}
+use Rattle.request_core.specs.declared.fault.Fault.{Fault}
 use Rattle.std.proofs.Common.{Err}
 use Rattle.transfer_commands.specs.Converting.{ConvertsTo, LeavesConvertedPrefix}
 use Rattle.transfer_commands.specs.Outlining.{OutlinesRead}

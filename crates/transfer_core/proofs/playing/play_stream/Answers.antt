@@ -3,7 +3,7 @@ use Rattle.chunk_core.specs.Inlets.{inlet_reader}
 use Rattle.chunk_core.specs.Outlets.{outlet_writer}
 use Rattle.sound_core.specs.Faults.{StopsReading}
 use Rattle.player_core.proofs.PlayLaws.{none_prefix}
-use Rattle.transfer_core.specs.Playing.{Plays}
+use Rattle.transfer_core.specs.Streaming.{PlaysRange}
 use Rattle.transfer_core.proofs.StreamLaws.{answered, before_writing, fault_is, keeps_up, of_stream, only_outside, plays_file, plays_given, project_keeps_up, project_outside, project_stream, project_turns, same_stream, stands, stream_turns, writes_prefix}
 use Rattle.transfer_core.proofs.playing.play_stream.Goals as goal
 
@@ -17,9 +17,9 @@ returns-in_err-taps g c =
     rw (fault_is c.from_residual.result _ c.from_residual.ensures.1) (record {
       ok = tt;
       any_reader = tt;
-      cause = project_outside left p f s.exact;
-      prefix = none_prefix left (Plays p) before;
-      keeps_up = project_keeps_up left before before p _ f s.cause;
+      cause = project_outside left p c.args.range f s.exact;
+      prefix = none_prefix left (PlaysRange p c.args.range) before;
+      keeps_up = project_keeps_up left before before p c.args.range _ f s.cause;
       refused = inl s.exact;
       read_failed = rw (project_stream f s.cause) (sym (add-zero _));
       write_failed = rw (project_stream f s.cause) (sym (add-zero _));
@@ -41,10 +41,10 @@ returns-in_err-play g c =
     rw (fault_is c.from_residual-in_err-play.result _ c.from_residual-in_err-play.ensures.1) (record {
       ok = tt;
       any_reader = tt;
-      cause = only_outside p taps c.in_ok-taps.ensures.exact left f s.cause;
-      prefix = writes_prefix p taps c.in_ok-taps.ensures.exact left before after s.prefix;
-      keeps_up = λ stop. keeps_up p taps c.in_ok-taps.ensures.exact left before after _ (s.keeps_up (of_stream StopsReading f stop));
-      refused = stands p taps c.in_ok-taps.ensures.found left f s.fault;
+      cause = only_outside p c.args.range taps c.in_ok-taps.ensures.exact left f s.cause;
+      prefix = writes_prefix p c.args.range taps c.in_ok-taps.ensures.exact left before after s.prefix;
+      keeps_up = λ stop. keeps_up p c.args.range taps c.in_ok-taps.ensures.exact left before after _ (s.keeps_up (of_stream StopsReading f stop));
+      refused = stands p c.args.range taps c.in_ok-taps.ensures.found left f s.fault;
       read_failed = rw (same_stream f) s.read_failed;
       write_failed = rw (same_stream f) s.write_failed;
       reads = c.play.ensures.reads;
@@ -55,8 +55,8 @@ returns-in_err-play g c =
 
 pub returns : goal.returns
 returns g c = record {
-  ok = plays_file c.args.project.now c.in_ok-taps.taps c.in_ok-taps.ensures.found (g.R.Read.remaining (inlet_reader c.args.inlet.now)) (g.W.Write.contents (outlet_writer c.args.outlet.now)) (g.W.Write.contents (outlet_writer c.play.new.outlet)) c.in_ok-play.field-0 c.in_ok-play.ensures.ok;
-  any_reader = plays_given c.args.project.now c.in_ok-taps.taps c.in_ok-taps.ensures.found g.R.Read.remaining c.args.inlet.now c.play.new.inlet (g.W.Write.contents (outlet_writer c.args.outlet.now)) (g.W.Write.contents (outlet_writer c.play.new.outlet)) c.in_ok-play.field-0 c.in_ok-play.ensures.any_reader;
+  ok = plays_file c.args.project.now c.args.range c.in_ok-taps.taps c.in_ok-taps.ensures.found (g.R.Read.remaining (inlet_reader c.args.inlet.now)) (g.W.Write.contents (outlet_writer c.args.outlet.now)) (g.W.Write.contents (outlet_writer c.play.new.outlet)) c.in_ok-play.field-0 c.in_ok-play.ensures.ok;
+  any_reader = plays_given c.args.project.now c.args.range c.in_ok-taps.taps c.in_ok-taps.ensures.found g.R.Read.remaining c.args.inlet.now c.play.new.inlet (g.W.Write.contents (outlet_writer c.args.outlet.now)) (g.W.Write.contents (outlet_writer c.play.new.outlet)) c.in_ok-play.field-0 c.in_ok-play.ensures.any_reader;
   cause = tt;
   prefix = tt;
   keeps_up = tt;

@@ -1,4 +1,4 @@
-use Rattle.std.proofs.Common.{◌∙◌, ap, sym, subst, cond, false, get_or, length, ◌<◌, arith}
+use Rattle.std.proofs.Common.{◌∙◌, cond, false, get_or, length, arith}
 use Rattle.cost_core.specs.StateCosts.{trellis_of}
 use Rattle.cost_core.specs.Rows.{seconds, least, lower, upper}
 use Rattle.trellis_core.proofs.Levels.{ways, next_is, decided, row_long}

@@ -1,0 +1,27 @@
+-- Which frames of a recording are played.
+use Rattle.std.specs.Prelude.{◌⊎◌, ℕ, ◌-◌, ◌<◌, ◌≤◌, None, IfSome, unwrap_or}
+use Rattle.player_core.specs.declared.range.FrameRange.{FrameRange}
+
+-- all frames
+abbrev pub whole_range : FrameRange
+whole_range = record { start = 0; stop = None }
+
+-- the frame after the last one of a range, if there are `total` frames
+abbrev pub stop_of : FrameRange → ℕ → ℕ
+stop_of range total = unwrap_or range.stop total
+
+-- how many frames a range has then
+abbrev pub number_of : FrameRange → ℕ → ℕ
+number_of range total = stop_of range total - range.start
+
+-- the frames of a range are among `total` frames
+abbrev pub IsInside : FrameRange → ℕ → Type 0
+IsInside range total = (range.start ≤ stop_of range total) × (stop_of range total ≤ total)
+
+-- a range ends before it begins, or after `total` frames
+abbrev pub IsOutside : FrameRange → ℕ → Type 0
+IsOutside range total = (stop_of range total < range.start) ⊎ (total < stop_of range total)
+
+-- frame j is in a range
+abbrev pub HasFrame : FrameRange → ℕ → Type 0
+HasFrame range j = (range.start ≤ j) × IfSome range.stop (λ stop. j < stop)

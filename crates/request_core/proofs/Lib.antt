@@ -1,0 +1,3 @@
+pub mod CuttingLaws
+pub mod FormLaws
+pub mod ProjectLaws

@@ -1,6 +1,0 @@
-use Rattle.std.proofs.Common.{refl}
-use Rattle.transfer_core.proofs.ReadingLaws.{splice_given}
-use Rattle.transfer_core.proofs.projects.splice_of.Goals as goal
-
-pub returns-clause-exact : goal.returns-clause-exact
-returns-clause-exact c = rw c.ok_or.ensures.value (splice_given c.args.project.now _ c.in_ok-splice.ensures.exact c.in_ok-splice.field-0.splice refl)

@@ -1,21 +1,21 @@
 # What bin/dsdarc (bash) and the installed launcher (sh) both do; they read this file.
 #
-#   answer_alone FOLDER FILTERS MANUAL WORD..
+#   answer_alone FOLDER FILTERS MANUAL ARGUMENT..
 #
-# answers the words that need no program, and ends this shell; at any others it does nothing. FOLDER holds docs/ and
-# VERSION. `--help` and `--version` are printed on standard output. `help`, `-h` and no words are no command, as the
-# program has it, so its fault comes first, on standard error, and then the usage. That names the filters below FILTERS,
-# and the manual as MANUAL.
+# answers the arguments that need no program, and ends this shell; for others it does nothing. FOLDER holds docs/ and
+# VERSION. The usage and the version go to standard output. `help`, `-h` and no arguments are usage errors, as for the
+# program: its fault comes first, on standard error, and then the usage. That names the filters below FILTERS, and the
+# manual as MANUAL.
 #
-#   run_child PROGRAM WORD..
+#   run_child PROGRAM ARGUMENT..
 #
 # runs the program as a child, so that a signal leaves nothing behind, and ends this shell with its status. HUP, INT,
 # QUIT and TERM end the program too. What it was writing is then removed, and the shell ends by the same signal (status
 # 128 + n), so that whoever called it stops too.
 #
-# Where `play` has a rate and width in place of PROJECT, as 88200/24, and no file has this name, the program gets the
-# ready filter that plays IN to it. Of 88200/24,96000/24 this is the first that there is; with --plus6 it is the one that
-# is 6 dB louder. --plus6 and --explain may be anywhere behind `play` then. IN is looked at first, so it is no pipe.
+# If `play` has a rate and width in place of PROJECT, such as 88200/24, and no file has this name, the program gets the
+# ready filter that plays IN to it. Of 88200/24,96000/24 this is the first that exists; with --plus6 it is the one that
+# is 6 dB louder. --plus6 and --explain may then be anywhere after `play`. IN is read first, so it must not be a pipe.
 # shellcheck shell=sh
 
 print_usage() {
@@ -62,7 +62,7 @@ remove_leftovers() {
 end_by() {
     trap '' HUP INT QUIT TERM
     if [ -n "${!-}" ]; then
-        # A child in the background is deaf to INT and QUIT.
+        # A child in the background ignores INT and QUIT.
         kill -s TERM "$!" 2>/dev/null || true
         wait "$!" 2>/dev/null || true
         remove_leftovers "$!" "$child_first" "$child_second"
@@ -79,7 +79,7 @@ trap_signals() {
     done
 }
 
-# A number below ten that no open file has. Standard input gets it too, for a shell gives a child in the background none.
+# A number below ten that no open file has. It gets standard input, as a shell gives a child in the background none.
 free_number() {
     child_input=9
     while [ -e "/dev/fd/$child_input" ] && [ "$child_input" -gt 3 ]; do child_input=$((child_input - 1)); done
@@ -98,8 +98,8 @@ is_wish() {
     done
 }
 
-# Whether the words of a program play a file by a wish. It notes the place of the wish among them, the name of IN, and
-# the places of words that are no words of the program.
+# Whether the program's arguments play a file by a wish. It notes the place of the wish among them, the name of IN, and
+# the places of arguments that the program doesn't get.
 plays_by_wish() {
     play_in='' play_wish='' play_at=0 play_names=0 play_place=0 play_before=program play_louder='' play_explains=''
     play_drops=' '
@@ -131,7 +131,7 @@ no_filter() {
     exit 2
 }
 
-# Says that --plus6 goes with a wish alone, as the program says what is wrong with its words.
+# Says that --plus6 goes only with a wish, as the program says what is wrong with its arguments.
 not_louder() {
     {
         echo "fault: WrongWords"

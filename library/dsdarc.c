@@ -5,7 +5,7 @@
 #include "dsdarc.h"
 
 #ifndef DSDARC_VERSION
-#define DSDARC_VERSION "0.1.0"
+#define DSDARC_VERSION "0.2.0"
 #endif
 
 /* What the proved crate exports. A handle is the pointer alone. */
@@ -111,7 +111,7 @@ void dsdarc_player_drop(dsdarc_player *player) {
 
 const char *dsdarc_status_text(dsdarc_status status) {
     static const char *const texts[] = {
-        "Ok",          "Null",           "Size",      "Memory",       "AfterFault", "NotYet",     "BehindEnd",
+        "Ok",          "Null",           "Size",      "Memory",       "AfterFault", "NotYet",     "PastEnd",
         "FileRefused", "RateNotDivided", "TooLong",   "NoDecimation", "NotToml",    "UnknownKey", "MissingKey",
         "WrongKind",   "OutOfLimit",     "NoTake",    "ShortCue",     "LastBridge", "Processor",  "TooMuchHeld",
         "NoFilter",

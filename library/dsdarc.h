@@ -18,12 +18,12 @@
  *     dsdarc_player_drop(player);
  *
  * What was pulled is a prefix of the frames that `dsdarc play` writes, whatever the sizes of pushes and pulls. Once the
- * last byte of the sound was pushed, all frames can be pulled. After a seek this holds of the frames from that one on.
+ * last byte of the sound was pushed, all frames can be pulled. After a seek this holds for the frames from that one on.
  * A frame has one sample of each channel, in the order of the file.
  *
  * Ownership. A player is made by dsdarc_player_new and freed by dsdarc_player_drop. All other memory is the caller's,
- * and is read or written during the call alone. Buffers of one call must not overlap each other.
- * Threads. Each player belongs to one call at a time; different players are independent of each other.
+ * and is read or written only during the call. Buffers of one call must not overlap each other.
+ * Threads. A player may be used by one call at a time; different players are independent of each other.
  * Statuses. Each call that can fail returns one. DSDARC_NULL and DSDARC_SIZE say that the call itself is wrong; the
  * player stays as it was. After a fault (from DSDARC_FILE_REFUSED to DSDARC_TOO_LONG, DSDARC_TOO_MUCH_HELD or
  * DSDARC_MEMORY) of a push, an end or a seek, the frames that wait can be pulled, and dsdarc_player_info returns what it
@@ -41,7 +41,7 @@ extern "C" {
 #endif
 
 #define DSDARC_VERSION_MAJOR 0
-#define DSDARC_VERSION_MINOR 1
+#define DSDARC_VERSION_MINOR 2
 #define DSDARC_VERSION_PATCH 0
 
 #if defined __GNUC__ && defined DSDARC_BUILD
@@ -50,23 +50,23 @@ extern "C" {
 #define DSDARC_API
 #endif
 
-/* A player; what it is made of is not for the caller. */
+/* A player. Opaque handle. */
 typedef struct dsdarc_player dsdarc_player;
 
 /* What a call returns. The names of faults are those that the program prints. */
 typedef enum dsdarc_status {
     DSDARC_OK = 0,
-    DSDARC_NULL = 1,             /* a pointer is null that may not be */
-    DSDARC_SIZE = 2,             /* a size or a format that can't be */
+    DSDARC_NULL = 1,             /* a required pointer is NULL */
+    DSDARC_SIZE = 2,             /* an invalid size or format */
     DSDARC_MEMORY = 3,           /* out of memory */
-    DSDARC_AFTER_FAULT = 4,      /* a call before this one was refused for the file */
+    DSDARC_AFTER_FAULT = 4,      /* an earlier call returned a fault of the file */
     DSDARC_NOT_YET = 5,          /* the pushed bytes don't describe the sound yet */
-    DSDARC_BEHIND_END = 6,       /* there is no such frame */
+    DSDARC_PAST_END = 6,         /* there is no such frame */
     DSDARC_FILE_REFUSED = 7,     /* neither a DSDIFF 1.5 nor a DSF 1.01 file that holds a recording */
     DSDARC_RATE_NOT_DIVIDED = 8, /* the filter's factor doesn't divide the file's sample rate */
     DSDARC_TOO_LONG = 9,         /* more than 2^62 bytes */
     DSDARC_NO_DECIMATION = 10,   /* the project text has no filter */
-    DSDARC_NOT_TOML = 11,        /* the project text is no TOML */
+    DSDARC_NOT_TOML = 11,        /* the project text is not TOML */
     DSDARC_UNKNOWN_KEY = 12,
     DSDARC_MISSING_KEY = 13,
     DSDARC_WRONG_KIND = 14,
@@ -82,7 +82,7 @@ typedef enum dsdarc_status {
 /* How samples are written. */
 typedef enum dsdarc_format {
     DSDARC_PACKED = 0, /* as in a WAVE file: 2 or 3 bytes, the lowest first */
-    DSDARC_S32 = 1     /* numbers of 32 bits with the same values, from -2^(width-1) to 2^(width-1) - 1 */
+    DSDARC_S32 = 1     /* 32-bit integers with the same values, from -2^(width-1) to 2^(width-1) - 1 */
 } dsdarc_format;
 
 /* What is played. */
@@ -94,41 +94,41 @@ typedef struct dsdarc_info {
     uint32_t width;    /* bits of a sample: 16 or 24 */
 } dsdarc_info;
 
-/* Makes a player by the filter of a project text (`size` bytes of TOML, as the files of filters/), before the first
- * byte of a file. *player is the caller's to drop; after any status but DSDARC_OK it is null. DSDARC_PROCESSOR is
- * returned before the text is read. */
+/* Makes a player with the filter of a project text (`size` bytes of TOML, such as a file of filters/). Call it before
+ * the first byte of a file. *player is the caller's to drop; after any status but DSDARC_OK it is NULL.
+ * DSDARC_PROCESSOR is returned before the text is read. */
 DSDARC_API dsdarc_status dsdarc_player_new(const void *project, size_t size, dsdarc_player **player);
 
-/* Takes bytes of the file, from the next one on: *taken says how many, at most 65,536 and at most up to where the sound
- * starts or ends. None are taken while frames wait to be pulled; otherwise at least one is, if size isn't 0. Bytes before
- * and after the sound are taken and give no frames. *taken is 0 after any status but DSDARC_OK. `bytes` may be null if
- * size is 0: then nothing is taken, and nothing changes. */
+/* Takes bytes of the file, from the next one on. *taken says how many: at most 65,536, and at most up to where the
+ * sound starts or ends. None are taken while frames wait to be pulled; otherwise at least one is, if size isn't 0.
+ * Bytes before and after the sound are taken and give no frames. *taken is 0 after any status but DSDARC_OK. `bytes`
+ * may be NULL if size is 0: then nothing is taken, and nothing changes. */
 DSDARC_API dsdarc_status dsdarc_player_push(dsdarc_player *player, const void *bytes, size_t size, size_t *taken);
 
-/* Reports what is played, once enough bytes were pushed, also after a fault. Before that it returns DSDARC_NOT_YET, and
- * *info is as it was. */
+/* Reports what is played, once enough bytes were pushed, also after a fault. Before that it returns DSDARC_NOT_YET,
+ * and *info is unchanged. */
 DSDARC_API dsdarc_status dsdarc_player_info(dsdarc_player *player, dsdarc_info *info);
 
-/* Gives at most `frames` frames that are due, interleaved: *given says how many, 0 if more bytes are needed or all were
- * given. pcm has room for frames * channels samples. For DSDARC_S32 it is aligned as an int32_t is; else DSDARC_SIZE is
- * returned. Any place will do for DSDARC_PACKED. It may be null if frames is 0. */
+/* Gives at most `frames` frames that are due, interleaved. *given says how many: 0 if more bytes are needed or all
+ * were given. pcm has room for frames * channels samples. For DSDARC_S32 it must be aligned like an int32_t;
+ * otherwise DSDARC_SIZE is returned. DSDARC_PACKED needs no alignment. pcm may be NULL if frames is 0. */
 DSDARC_API dsdarc_status dsdarc_player_pull(dsdarc_player *player, void *pcm, size_t frames, dsdarc_format format,
                                             size_t *given);
 
-/* Says that the file ends here, and whether it holds a recording, as `dsdarc play` decides it: a DSDIFF form must be
- * whole, and the tag of a DSF file be where its header says. Frames that wait can still be pulled. DSDARC_OK changes
- * nothing: the caller may still push and seek. */
+/* Tells the player that the file ends here. The status says whether the file holds a recording, as `dsdarc play`
+ * decides it: a DSDIFF form must be whole, and the tag of a DSF file must be where its header says. Frames that wait
+ * can still be pulled. DSDARC_OK changes nothing: the caller may still push and seek. */
 DSDARC_API dsdarc_status dsdarc_player_end(dsdarc_player *player);
 
-/* Goes to a frame, from 0 to the number of frames, once the sound is known: *offset is the byte of the file from which
- * on the caller pushes next. Frames that wait are dropped. After DSDARC_NOT_YET and DSDARC_BEHIND_END nothing has
- * changed. *offset is as it was after any status but DSDARC_OK. */
+/* Goes to a frame, from 0 to the number of frames, once the sound is known. *offset is the byte of the file from
+ * which the caller pushes next. Frames that wait are dropped. DSDARC_NOT_YET and DSDARC_PAST_END change nothing.
+ * *offset is unchanged after any status but DSDARC_OK. */
 DSDARC_API dsdarc_status dsdarc_player_seek(dsdarc_player *player, uint64_t frame, uint64_t *offset);
 
-/* Frees a player; null is left alone. */
+/* Frees a player. NULL is ignored. */
 DSDARC_API void dsdarc_player_drop(dsdarc_player *player);
 
-/* A ready filter that is wished for. */
+/* Which ready filter is wanted. */
 typedef struct dsdarc_wish {
     uint32_t rate_in; /* hertz: the sample rate of the file */
     uint32_t rate;    /* hertz: the sample rate of the frames */
@@ -136,28 +136,28 @@ typedef struct dsdarc_wish {
     uint32_t gain;    /* decibels: 0 or 6 */
 } dsdarc_wish;
 
-/* Finds a ready filter in an index, `size` bytes as those of filters/index.txt. `name` gets the name of its file, with a
- * zero after it; it has room for `room` bytes, and the status is DSDARC_SIZE if they are too few. DSDARC_NO_FILTER is
- * returned if there is no such filter. */
+/* Finds a ready filter in an index (`size` bytes, the content of filters/index.txt). `name` gets the name of its
+ * file, with a zero after it. It has room for `room` bytes; if they are too few, the status is DSDARC_SIZE.
+ * DSDARC_NO_FILTER is returned if there is no such filter. */
 DSDARC_API dsdarc_status dsdarc_filter_find(const void *index, size_t size, const dsdarc_wish *wish, char *name,
                                             size_t room);
 
-/* Reports the sample rates of the files that a filter of an index is for, in hertz: *count says how many there are, and
- * `rates` gets the first `room` of them. `name` is the name of the filter's file, without folders. DSDARC_NO_FILTER is
- * returned if the index doesn't list it. */
+/* Reports the sample rates, in hertz, of the files that a filter of an index is for. *count says how many there are,
+ * and `rates` gets the first `room` of them. `name` is the name of the filter's file, without folders.
+ * DSDARC_NO_FILTER is returned if the index doesn't list it. */
 DSDARC_API dsdarc_status dsdarc_filter_rates(const void *index, size_t size, const char *name, uint32_t *rates,
                                              size_t room, size_t *count);
 
-/* Reports the loudspeakers that the channels of a file belong to, by the bits of a WAVE file's channel mask. `header` has
- * the first `size` bytes of the file, up to where its sound starts, or more. *mask is 0 if the file doesn't name the
- * loudspeakers, or has them in another order than that of the bits. Channels that are only numbered (C000, C001) get the
- * usual mask for how many there are. DSDARC_NOT_YET is returned if the bytes don't have the channels. */
+/* Reports the loudspeakers that the channels of a file belong to, as the bits of a WAVE file's channel mask. `header`
+ * has the first `size` bytes of the file, at least up to where its sound starts. *mask is 0 if the file doesn't name
+ * the loudspeakers, or has them in another order than the bits. Channels that are only numbered (C000, C001) get the
+ * usual mask for that many channels. DSDARC_NOT_YET is returned if the bytes don't contain the channels. */
 DSDARC_API dsdarc_status dsdarc_channel_mask(const void *header, size_t size, uint32_t *mask);
 
-/* The name of a status, as "FileRefused"; "Unknown" for any other number. It is never freed. */
+/* The name of a status, such as "FileRefused"; "Unknown" for any other number. It is never freed. */
 DSDARC_API const char *dsdarc_status_text(dsdarc_status status);
 
-/* The version of the library, as "0.1.0". It is never freed. */
+/* The version of the library, such as "0.2.0". It is never freed. */
 DSDARC_API const char *dsdarc_version(void);
 
 #ifdef __cplusplus

@@ -78,7 +78,8 @@ def ends(long: str, short: str) -> None:
             stream(pipe.stdout).close()
         demand(is_stopped(status, said), f"dsdarcdec: stopped at a pipe: {status}, {said[-400:]}")
         with subprocess.Popen(["sleep", "60"], stdout=subprocess.PIPE) as pipe:
-            status, said = interrupted(["fdsrc", *dec, "fakesink"], "Pipeline is PREROLLING", stdin=pipe.stdout)
+            # By its start alone the element can tell an end of the application from an empty file.
+            status, said = interrupted(["-m", "fdsrc", *dec, "fakesink"], "(stream-start)", stdin=pipe.stdout)
             pipe.kill()
         demand(is_stopped(status, said), f"dsdarcdec: stopped before the first byte: {status}, {said[-400:]}")
         for sink in (["fakesink", "num-buffers=3"], ["identity", "eos-after=3", "!", "fakesink"]):

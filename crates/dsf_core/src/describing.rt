@@ -40,7 +40,7 @@ pub fn closes(prefix: &[u8], total: u64) -> bool
     ensures { (result ≡ true) ↔ IsAccepted (prefix.now ++ replicate (total - length prefix.now) 0) }
 {
     match read_header(prefix) {
-        Ok(prefix) => check_ends(&prefix, total).is_ok(),
+        Ok(header) => check_ends(&header, total).is_ok(),
         Err(_) => false,
     }
 }
@@ -60,23 +60,23 @@ pub fn describe(
     ensures stated { Describes prefix.now total tag.items result }
     ensures sound { IfOk result (λ made. (s : Sound) → sound_at prefix.now ≡ Found s → DescribesSound s made) }
 {
-    let prefix = read_header(prefix)?;
-    check_ends(&prefix, total)?;
-    Ok(description_of(alloc, &prefix, tag)?)
+    let header = read_header(prefix)?;
+    check_ends(&header, total)?;
+    Ok(description_of(alloc, &header, tag)?)
 }
 
 /// The description of a file with this header and this tag.
 pub(crate) fn description_of(
     alloc: Global,
-    prefix: &Header,
+    header: &Header,
     tag: Vec<u8>,
 ) -> Result<Description, AllocError>
-    requires in_limits { IsSound prefix.now.sound }
-    ensures { IfOk result (λ made. made ≡ described_by prefix.now tag.items) }
+    requires in_limits { IsSound header.now.sound }
+    ensures { IfOk result (λ made. made ≡ described_by header.now tag.items) }
 {
-    let sound = prefix.sound;
+    let sound = header.sound;
     let ids = channel_ids(alloc, sound.channels)?;
-    let layout = layout(prefix.kind, sound.channels as u32);
+    let layout = layout(header.kind, sound.channels as u32);
     let metadata = Metadata {
         marks: Vec::new(alloc),
         others: Vec::new(alloc),

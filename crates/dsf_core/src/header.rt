@@ -94,19 +94,19 @@ pub fn pointer_fault(tag: u64, end: u64, total: u64) -> DsfFault
 /// The first fault after the header of a file of `total` bytes: the sound must end in the file, and the tag must follow
 /// the sound in it.
 #[tactic(auto, unfolding(crate::specs::Reading::ends_fit))]
-pub(crate) fn check_ends(prefix: &Header, total: u64) -> Result<(), DsfFault>
-    ensures { result ≡ ends_fit prefix.now total }
+pub(crate) fn check_ends(header: &Header, total: u64) -> Result<(), DsfFault>
+    ensures { result ≡ ends_fit header.now total }
 {
-    let start = prefix.sound.start as u64;
-    let size = prefix.sound.size as u64;
+    let start = header.sound.start as u64;
+    let size = header.sound.size as u64;
     if total < start || total - start < size {
-        return Err(cut_fault(&prefix.sound, total));
+        return Err(cut_fault(&header.sound, total));
     }
-    if prefix.tag_at == 0 {
+    if header.tag_at == 0 {
         return Ok(());
     }
-    if prefix.tag_at < start + size || total < prefix.tag_at {
-        return Err(pointer_fault(prefix.tag_at, start + size, total));
+    if header.tag_at < start + size || total < header.tag_at {
+        return Err(pointer_fault(header.tag_at, start + size, total));
     }
     Ok(())
 }

@@ -45,7 +45,7 @@ fn answer(prefix: &[u8]) -> Located
         return Located::More(DsfFault::NotDsf);
     }
     match read_header(prefix) {
-        Ok(prefix) => Located::Found(prefix.sound),
+        Ok(header) => Located::Found(header.sound),
         Err(fault) if is_cut(fault) => Located::More(fault),
         Err(fault) => Located::Refused(fault),
     }

@@ -51,13 +51,13 @@ pub fn read(alloc: Global, file: &[u8]) -> Result<(Recording, BitOrder), DsfFaul
 fn read_in_order(alloc: Global, file: &[u8]) -> Result<(Recording, BitOrder), DsfFault>
     ensures { Gives (λ x. x) result (recording_of file.now) }
 {
-    let prefix = read_header(file)?;
-    check_ends(&prefix, file.len() as u64)?;
-    let tag = Vec::from_slice(alloc, tag_in(file, prefix.tag_at))?;
-    let description = description_of(alloc, &prefix, tag)?;
-    let (_, sound) = file.split_at(prefix.sound.start);
-    let channels = channels_in(alloc, &prefix, sound)?;
-    Ok((Recording::new(description, channels), prefix.order))
+    let header = read_header(file)?;
+    check_ends(&header, file.len() as u64)?;
+    let tag = Vec::from_slice(alloc, tag_in(file, header.tag_at))?;
+    let description = description_of(alloc, &header, tag)?;
+    let (_, sound) = file.split_at(header.sound.start);
+    let channels = channels_in(alloc, &header, sound)?;
+    Ok((Recording::new(description, channels), header.order))
 }
 
 // The bytes from a place on; none for 0.
@@ -74,14 +74,14 @@ fn tag_in(file: &[u8], place: u64) -> &[u8]
 }
 
 // The channels in the bytes from the sound on, which hold it whole.
-fn channels_in(alloc: Global, prefix: &Header, bytes: &[u8]) -> Result<Vec<Bits>, AllocError>
-    requires in_limits { IsSound prefix.now.sound }
-    requires enough { blocks_size prefix.now.sound.channels prefix.now.sound.count ≤ length bytes.now }
-    ensures bits { IfOk result (λ made. made.items ≡ channels_by prefix.now bytes.now) }
-    ensures shape { IfOk result (λ made. IsLevel made.items × (count_of made.items ≡ prefix.now.sound.count)) }
+fn channels_in(alloc: Global, header: &Header, bytes: &[u8]) -> Result<Vec<Bits>, AllocError>
+    requires in_limits { IsSound header.now.sound }
+    requires enough { blocks_size header.now.sound.channels header.now.sound.count ≤ length bytes.now }
+    ensures bits { IfOk result (λ made. made.items ≡ channels_by header.now bytes.now) }
+    ensures shape { IfOk result (λ made. IsLevel made.items × (count_of made.items ≡ header.now.sound.count)) }
 {
-    let sound = prefix.sound;
-    match unlace_blocks(alloc, bytes, sound.channels, sound.count, prefix.order) {
+    let sound = header.sound;
+    match unlace_blocks(alloc, bytes, sound.channels, sound.count, header.order) {
         Ok(channels) => Ok(channels),
         Err(LaceFault::Memory) => Err(AllocError),
         Err(LaceFault::PartFrame | LaceFault::TooFewBytes) => unreachable!(),

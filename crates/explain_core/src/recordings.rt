@@ -45,7 +45,7 @@ impl<R: Files> Line<'_, R> {
     pub(crate) fn sound_of(&self, name: &str) -> Option<Sound> {
         let (file, _) = self.reopen(name).ok()?;
         match read_prefix(self.alloc, &mut Inlet::new(file)) {
-            Ok(front) => Some(front.sound),
+            Ok(prefix) => Some(prefix.sound),
             Err(_) => None,
         }
     }

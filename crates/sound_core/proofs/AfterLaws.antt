@@ -31,7 +31,7 @@ use Rattle.form_core.specs.declared.fault.ReadFault.{ReadFault}
 use Rattle.dsdiff_core.specs.Outlines as frames
 use Rattle.sound_core.specs.Files.{HoldsRecording, IsHeaderOf, IsRefused, LeadsToSound}
 use Rattle.sound_core.specs.Outlines.{AreStated, HoldsIn, KeepsAfter, IsOutlineFault, IsRestFault, IsPlacedIn, Surroundings, Surrounds}
-use Rattle.sound_core.specs.Causes.{HasFront, IsCause, IsNamed}
+use Rattle.sound_core.specs.Causes.{HasPrefix, IsCause, IsNamed}
 use Rattle.sound_core.specs.Naming.{IsRestNamed, IsSure, NamesFault, is_memory}
 use Rattle.sound_core.specs.Readers.{FallsShort, IsPassFault, Passes}
 use Rattle.sound_core.specs.Reads.{Reads}
@@ -342,8 +342,8 @@ module _ {R : Type 0} (left : R → Option (List ℕ)) (i j : Inlet R) (prefix h
         subst (IsCause P left i r) (sym known.1) names
 
     -- its prefix is not what tells it
-    pub rest_no_prefix : (r : SoundReader R) (f : StreamFault) → IsRestNamed left k r.inlet.now s head back r.cause f → f ≡ FileRefused → HasFront r.cause → ⊥
-    rest_no_prefix r f named is prefix = subst HasFront (named is).1 prefix
+    pub rest_no_prefix : (r : SoundReader R) (f : StreamFault) → IsRestNamed left k r.inlet.now s head back r.cause f → f ≡ FileRefused → HasPrefix r.cause → ⊥
+    rest_no_prefix r f named is prefix = subst HasPrefix (named is).1 prefix
 
     module _ (l : Inlet R) (o : Surroundings) (sound_is : o.sound ≡ s) (own_head : o.head ≡ head) (surrounds : Surrounds left k l back o) where
       long : length passes.passed ≡ o.sound.size

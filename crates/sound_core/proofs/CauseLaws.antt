@@ -3,7 +3,7 @@ use Rattle.std.proofs.Common.{◌≡◌, ℕ, ◌+◌, inl, inr, List, ◌++◌,
 use Rattle.chunk_core.specs.Inlets.{inlet_given, inlet_reader}
 use Rattle.chunk_core.specs.declared.inlet.Inlet.{Inlet}
 use Rattle.dsd_bits.specs.declared.sound.Sound.{Sound}
-use Rattle.sound_core.specs.Causes.{HasFront, IsCause, IsCauseIn, IsNamed, IsRefusedBy, IsUnreadBy, IsUnsure}
+use Rattle.sound_core.specs.Causes.{HasPrefix, IsCause, IsCauseIn, IsNamed, IsRefusedBy, IsUnreadBy, IsUnsure}
 use Rattle.sound_core.specs.Faults.{IsReadingFault}
 use Rattle.sound_core.specs.Files.{GivesNone, IsHeaderFault, IsRefused}
 use Rattle.sound_core.specs.Naming.{IsExact, plain}
@@ -46,7 +46,7 @@ cause_on P Q left first r (causes.Faulty s) on h = h
 cause_on P Q left first r causes.NoSound on h = h
 
 -- ---- no byte of a file that is refused for its front is of a sound
-prefix_refused : {R : Type 0} (P : Type 0) (left : R → Option (List ℕ)) (first : Inlet R) (r : SoundReader R) (cause : Cause) → HasFront cause → IsCause P left first r cause → IfSome (left (inlet_reader first)) IsRefused
+prefix_refused : {R : Type 0} (P : Type 0) (left : R → Option (List ℕ)) (first : Inlet R) (r : SoundReader R) (cause : Cause) → HasPrefix cause → IsCause P left first r cause → IfSome (left (inlet_reader first)) IsRefused
 prefix_refused P left first r causes.Unknown prefix h = absurd prefix
 prefix_refused P left first r (causes.Fault e) prefix h = absurd prefix
 prefix_refused P left first r (causes.Unstated at) prefix h = after IsRefused _ _ _ h.reads.consumed h.refused
@@ -74,7 +74,7 @@ module _ {R S : Type 0} (has : S → S → Sound → ℕ → List ℕ → Type 0
     ];
   })
 
-  module _ (f : StreamFault) (a b : SoundReader R) (stops : StopsTaking has refused (left (inlet_reader first)) (inlet_given first) (inlet_given a.inlet.now) old new f) (known : IsNamed P left first a f) (prefix : f ≡ FileRefused → HasFront a.cause → new ≡ old) where
+  module _ (f : StreamFault) (a b : SoundReader R) (stops : StopsTaking has refused (left (inlet_reader first)) (inlet_given first) (inlet_given a.inlet.now) old new f) (known : IsNamed P left first a f) (prefix : f ≡ FileRefused → HasPrefix a.cause → new ≡ old) where
     stated : f ≡ FileRefused → (u : Unread) → IsRefusedBy a.cause u → StopsTaking has refused (left (inlet_reader first)) (inlet_given first) (inlet_given b.inlet.now) old new (plain u)
     stated is (answers.Refused e) how = refused_later (inlet_given a.inlet.now) (inlet_given b.inlet.now) (subst (StopsTaking has refused (left (inlet_reader first)) (inlet_given first) (inlet_given a.inlet.now) old new) is stops)
     stated is (answers.Stream g) (inr unknown) = subst (StopsTaking has refused (left (inlet_reader first)) (inlet_given first) (inlet_given b.inlet.now) old new) (sym unknown.0) (refused_later (inlet_given a.inlet.now) (inlet_given b.inlet.now) (subst (StopsTaking has refused (left (inlet_reader first)) (inlet_given first) (inlet_given a.inlet.now) old new) is stops))

@@ -26,7 +26,7 @@ use Rattle.form_core.specs.Faults.{dsdiff_fault}
 use Rattle.form_core.specs.Opening.{opened_of}
 use Rattle.form_core.specs.declared.fault.ReadFault.{ReadFault}
 use Rattle.form_core.specs.declared.opening.Opened.{Opened}
-use Rattle.sound_core.specs.Causes.{HasFront, IsRefusedBy, unread_of}
+use Rattle.sound_core.specs.Causes.{HasPrefix, IsRefusedBy, unread_of}
 use Rattle.sound_core.specs.Faults.{IsReadingFault, failed_reads}
 use Rattle.sound_core.specs.Naming.{IfRefusedAs, IsSure, NamesFault, plain}
 use Rattle.sound_core.specs.Readers.{Counts, CountsFault, FallsShort, IsReading, IsSame, Passes}
@@ -183,7 +183,7 @@ pub stated_unread : (Q : ReadFault → Type 0) (r : Result ReadFault StreamFault
 stated_unread Q (Ok e) h = h
 stated_unread Q (Err f) h = tt
 
-pub how_unread : (cause : Cause) (r : Result ReadFault StreamFault) → HasFront cause → IfErr r IsReadingFault → IsRefusedBy cause (unread_of r)
+pub how_unread : (cause : Cause) (r : Result ReadFault StreamFault) → HasPrefix cause → IfErr r IsReadingFault → IsRefusedBy cause (unread_of r)
 how_unread cause (Ok e) prefix h = tt
 how_unread cause (Err f) prefix h = inl (h, prefix)
 

@@ -31,13 +31,13 @@ IsCauseIn prefix (causes.Faulty s) = (next_place s ≤ length prefix) × ((rest 
 IsCauseIn prefix causes.NoSound = form_of prefix ≡ Ok tt
 
 -- the first fault isn't known yet: the buffered prefix only shows that no file that begins with it holds a recording
-abbrev pub HasFront : Cause → Type 0
-HasFront causes.Unknown = ⊥
-HasFront (causes.Fault e) = ⊥
-HasFront (causes.Unstated at) = ⊤
-HasFront (causes.PastForm at) = ⊤
-HasFront (causes.Faulty s) = ⊤
-HasFront causes.NoSound = ⊤
+abbrev pub HasPrefix : Cause → Type 0
+HasPrefix causes.Unknown = ⊥
+HasPrefix (causes.Fault e) = ⊥
+HasPrefix (causes.Unstated at) = ⊤
+HasPrefix (causes.PastForm at) = ⊤
+HasPrefix (causes.Faulty s) = ⊤
+HasPrefix causes.NoSound = ⊤
 
 -- all that was read is buffered; what the cause says is true of every file that begins with it, and none of them holds
 -- a recording
@@ -70,7 +70,7 @@ unread_of (Err f) = answers.Stream f
 -- is unknown, only that the file is refused
 abbrev pub IsRefusedBy : Cause → Unread → Type 0
 IsRefusedBy cause (answers.Refused e) = ⊤
-IsRefusedBy cause (answers.Stream f) = (IsReadingFault f × HasFront cause) ⊎ ((f ≡ FileRefused) × (cause ≡ causes.Unknown))
+IsRefusedBy cause (answers.Stream f) = (IsReadingFault f × HasPrefix cause) ⊎ ((f ≡ FileRefused) × (cause ≡ causes.Unknown))
 
 -- the answer for a fault: the fault itself, and nothing was read; or, for a refused file, what its cause leads to
 abbrev pub IsUnreadBy : {R : Type 0} → StreamFault → SoundReader R → SoundReader R → Unread → Type 0

@@ -81,7 +81,7 @@ pub use keeping::{Kept, read_stretches};
 pub use laws::accepted_files_state_one_sound;
 pub use outline::{Outline, read_outline};
 pub use part::SoundPart;
-pub use prefix::{Front, read_prefix};
+pub use prefix::{Prefix, read_prefix};
 pub use reader::can_fail;
 pub use relaying::{NewFile, relay};
 pub use sink::SoundSink;

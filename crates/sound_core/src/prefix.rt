@@ -20,7 +20,7 @@ use std::io::Read;
 
 /// The first bytes of a file, and the sound that they describe.
 #[derive(Drop)]
-pub struct Front {
+pub struct Prefix {
     /// What the sound is, and where it is.
     pub sound: Sound,
     /// All that was read: the bytes before the sound, and perhaps some of it, and of what follows it.
@@ -34,7 +34,7 @@ pub struct Front {
 /// Refusals: `Refused` with the fault that [`form_core::read_any`] answers, where no file that begins so holds a
 /// recording; `Stream` with `ReadFailed`, `TurnLimit` after `2^40` reads, or at once if the inlet had counted `2^63`
 /// reads or bytes, or as many failures as it can, or `Memory`.
-pub fn read_prefix<R: Read>(alloc: Global, inlet: &mut Inlet<R>) -> Result<Front, Unread>
+pub fn read_prefix<R: Read>(alloc: Global, inlet: &mut Inlet<R>) -> Result<Prefix, Unread>
     // The bytes were read, and describe the sound.
     ensures read { IfOk result (λ f. Reads R.remaining inlet.old inlet.new f.bytes.items) }
     ensures states { IfOk result (λ f. LeadsToSound f.bytes.items f.sound) }
@@ -56,7 +56,7 @@ pub fn read_prefix<R: Read>(alloc: Global, inlet: &mut Inlet<R>) -> Result<Front
     let mut ahead = Vec::new(alloc);
     let mut reader = SoundReader::new(inlet, &mut block, &mut ahead);
     match read_header(alloc, &mut reader) {
-        Ok(sound) => Ok(Front {
+        Ok(sound) => Ok(Prefix {
             sound,
             bytes: reader.take_ahead(alloc),
         }),

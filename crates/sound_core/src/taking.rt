@@ -3,7 +3,7 @@
 ghost use Rattle.std.specs.Prelude.{◌≡◌, ◌+◌, ◌-◌, ◌<◌, ◌≤◌, ◌^◌, [], IfErr, IfOk, IsErrOf, OnOk};
 ghost use Rattle.chunk_core.specs.Inlets.{inlet_failures, inlet_reads};
 ghost use Rattle.form_core.specs.Steps.{map_err};
-ghost use Rattle.sound_core.specs.Causes.{HasFront, IsNamed};
+ghost use Rattle.sound_core.specs.Causes.{HasPrefix, IsNamed};
 ghost use Rattle.sound_core.specs.Faults.{failed_reads};
 ghost use Rattle.sound_core.specs.Files.{IsHeaderOf};
 ghost use Rattle.sound_core.specs.Naming.{IfRefusedAs, IsCutFault, IsExactUnless, NamesFault, plain};
@@ -113,7 +113,7 @@ fn take_file<R: Read, S: SoundSink>(
         reader.new.inlet.now) }
     ensures named { IfErr result (IsNamed (RefusesFile S.refused sink.old sink.new) R.remaining
         reader.old.inlet.now reader.new) }
-    ensures prefix { IfErr result (λ f. f ≡ StreamFault.FileRefused → HasFront reader.new.cause → sink.new ≡ sink.old) }
+    ensures prefix { IfErr result (λ f. f ≡ StreamFault.FileRefused → HasPrefix reader.new.cause → sink.new ≡ sink.old) }
     ensures counts { Counts reader.old reader.new result }
     ensures fault { IfErr result (StopsFile R.remaining S.has S.refused reader.old.inlet.now reader.new.inlet.now
         sink.old sink.new) }

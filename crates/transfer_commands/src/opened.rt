@@ -13,7 +13,7 @@ use crate::outlining::{outline_reader, refusal_of};
 use chunk_core::Inlet;
 use dsd_bits::Sound;
 use folder_core::{Folder, GappedFile};
-use sound_core::{Front, Outline, read_prefix};
+use sound_core::{Prefix, Outline, read_prefix};
 use std::alloc::Global;
 use std::io::{Cursor, Read};
 
@@ -53,12 +53,12 @@ pub(crate) fn open_prefix<F: Folder>(
 }
 
 // A file whose prefix was read.
-fn opened_of<R>(prefix: Front, file: R) -> OpenedFile<R>
+fn opened_of<R>(prefix: Prefix, file: R) -> OpenedFile<R>
     ensures sound { result.sound ≡ prefix.sound }
     ensures prefix { result.prefix.items ≡ prefix.bytes.items }
     ensures file { result.file ≡ file }
 {
-    let Front { sound, bytes } = prefix;
+    let Prefix { sound, bytes } = prefix;
     OpenedFile {
         sound,
         prefix: bytes,

@@ -1,6 +1,6 @@
 //! What the words of a command line ask for.
 
-ghost use Rattle.std.specs.Prelude.{◌≡◌, IfErr, IfOk};
+ghost use Rattle.std.specs.Prelude.{◌≡◌, IfErr, IfOk, drop, false, true};
 ghost use Rattle.words_core.specs.Asked.{HasPlaces, IsNoForm, TakesForm};
 ghost use Rattle.words_core.specs.declared.fault.WordsFault.TheVariants as faults;
 
@@ -25,7 +25,10 @@ pub const NAMES: [&str; 6] = ["info", "convert", "play", "edit", "check", "sum"]
 const EXPLAIN: &str = "--explain";
 
 /// Whether words ask to explain faults, and those of the command. The first word is the program's name.
-pub fn split_explain(words: &[String]) -> (bool, &[String]) {
+pub fn split_explain(words: &[String]) -> (bool, &[String])
+    ensures asked { result.0 ≡ true → result.1.now ≡ drop 2 words.now }
+    ensures plain { result.0 ≡ false → result.1.now ≡ drop 1 words.now }
+{
     match words {
         [_, first, rest @ ..] if first.as_str() == EXPLAIN => (true, rest),
         [_, rest @ ..] => (false, rest),

@@ -3,8 +3,8 @@ use Rattle.dsf_core.proofs.FileLaws.{InFile, in_file}
 use Rattle.dsf_core.proofs.reading.read_in_order.Goals as goal
 use Rattle.dsf_core.proofs.reading.read_in_order.Goals.{In_ok-check_ends}
 
-holds : (c : In_ok-check_ends) → InFile c.args.file.now c.in_ok-prefix.prefix
-holds c = in_file c.args.file.now c.in_ok-prefix.prefix c.in_ok-check_ends.field-0 c.in_ok-prefix.ensures c.in_ok-check_ends.ensures
+holds : (c : In_ok-check_ends) → InFile c.args.file.now c.in_ok-header.header
+holds c = in_file c.args.file.now c.in_ok-header.header c.in_ok-check_ends.field-0 c.in_ok-header.ensures c.in_ok-check_ends.ensures
 
 pub tag_in-requires : goal.tag_in-requires
 tag_in-requires c = (holds c).tag

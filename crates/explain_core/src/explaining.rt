@@ -80,7 +80,8 @@ impl<R: Files + Env + AllocGlobal> Line<'_, R> {
     fn explain_nothing(&mut self, task: Task, fault: Fault) {
         match (fault, input_of(task)) {
             (
-                Fault::FileUnread(ReadFault::UnknownForm) | Fault::Stream(StreamFault::FileRefused),
+                Fault::FileUnread(ReadFault::UnknownForm)
+                | Fault::FileRefused(ReadFault::UnknownForm),
                 Some((name, word)),
             ) => self.say("{0}: it is empty", &[Named(name, word)]),
             _ => self.explain_fault(task, fault),
@@ -91,7 +92,7 @@ impl<R: Files + Env + AllocGlobal> Line<'_, R> {
         match (fault, input_of(task), project_of(task)) {
             (Fault::Memory, None, _) => self.push(CUT_MEMORY),
             (Fault::Memory, Some(_), _) => self.push(MEMORY),
-            (Fault::FileUnread(why), Some((name, word)), _) => {
+            (Fault::FileUnread(why) | Fault::FileRefused(why), Some((name, word)), _) => {
                 self.say("{0}: ", &[Named(name, word)]);
                 self.explain_file(name, why);
             }

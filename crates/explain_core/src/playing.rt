@@ -71,10 +71,6 @@ impl<R: Files> Line<'_, R> {
     /// Adds why a recording, the second, is not played by a project.
     pub(crate) fn explain_play(&mut self, (project, input): Played, fault: StreamFault) {
         match fault {
-            StreamFault::FileRefused => {
-                self.say("{0}: ", &[Named(input, "IN")]);
-                self.explain_refused(input);
-            }
             StreamFault::TurnLimit => self.say(ENDLESS, &[Named(input, "IN")]),
             StreamFault::RateNotDivided | StreamFault::TooLarge => {
                 let sound = self.sound_of(input);

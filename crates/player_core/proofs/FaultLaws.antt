@@ -1,12 +1,16 @@
 -- Which faults are true, stop the reading or come before the first write, by where they arose.
-use Rattle.std.proofs.Common.{◌≡◌, ℕ, ◌<◌, ◌≤◌, ◌^◌, inl, inr, subst, List, ◌++◌, Option, None, Some, ◌+◌, IfErr, IfSome, OnErr, OnOk, Result, Ok, Err, arith, refl}
+use Rattle.std.proofs.Common.{◌≡◌, ℕ, ◌<◌, ◌≤◌, ◌^◌, inl, inr, subst, List, ◌++◌, Option, None, Some, ◌+◌, IfErr, IfSome, IsErrAnd, OnErr, OnOk, Result, Ok, Err, arith, refl}
 use Rattle.dsd_bits.specs.declared.sound.Sound.{Sound}
+use Rattle.form_core.specs.Steps.{map_err}
 use Rattle.fir_core.specs.Decimator.{Decimator}
 use Rattle.sound_core.specs.Faults.{IsBeforeWriting, IsSinkFault, IsWritingFault, StopsReading, failed_writes}
 use Rattle.sound_core.specs.Files.{LeadsToSound}
+use Rattle.sound_core.specs.Naming.{IsExactUnless, plain}
 use Rattle.sound_core.specs.Outlines.{IsOutlineFault}
 use Rattle.sound_core.specs.declared.fault.StreamFault.{StreamFault}
 use Rattle.sound_core.specs.declared.fault.StreamFault.TheVariants.{FileRefused, RateNotDivided, TooLarge, ReadFailed, WriteFailed, TurnLimit, Memory}
+use Rattle.sound_core.specs.declared.fault.Unread.{Unread}
+use Rattle.sound_core.specs.declared.fault.Unread.TheVariants as answers
 use Rattle.sound_core.proofs.FaultLaws.{by_writing}
 use Rattle.wave_core.specs.Sizes.{riff_size}
 use Rattle.player_core.specs.Laws.{total_frames}
@@ -85,6 +89,9 @@ writing_opening d s range f h = by_writing (IsPlayingFault d s range) tt tt f h
 pub writing_own : (f : StreamFault) → IsWritingFault f → IsSinkFault f
 writing_own f h = by_writing IsSinkFault tt tt f h
 
+pub writing_exact : (P : Type 0) (f : StreamFault) → IsWritingFault f → IsExactUnless P (answers.Stream f)
+writing_exact P f h is = let same : f ≡ FileRefused = cc in absurd (subst IsWritingFault same h)
+
 -- ---- what was counted
 pub same_writes : (X Y : Type 0) (f : StreamFault) → failed_writes {X = X} (Err f) ≡ failed_writes {X = Y} (Err f)
 same_writes X Y FileRefused = refl
@@ -96,10 +103,14 @@ same_writes X Y TurnLimit = refl
 same_writes X Y Memory = refl
 
 -- ---- what holds of an answer
-pub of_err : {X : Type 0} (r : Result X StreamFault) (P : StreamFault → Type 0) (Q : Type 0) → ((f : StreamFault) → P f → Q) → IfErr r P → OnErr r Q
+pub fault_is : {X E : Type 0} (r : Result X E) (f : E) → IsErrAnd r (λ g. g ≡ f) → r ≡ Err f
+fault_is (Ok x) f h = absurd h
+fault_is (Err g) f h = rw h
+
+pub of_err : {X E : Type 0} (r : Result X E) (P : E → Type 0) (Q : Type 0) → ((f : E) → P f → Q) → IfErr r P → OnErr r Q
 of_err (Ok x) P Q on p = tt
 of_err (Err f) P Q on p = on f p
 
-pub writes_are : {X : Type 0} (r : Result X StreamFault) (n m : ℕ) → OnOk r (n ≡ m) → IfErr r (λ f. n ≡ m + failed_writes {X = Unit {0}} (Err f)) → n ≡ m + failed_writes r
+pub writes_are : {X : Type 0} (r : Result X Unread) (n m : ℕ) → OnOk r (n ≡ m) → IfErr r (λ u. n ≡ m + failed_writes {X = Unit {0}} (Err (plain u))) → n ≡ m + failed_writes (map_err plain r)
 writes_are (Ok x) n m same h = omega (arith, same)
-writes_are {X} (Err f) n m same h = omega (arith, h, same_writes X (Unit {0}) f)
+writes_are {X} (Err u) n m same h = omega (arith, h, same_writes X (Unit {0}) (plain u))

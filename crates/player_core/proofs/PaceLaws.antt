@@ -12,7 +12,7 @@ use Rattle.player_core.specs.Laws.{file_around, total_frames}
 use Rattle.player_core.specs.Pace.{HoldsFrames, IsWithinBytes, KeepsUpBy, PlayFails, WritesFrames}
 use Rattle.player_core.specs.Parts.{frames_before, groups_before, part_bytes, rest_of}
 use Rattle.player_core.specs.PartView.{IsPartComplete, IsPartFed, IsPartOf, part_all, part_due, part_start}
-use Rattle.player_core.specs.Playing.{Applies, PartIsPlayed, PlaysBy, WritesPrefix}
+use Rattle.player_core.specs.Playing.{Applies, IsLackedBySome, PartIsPlayed, PlaysBy, WritesPrefix}
 use Rattle.player_core.specs.Ranges.{HasFrame, stop_of}
 use Rattle.player_core.specs.Sinks.{IsPlaying, IsPlayingFault, RefusesPlaying, range_file, range_sound}
 use Rattle.player_core.specs.Wave.{pad_of, sound_header}
@@ -20,8 +20,10 @@ use Rattle.player_core.specs.declared.parts.PartPlayer.{PartPlayer}
 use Rattle.player_core.specs.declared.range.FrameRange.{FrameRange}
 use Rattle.player_core.specs.declared.sink.PlayingSink.{PlayingSink}
 use Rattle.sound_core.specs.Files.{GivesNone, LeadsToSound}
-use Rattle.sound_core.specs.Sinks.{BeginsSound, StopsTaking, sound_given}
+use Rattle.sound_core.specs.Naming.{IsExactUnless}
+use Rattle.sound_core.specs.Sinks.{BeginsSound, RefusesFile, StopsTaking, sound_given}
 use Rattle.sound_core.specs.declared.fault.StreamFault.{StreamFault}
+use Rattle.sound_core.specs.declared.fault.Unread.{Unread}
 use Rattle.sound_core.proofs.StatedLaws.{stated_once}
 use Rattle.wave_core.specs.Sizes.{block_align, header_size}
 use Rattle.wave_core.proofs.SizeLaws.{length_of_header}
@@ -234,3 +236,7 @@ module _ {W : Type 0} (held : W → Option (List ℕ)) (left : Option (List ℕ)
         failures = refuses.refuses.failures;
       }
     ]
+
+-- the sink refuses a file itself only for a sound that lacks frames
+pub lacked : {W : Type 0} (held : W → Option (List ℕ)) (old new : PlayingSink W) (u : Unread) → IsExactUnless (RefusesFile (λ a b s came e. RefusesPlaying held a b s came e) old new) u → IsExactUnless (IsLackedBySome old.taps.now old.range) u
+lacked held old new u exact is = let refused = exact is in (refused.0, refused.2.fault)

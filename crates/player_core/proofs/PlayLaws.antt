@@ -21,7 +21,7 @@ use Rattle.wave_core.specs.Texts.{header, pad_bytes, sample_bytes, wave_text}
 use Rattle.player_core.specs.Due.{all_bytes}
 use Rattle.player_core.specs.Frames.{frame, frame_count, frames}
 use Rattle.player_core.specs.Laws.{total_frames}
-use Rattle.player_core.specs.Playing.{Applies, IsOutsideOf, OnlyFromOutsideBy, PartIsPlayed, PlaysBy, WholeIsAll, WritesPrefix, part_pcm, range_pcm}
+use Rattle.player_core.specs.Playing.{Applies, IsLackedBySome, IsOutsideOf, OnlyFromOutsideBy, PartIsPlayed, PlaysBy, WholeIsAll, WritesPrefix, part_pcm, range_pcm}
 use Rattle.player_core.specs.Parts.{frames_sound, part_bytes, part_file}
 use Rattle.player_core.specs.Ranges.{IsInside, number_of, stop_of, whole_range}
 use Rattle.player_core.specs.Samples.{pcm}
@@ -121,14 +121,17 @@ whole_samples r d =
     let all : slice_range (frames d r.channels) (0 * c) (n * c) ≡ frames d r.channels = ap₂ (λ m k. take m (drop k (frames d r.channels))) rest none ∙ take_all (n * c) (frames d r.channels) (omega (arith, long)) in
     ap (λ (zs : List ℤ). (let p : Pcm = record { channels = c; rate = r.rate / d.factor; width = d.width; samples = zs } in p)) all
 
-whole_inside : (d : Decimator) (file : List ℕ) → IsOutsideOf d whole_range file → ⊥
-whole_inside d file stands = elim stands.outside [
+whole_lacked : (d : Decimator) → IsLackedBySome d whole_range → ⊥
+whole_lacked d lacked = elim lacked.1 [
   | inl turned ↦ omega (arith, turned)
   | inr past ↦ omega (arith, past)
 ]
 
+whole_inside : (d : Decimator) (file : List ℕ) → IsOutsideOf d whole_range file → ⊥
+whole_inside d file stands = whole_lacked d (stands.sound, stands.outside)
+
 pub whole_is_all : WholeIsAll
-whole_is_all = record { samples = whole_samples; inside = whole_inside }
+whole_is_all = record { samples = whole_samples; inside = whole_inside; lacked = whole_lacked }
 
 -- ---- of a file that begins with the prefix of one
 module _ (law : PartIsPlayed) (d : Decimator) (least : 8 ≤ d.factor) (range : FrameRange) where

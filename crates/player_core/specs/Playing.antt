@@ -58,6 +58,10 @@ pub record IsOutsideOf (d : Decimator) (range : FrameRange) (file : List ℕ) : 
   pub states : LeadsToSound prefix sound
   pub outside : IsOutside range (total_frames d sound)
 
+-- some sound lacks frames of the range
+abbrev pub IsLackedBySome : Decimator → FrameRange → Type 0
+IsLackedBySome d range = (s : Sound) × IsOutside range (total_frames d s)
+
 -- the prefix of the file describes a sound whose rate the factor does not divide
 pub record IsNotDivided (d : Decimator) (file : List ℕ) : Type 0 where
   pub prefix : List ℕ
@@ -103,10 +107,11 @@ OnlyFromOutsideBy left d range f = IfSome left (λ file. (bytes : List ℕ) → 
 
 -- ---- laws
 
--- all frames of a recording are all that is played of it, and every sound has them
+-- all frames of a recording are all that is played of it, and no sound lacks any of them
 pub record WholeIsAll : Type 0 where
   pub samples : (r : Content) (d : Decimator) → range_pcm r d whole_range ≡ pcm r d
   pub inside : (d : Decimator) (file : List ℕ) → IsOutsideOf d whole_range file → ⊥
+  pub lacked : (d : Decimator) → IsLackedBySome d whole_range → ⊥
 
 -- what is played of a part of a recording in a file: the WAVE file around the bytes of the part's frames, or nothing
 -- where its sizes are too large

@@ -1,16 +1,16 @@
 //! From sound to the frames of a RIFF WAVE file, in memory or from a reader to a writer.
 //!
-//! [`wave_of`] returns the file of a recording, made tile by tile. A [`Player`] takes the bytes of a sound piece by
-//! piece, as a DSDIFF 1.5 or DSF 1.01 file holds them, and returns the bytes of each frame as soon as its place has
-//! come. Of the sound it holds a part of one group of blocks, and what each channel's filter still reads.
-//!
-//! A [`PartPlayer`] returns some of the frames, from any on: it is fed the sound from a place on before which no tap of
-//! its first frame reads, and drops what it gets before that frame and after its last.
+//! [`wave_of`] returns the file of a recording, made tile by tile. A [`PartPlayer`] takes the bytes of a sound piece by
+//! piece, as a DSDIFF 1.5 or DSF 1.01 file holds them, and returns the bytes of each frame of a part as soon as its
+//! place has come. It is fed the sound from a place on before which no tap of its first frame reads, and drops what it
+//! gets before that frame and after its last. Of the sound it holds a part of one group of blocks, and what each
+//! channel's filter still reads (`player.rt`). A [`PausedPart`] is what it holds beside its filter.
 //!
 //! [`play`] plays a range of the frames of a file ([`FrameRange`]), or all of them. `sound_core` reads the file and
 //! passes its sound to a sink (`sink.rt`), which writes the frames piece by piece (`pieces.rt`) and the bytes around
 //! them (`wave.rt`). It holds at most one block of 65,536 bytes of the sound, what a player holds, the bytes before the
-//! sound, and those that follow it in a DSDIFF form, or the tag of a DSF file.
+//! sound, and those that follow it in a DSDIFF form, or the tag of a DSF file. A file that holds no recording is
+//! refused with its first fault.
 //!
 //! The words of the contracts:
 //!
@@ -38,12 +38,12 @@
 //! - `IsPlaying held first now s bytes` says what the sink has written after these bytes of a sound
 //!   (`specs/Sinks.antt`).
 //!
-//! What it promises: whatever bytes a player was fed before, what [`Player::feed`] appends turns the bytes that were
-//! due into those that are due now, and what [`Player::finish`] appends turns them into those of all frames. So the
-//! sizes of the pieces change nothing. For [`play`], Ok means that exactly the bytes that the reader's file plays were
-//! written, however its reads are cut. A fault that is returned applies. A file that can be played is refused only for
-//! memory, a device or the number of reads, after a prefix of its WAVE file, which keeps up with the reading if that
-//! stops.
+//! What it promises: whatever bytes a player was fed before, what [`PartPlayer::feed`] appends turns the bytes of the
+//! part that were due into those that are due now, and what [`PartPlayer::finish`] appends turns them into those of all
+//! of its frames. So the sizes of the pieces change nothing. For [`play`], Ok means that exactly the bytes that the
+//! reader's file plays were written, however its reads are cut. A fault that is returned applies, and if it is one of
+//! the file, it is the first. A file that can be played is refused only for memory, a device or the number of reads,
+//! after a prefix of its WAVE file, which keeps up with the reading if that stops.
 //!
 //! Laws of ranges: [`whole_is_all`], the range of all frames is all that is played of a recording; [`parts_meet`],
 //! parts that meet are one part; [`whole_is_a_part`]; [`part_has_its_frames`], a part has the bytes of its frames; and
@@ -55,10 +55,10 @@
 //! is a prefix of all.
 //!
 //! ```text
-//! let mut player = Player::new(alloc, &taps, sound)?;
-//! player.feed(&bytes[..100], &mut out)?;     // the frames that are due after 100 bytes
+//! let mut player = PartPlayer::new(alloc, &taps, sound, 0, 1000)?;
+//! player.feed(&bytes[..100], &mut out)?;     // those of the 1000 frames that are due after 100 bytes
 //! player.feed(&bytes[100..], &mut out)?;     // those that are due after all
-//! player.finish(&mut out)?;                  // the rest
+//! player.finish(&mut out)?;                  // the rest of the 1000 frames
 //!
 //! let mut inlet = Inlet::new(file);
 //! let mut outlet = Outlet::new(wave);
@@ -86,7 +86,6 @@ pub use laws::{
 };
 pub use parts::PartPlayer;
 pub use pausing::PausedPart;
-pub use player::Player;
 pub use playing::play;
 pub use range::FrameRange;
 pub use wave_file::wave_of;

@@ -40,8 +40,8 @@ impl<'a> PartPlayer<'a> {
     ghost use Rattle.player_core.specs.Laws.{total_frames};
     ghost use Rattle.player_core.specs.PartView.{FeedsPart, FinishesPart, IsPartComplete, IsPartFed, IsPartOf, IsPartPlayer, IsSamePart, part_fed, part_rest, part_start};
 
-    /// The player of frames `start` to `stop - 1` of a sound, before the first byte that it is fed. The sound is as for
-    /// [`Player::new`]. It is refused only for want of memory.
+    /// The player of frames `start` to `stop - 1` of a sound, before the first byte that it is fed. The sound has 1 to
+    /// 6 channels of the same number of bits, whole bytes if they are in frames. It is refused only for want of memory.
     pub fn new(
         alloc: Global,
         taps: &'a Taps,

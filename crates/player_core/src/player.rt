@@ -17,7 +17,7 @@ use wave_core::push_frames;
 /// The frames of a sound whose bytes come piece by piece, by a filter that it borrows. Of the sound it holds a
 /// part of one group, and in each channel's stream the bytes that a later sample reads.
 #[derive(Drop)]
-pub struct Player<'a> {
+pub(crate) struct Player<'a> {
     pub(crate) taps: &'a Taps,
     pub(crate) sound: Sound,
     pub(crate) fed: usize,
@@ -34,7 +34,11 @@ impl<'a> Player<'a> {
 
     /// The player before the first byte of a sound: 1 to 6 channels of the same number of bits, whole bytes if they are
     /// in frames. The only refusal is out of memory.
-    pub fn new(alloc: Global, taps: &'a Taps, sound: Sound) -> Result<Player<'a>, AllocError>
+    pub(crate) fn new(
+        alloc: Global,
+        taps: &'a Taps,
+        sound: Sound,
+    ) -> Result<Player<'a>, AllocError>
         requires sound { IsSound sound }
         requires whole { sound.interleaving ≡ Interleaving.Bytes → sound.count % 8 ≡ 0 }
         ensures ready { IfOk result IsPlayer }
@@ -55,7 +59,7 @@ impl<'a> Player<'a> {
 
     /// Takes the next bytes of the sound, and appends the bytes of each frame whose place is among the bits so far and
     /// that was not returned yet. After `AllocError` the player is of no further use.
-    pub fn feed(&mut self, bytes: &[u8], out: &mut Vec<u8>) -> Result<(), AllocError>
+    pub(crate) fn feed(&mut self, bytes: &[u8], out: &mut Vec<u8>) -> Result<(), AllocError>
         requires ready { IsPlayer self.old }
         requires few { self.old.fed + length bytes.now ≤ self.old.sound.size }
         ensures ready { OnOk result (IsPlayer self.new) }
@@ -90,7 +94,7 @@ impl<'a> Player<'a> {
 
     /// Appends the bytes of the rest of the frames. All bytes of the sound were fed, and after `Ok` or
     /// `AllocError` the player is of no further use.
-    pub fn finish(&mut self, out: &mut Vec<u8>) -> Result<(), AllocError>
+    pub(crate) fn finish(&mut self, out: &mut Vec<u8>) -> Result<(), AllocError>
         requires ready { IsPlayer self.old }
         requires all { self.old.fed ≡ self.old.sound.size }
         ensures same { IsSamePlayer self.old self.new }

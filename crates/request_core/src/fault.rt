@@ -1,13 +1,13 @@
 //! Why a call is refused.
 
 ghost use Rattle.std.specs.Prelude.{◌≡◌};
-ghost use Rattle.request_core.specs.Faults.{fault_of_cut, fault_of_file, fault_of_project, fault_of_stream, fault_of_wave, fault_of_writing};
+ghost use Rattle.request_core.specs.Faults.{fault_of_cut, fault_of_file, fault_of_project, fault_of_stream, fault_of_unread, fault_of_wave, fault_of_writing};
 ghost use Rattle.request_core.specs.declared.fault.Fault.TheVariants as faults;
 
 use cut_core::CutFault;
 use form_core::{ReadFault, WriteFault};
 use project_core::ProjectFault;
-use sound_core::StreamFault;
+use sound_core::{StreamFault, Unread};
 use std::alloc::AllocError;
 use thiserror::Error;
 use wave_core::WaveFault;
@@ -15,7 +15,8 @@ use wave_core::WaveFault;
 /// Why a call is refused: the first fault, in the order that the call states.
 ///
 /// No fault has two spellings. Out of memory is always `Memory`. A DSDIFF file whose channels would end inside a byte
-/// is `NotWholeBytes`, whether it is cut or converted. Neither is found inside another variant. A rate that isn't
+/// is `NotWholeBytes`, whether it is cut or converted. Neither is found inside another variant. A file that holds no
+/// recording is `FileRefused` if it was to be played from a reader, and `FileUnread` otherwise. A rate that isn't
 /// divided, a WAVE file that would be too large, and a read or write that failed are `Stream`, even if a file is played
 /// in memory or a certificate is read.
 #[derive(Clone, Copy, Debug, PartialEq, Eq, Error)]
@@ -32,6 +33,9 @@ pub enum Fault {
     /// The file can't be read as a recording.
     #[error("FileUnread {0}")]
     FileUnread(ReadFault),
+    /// The file that is played from a reader can't be read as a recording. Its text is `FileRefused` for each fault.
+    #[error("FileRefused")]
+    FileRefused(ReadFault),
     /// The splice can't be cut from the files of its takes. Its text is that of this fault.
     #[error("{0}")]
     Cut(CutFault),
@@ -117,6 +121,18 @@ impl From<StreamFault> for Fault {
         match fault {
             StreamFault::Memory => Fault::Memory,
             fault => Fault::Stream(fault),
+        }
+    }
+}
+
+impl From<Unread> for Fault {
+    ghost from_gives = { λ u e. e ≡ fault_of_unread u };
+
+    fn from(unread: Unread) -> Fault {
+        match unread {
+            Unread::Refused(ReadFault::Memory) => Fault::Memory,
+            Unread::Refused(fault) => Fault::FileRefused(fault),
+            Unread::Stream(fault) => Fault::from(fault),
         }
     }
 }

@@ -36,7 +36,7 @@ module _ (project_name file_name output_name project : List ℕ) (start stop : �
   pub part_fails : (fault : CommandFault) → PlayedComesTo project (part_range start stop) file_name output_name mid new (Err fault) → PlayPartComesTo project_name file_name output_name span old new (Err (Command fault))
   part_fails (Call fault) h =
       let left = subst (λ (v : View). PlayedComesTo project (part_range start stop) file_name output_name v new (Err (Call fault))) same h in
-      inr (inr (record { project = project; start = start; stop = stop; project_read = project_read; has_span = has; ended = left.0; others = left.1 }))
+      inr (inr (record { project = project; start = start; stop = stop; project_read = project_read; has_span = has; ended = left.0; named = left.1; others = left.2 }))
   part_fails WriteFailed h =
       let kept = subst (λ (v : View). KeepsOthers output_name v new × (new.file output_name ≡ v.file output_name)) same h in
       record { project = project; start = start; stop = stop; project_read = project_read; has_span = has; same = kept.1; others = kept.0 }

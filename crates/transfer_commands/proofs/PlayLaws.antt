@@ -7,13 +7,21 @@ use Rattle.player_core.specs.Ranges.{whole_range}
 use Rattle.player_core.specs.declared.range.FrameRange.{FrameRange}
 use Rattle.transfer_core.specs.Laws.{WholePlays}
 use Rattle.request_core.specs.declared.fault.Fault as calls
+use Rattle.request_core.specs.declared.fault.Fault.TheVariants.{FileRefused}
+use Rattle.request_core.specs.Faults.{IfNamed}
+use Rattle.form_core.specs.Opening.{opened_of}
+use Rattle.sound_core.specs.Naming.{NamesFault}
+use Rattle.sound_core.proofs.NamingLaws.{file_named}
 use Rattle.transfer_core.specs.Streaming.{FailsBeforeWriting, OnlyFromOutside, PlaysRange, StreamApplies}
+use Rattle.chunk_core.specs.Inlets.{inlet_reader}
 use Rattle.chunk_core.specs.Outlets.{AppendsPrefix}
+use Rattle.chunk_core.specs.declared.inlet.Inlet.{Inlet}
 use Rattle.folder_core.specs.Files.{IsGiven, IsGivenUp, IsReadOf, KeepsOthers, View}
-use Rattle.transfer_commands.specs.Playing.{EndsPlaying, HoldsPlayed, LeavesPrefix, PlayComesTo, PlayedComesTo, PlaysSome, PlaysTo, StopsRange, WritesRange}
+use Rattle.transfer_commands.specs.Playing.{EndsPlaying, HoldsPlayed, LeavesPrefix, NamesRead, PlayComesTo, PlayedComesTo, PlaysSome, PlaysTo, StopsRange, WritesRange}
+use Rattle.transfer_commands.specs.Outlining.{IsFirstFault}
 use Rattle.transfer_commands.specs.declared.fault.CommandFault.{CommandFault}
 use Rattle.transfer_commands.specs.declared.fault.CommandFault.TheVariants.{Call, ReadFailed, WriteFailed}
-use Rattle.transfer_commands.proofs.ReadLaws.{opened_read, unknown_view}
+use Rattle.transfer_commands.proofs.ReadLaws.{known_or_some, opened_read, unknown_view}
 
 -- a file of which nothing was read has all of its bytes left
 pub none_read : (left : Option (List ℕ)) → prepend_known [] left ≡ left
@@ -22,10 +30,20 @@ none_read (Some file) = refl
 
 -- ---- a reader's file
 pub plays_to : {W : Type 0} (held : W → Option (List ℕ)) (project : List ℕ) (range : FrameRange) (left : Option (List ℕ)) (old new : W) (came : Result ℕ calls.Fault) → IfOk came (PlaysFile left (PlaysRange project range) (held old) (held new)) → IfOk came (PlaysSome project range)
-    → IfErr came (StreamApplies left project range) → IfErr came (OnlyFromOutside left project range) → OnErr came (WritesPrefix left (PlaysRange project range) (held old) (held new))
+    → IfErr came (StreamApplies left project range) → IfErr came (λ fault. IfNamed fault (IsFirstFault left)) → IfErr came (OnlyFromOutside left project range) → OnErr came (WritesPrefix left (PlaysRange project range) (held old) (held new))
     → IfErr came (λ fault. FailsBeforeWriting fault → held new ≡ held old) → PlaysTo held project range left old new came
-plays_to held project range left old new (Ok n) plays some stands outside prefix none = record { plays = plays; some = some }
-plays_to held project range left old new (Err fault) plays some stands outside prefix none = record { stands = stands; outside = outside; prefix = prefix; none = none }
+plays_to held project range left old new (Ok n) plays some stands named outside prefix none = record { plays = plays; some = some }
+plays_to held project range left old new (Err fault) plays some stands named outside prefix none = record { stands = stands; named = named; outside = outside; prefix = prefix; none = none }
+
+-- the first fault of what was read is that of the reader's file
+pub first_named : {R : Type 0} (left : R → Option (List ℕ)) (i j : Inlet R) (fault : calls.Fault) → IfNamed fault (NamesFault left i j) → IfNamed fault (IsFirstFault (left (inlet_reader i)))
+first_named left i j (FileRefused cause) named = (file_named left i j cause named, (named.read, named.sure.now))
+first_named left i j fault named = tt
+
+-- and of bytes that were read of the name under which it was opened
+pub named_read : (view : View) (name : List ℕ) (left : Option (List ℕ)) (fault : calls.Fault) → IsGiven view name left → IfNamed fault (IsFirstFault left) → NamesRead name view fault
+named_read view name left (FileRefused cause) given first = known_or_some view name left (λ file. opened_of file ≡ Err cause) given first.0 first.1
+named_read view name left fault given first = tt
 
 -- ---- a file that is played
 -- all of it was written, and handed back
@@ -85,7 +103,7 @@ play_ends law project_name file_name output_name project old mid new project_rea
     }
 play_ends law project_name file_name output_name project old mid new project_read same left given (Err (Call fault)) h =
     let ends = subst (λ (v : View). PlayedComesTo project whole_range file_name output_name v new (Err (Call fault))) same h in
-    inr (record { project = project; project_read = project_read; ended = ends.0; others = ends.1 })
+    inr (record { project = project; project_read = project_read; ended = ends.0; named = ends.1; others = ends.2 })
 play_ends law project_name file_name output_name project old mid new project_read same left given (Err WriteFailed) h =
     let read = opened_read old file_name left given in
     let kept = subst (λ (v : View). KeepsOthers output_name v new × (new.file output_name ≡ v.file output_name)) same h in

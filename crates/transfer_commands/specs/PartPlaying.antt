@@ -13,7 +13,7 @@ use Rattle.request_core.specs.declared.span_fault.SpanFault.{SpanFault}
 use Rattle.transfer_core.specs.Spans.{AreFramesOf, FramesRefused, IsSpanOf, SpanRefused}
 use Rattle.transfer_core.specs.Streaming.{PlaysRange, part_range}
 use Rattle.folder_core.specs.Files.{OpensAs, IsPut, IsReadOf, KeepsOthers, View}
-use Rattle.transfer_commands.specs.Playing.{EndsPlaying}
+use Rattle.transfer_commands.specs.Playing.{EndsPlaying, NamesRead}
 use Rattle.transfer_commands.specs.Reporting.{IsReportOf, IsUnreported}
 use Rattle.transfer_commands.specs.declared.fault.CommandFault.TheVariants.{Call, ReadFailed, WriteFailed}
 use Rattle.transfer_commands.specs.declared.parts.Part.{Part}
@@ -122,6 +122,7 @@ pub record LeavesPart (project_name file_name output_name : List ℕ) (span : Sp
   pub project_read : IsReadOf old project_name project
   pub has_span : FindsSpan project file_name old span start stop
   pub ended : IsTrue old.is_known → (file : List ℕ) × OpensAs old file_name file × EndsPlaying project (part_range start stop) file output_name old new fault
+  pub named : NamesRead file_name old fault
   pub others : KeepsOthers output_name old new
 
 -- a text was read of the project by which the span's part of the file is not found, for this fault; nothing changed

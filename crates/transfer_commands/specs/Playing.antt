@@ -1,14 +1,17 @@
 -- How a folder changes if one of its files is played to another.
 use Rattle.std.specs.Prelude.{◌≡◌, ℕ, List, [], ◌++◌, length, IsTrue, Option, Some, ◌⊎◌, Result, Ok, Err}
 use Rattle.std.specs.Io.KnownBytes.{prepend_known}
+use Rattle.form_core.specs.Opening.{opened_of}
 use Rattle.player_core.specs.Playing.{PlaysFile, WritesPrefix}
 use Rattle.player_core.specs.Ranges.{whole_range}
 use Rattle.player_core.specs.declared.range.FrameRange.{FrameRange}
 use Rattle.request_core.specs.declared.fault.Fault as calls
 use Rattle.request_core.specs.declared.fault.Fault.TheVariants.{Memory}
+use Rattle.request_core.specs.Faults.{IfNamed}
 use Rattle.transfer_core.specs.Playing.{Plays}
 use Rattle.transfer_core.specs.Streaming.{FailsBeforeWriting, OnlyFromOutside, PlaysRange, StreamApplies}
 use Rattle.folder_core.specs.Files.{OpensAs, HadNone, IsGiven, IsPut, IsReadOf, KeepsOthers, View}
+use Rattle.transfer_commands.specs.Outlining.{IsFirstFault}
 use Rattle.transfer_commands.specs.declared.fault.CommandFault.{CommandFault}
 use Rattle.transfer_commands.specs.declared.fault.CommandFault.TheVariants.{Call, ReadFailed, WriteFailed}
 use Rattle.transfer_commands.specs.declared.playing.Source.{Source}
@@ -43,17 +46,22 @@ pub record EndsPlaying (project : List ℕ) (range : FrameRange) (file output_na
   pub outside : OnlyFromOutside (Some file) project range fault
   pub prefix : LeavesPrefix project range file fault output_name old new
 
+-- a fault that names the first one of a file names that of bytes that were read of it
+abbrev pub NamesRead : List ℕ → View → calls.Fault → Type 0
+NamesRead file_name old fault = IfNamed fault (λ cause. (file : List ℕ) × IsReadOf old file_name file × (opened_of file ≡ Err cause))
+
 -- the same for bytes that openings of the project and of a file give, if the folder's bytes are known
 pub record LeavesOutput (project_name file_name output_name : List ℕ) (old new : View) (fault : calls.Fault) : Type 0 where
   pub project : List ℕ
   pub project_read : IsReadOf old project_name project
   pub ended : IsTrue old.is_known → (file : List ℕ) × OpensAs old file_name file × EndsPlaying project whole_range file output_name old new fault
+  pub named : NamesRead file_name old fault
   pub others : KeepsOthers output_name old new
 
 -- how playing a file that was opened under a name to an empty one ends: it is handed back, or given up after a fault
 abbrev pub PlayedComesTo : List ℕ → FrameRange → List ℕ → List ℕ → View → View → Result ℕ CommandFault → Type 0
 PlayedComesTo project range input output old new (Ok count) = (file : List ℕ) × (bytes : List ℕ) × IsReadOf old input file × IsPut new output bytes × PlaysRange project range file bytes × (count ≡ length bytes) × KeepsOthers output old new
-PlayedComesTo project range input output old new (Err (Call fault)) = (IsTrue old.is_known → (file : List ℕ) × OpensAs old input file × EndsPlaying project range file output old new fault) × KeepsOthers output old new
+PlayedComesTo project range input output old new (Err (Call fault)) = (IsTrue old.is_known → (file : List ℕ) × OpensAs old input file × EndsPlaying project range file output old new fault) × NamesRead input old fault × KeepsOthers output old new
 PlayedComesTo project range input output old new (Err WriteFailed) = KeepsOthers output old new × (new.file output ≡ old.file output)
 PlayedComesTo project range input output old new (Err ReadFailed) = ⊥
 
@@ -96,6 +104,7 @@ pub record WritesRange (project : List ℕ) (range : FrameRange) (left held writ
 -- before the first write
 pub record StopsRange (project : List ℕ) (range : FrameRange) (left held written : Option (List ℕ)) (fault : calls.Fault) : Type 0 where
   pub stands : StreamApplies left project range fault
+  pub named : IfNamed fault (IsFirstFault left)
   pub outside : OnlyFromOutside left project range fault
   pub prefix : WritesPrefix left (PlaysRange project range) held written
   pub none : FailsBeforeWriting fault → written ≡ held

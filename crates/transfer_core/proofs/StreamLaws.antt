@@ -1,28 +1,37 @@
 -- What is played from a reader by a project's decimator is what project and file play.
 use Rattle.std.proofs.Common.{◌≡◌, ◌⊎◌, ◌-◌, ℕ, inl, inr, List, Option, None, Some, IfSome, IsErrAnd, IsErrOf, Result, Ok, Err, arith, refl, sym, ap, ◌∙◌, subst}
+use Rattle.chunk_core.specs.Inlets.{inlet_reader}
 use Rattle.chunk_core.specs.declared.inlet.Inlet.{Inlet}
 use Rattle.dsd_bits.specs.declared.blocks.BitOrder.TheVariants.{LeastFirst, MostFirst}
 use Rattle.dsd_bits.specs.declared.interleaving.Interleaving.TheVariants.{Blocks}
 use Rattle.dsd_bits.specs.Contents.{Content}
 use Rattle.fir_core.specs.Decimator.{Decimator}
 use Rattle.sound_core.specs.Faults as reading
+use Rattle.sound_core.specs.Faults.{failed_reads, failed_writes}
 use Rattle.sound_core.specs.Files.{HoldsRecording}
+use Rattle.sound_core.specs.Naming.{IfRefusedAs, IsExactUnless, NamesFault, plain}
 use Rattle.player_core.specs.Pace as pace
 use Rattle.sound_core.specs.Sinks.{sound_given}
 use Rattle.player_core.specs.Pace.{WritesFrames}
 use Rattle.player_core.specs.Playing as streams
-use Rattle.player_core.specs.Playing.{PlaysBy, PlaysFile, PlaysGiven, WholeIsAll, WritesPrefix}
+use Rattle.player_core.specs.Playing.{IsLackedBySome, PlaysBy, PlaysFile, PlaysGiven, WholeIsAll, WritesPrefix}
 use Rattle.player_core.specs.declared.range.FrameRange.{FrameRange}
 use Rattle.wave_core.specs.Texts.{wave_text}
 use Rattle.sound_core.specs.declared.fault.StreamFault.{StreamFault}
 use Rattle.sound_core.specs.declared.fault.StreamFault.TheVariants as faults
+use Rattle.sound_core.specs.declared.fault.Unread.{Unread}
+use Rattle.sound_core.specs.declared.fault.Unread.TheVariants as answers
+use Rattle.sound_core.proofs.NamingLaws.{file_named}
 use Rattle.form_core.specs.declared.form.Form.{Form}
 use Rattle.form_core.specs.declared.form.Form.TheVariants as forms
 use Rattle.form_core.specs.Forms.{HoldsAs, form_in}
+use Rattle.form_core.specs.Opening.{opened_of}
+use Rattle.form_core.specs.declared.fault.ReadFault.{ReadFault}
+use Rattle.form_core.specs.declared.fault.ReadFault.TheVariants as reads
 use Rattle.form_core.proofs.OpeningLaws.{holds_dsf}
 use Rattle.request_core.specs.declared.fault.Fault.{Fault}
 use Rattle.request_core.specs.declared.fault.Fault.TheVariants as fault
-use Rattle.request_core.specs.Faults.{OfStream, as_stream, fault_of_stream}
+use Rattle.request_core.specs.Faults.{IfNamed, OfStream, as_stream, fault_of_stream, fault_of_unread}
 use Rattle.transfer_core.specs.Laws.{WholePlays}
 use Rattle.request_core.specs.Projects.{IsOfDecimator, SaysDecimator, decimator_of_text}
 use Rattle.request_core.proofs.ProjectLaws.{says_decimator}
@@ -66,9 +75,18 @@ module _ (project : List ℕ) (range : FrameRange) (d : Decimator) (says : SaysD
   pub plays_given : {R : Type 0} (left : R → Option (List ℕ)) (old new : Inlet R) (a b : Option (List ℕ)) (n : ℕ) → PlaysGiven left old new (PlaysBy d range) a b n → PlaysGiven left old new (PlaysRange project range) a b n
   plays_given left old new a b n h = (h.0, h.1, h.2, plays h.0 h.1 h.3, h.4, h.5)
 
-  pub stands : (left : Option (List ℕ)) (f : StreamFault) → IfSome left (λ file. streams.Applies d range file f) → StreamApplies left project range (fault_of_stream f)
-  stands None f h = inr (f, refl, tt)
-  stands (Some file) f h = inr (f, refl, (d, says, h))
+  -- a fault that is named is the first one of the reader's file
+  first_of : {R : Type 0} (left : R → Option (List ℕ)) (i j : Inlet R) (u : Unread) → IfRefusedAs u (NamesFault left i j) → IfSome (left (inlet_reader i)) (λ file. IfRefusedAs u (λ e. opened_of file ≡ Err e))
+  first_of left i j (answers.Refused e) named = file_named left i j e named
+  first_of left i j (answers.Stream f) named = by (left (inlet_reader i))
+    where
+      by : (o : Option (List ℕ)) → IfSome o (λ file. Unit {0})
+      by None = tt
+      by (Some file) = tt
+
+  pub stands : {R : Type 0} (left : R → Option (List ℕ)) (i j : Inlet R) (u : Unread) → IfSome (left (inlet_reader i)) (λ file. streams.Applies d range file (plain u)) → IfRefusedAs u (NamesFault left i j) → IsExactUnless (IsLackedBySome d range) u
+      → StreamApplies (left (inlet_reader i)) project range (fault_of_unread u)
+  stands left i j u applies named exact = inr (d, says, (u, refl, record { applies = applies; first = first_of left i j u named; exact = exact }))
 
 -- ---- of the one decimator that a project says
 module _ (project : List ℕ) (range : FrameRange) (d : Decimator) (is_said : decimator_of_text project ≡ Ok d) where
@@ -84,9 +102,10 @@ module _ (project : List ℕ) (range : FrameRange) (d : Decimator) (is_said : de
         text = is.text;
       })
 
-  pub only_outside : (left : Option (List ℕ)) (f : StreamFault) → streams.OnlyFromOutsideBy left d range f → OnlyFromOutside left project range (fault_of_stream f)
-  only_outside None f h = tt
-  only_outside (Some file) f h = λ bytes is. (f, refl, h bytes (played file bytes is))
+  pub only_outside : (left : Option (List ℕ)) (u : Unread) → streams.OnlyFromOutsideBy left d range (plain u) → OnlyFromOutside left project range (fault_of_unread u)
+  only_outside None u h = tt
+  only_outside (Some file) (answers.Refused e) h = λ bytes is. absurd (h bytes (played file bytes is))
+  only_outside (Some file) (answers.Stream f) h = λ bytes is. (f, refl, h bytes (played file bytes is))
 
   pub writes_prefix : (left a b : Option (List ℕ)) → WritesPrefix left (PlaysBy d range) a b → WritesPrefix left (PlaysRange project range) a b
   writes_prefix None a b h = tt
@@ -128,7 +147,7 @@ whole_plays all project file bytes = (
 pub answered : {X : Type 0} (x : X) (f : Fault) → IsErrOf {T = X} (Ok x) f → ⊥
 answered x f is = cc
 
--- ---- a fault of a stream, under its name here
+-- ---- a fault of a stream, or of a file that is played, under its name here
 pub same_stream : {X : Type 0} (f : StreamFault) → as_stream {X = X} (Err (fault_of_stream f)) ≡ Err f
 same_stream faults.Memory = refl
 same_stream f = refl
@@ -136,15 +155,51 @@ same_stream f = refl
 one_fault : (f g : StreamFault) → fault_of_stream f ≡ fault_of_stream g → g ≡ f
 one_fault f g is = let a = same_stream {X = ℕ} f in let b = same_stream {X = ℕ} g in cc
 
-pub stream_turns : {X : Type 0} (f : StreamFault) → IsErrOf {T = X} (Err (fault_of_stream f)) (fault.Stream faults.TurnLimit) → IsErrOf {T = X} (Err f) faults.TurnLimit
+stream_turns : {X : Type 0} (f : StreamFault) → IsErrOf {T = X} (Err (fault_of_stream f)) (fault.Stream faults.TurnLimit) → IsErrOf {T = X} (Err f) faults.TurnLimit
 stream_turns f is = sym (same_stream f) ∙ ap as_stream is
 
-pub of_stream : (P : StreamFault → Type 0) (f : StreamFault) → OfStream P (fault_of_stream f) → P f
+of_stream : (P : StreamFault → Type 0) (f : StreamFault) → OfStream P (fault_of_stream f) → P f
 of_stream P f h = subst P (one_fault f h.0 h.1) h.2
 
-pub before_writing : (f : StreamFault) → FailsBeforeWriting (fault_of_stream f) → reading.IsBeforeWriting f
+before_writing : (f : StreamFault) → FailsBeforeWriting (fault_of_stream f) → reading.IsBeforeWriting f
 before_writing faults.Memory h = of_stream reading.IsBeforeWriting faults.Memory h
 before_writing f h = of_stream reading.IsBeforeWriting f h
+
+not_stream : (e : ReadFault) (f : StreamFault) → fault.FileRefused e ≡ fault_of_stream f → ⊥
+not_stream e faults.Memory is = cc
+not_stream e f is = cc
+
+-- a fault that is named is none of a stream
+pub of_unread : (P : StreamFault → Type 0) → (P faults.Memory → ⊥) → (u : Unread) → OfStream P (fault_of_unread u) → P (plain u)
+of_unread P none (answers.Refused reads.Memory) h = absurd (none (of_stream P faults.Memory h))
+of_unread P none (answers.Refused e) h = absurd (not_stream e h.0 h.1)
+of_unread P none (answers.Stream f) h = of_stream P f h
+
+pub unread_before : (u : Unread) → FailsBeforeWriting (fault_of_unread u) → reading.IsBeforeWriting (plain u)
+unread_before (answers.Refused reads.Memory) h = of_unread reading.IsBeforeWriting (λ none. none) (answers.Refused reads.Memory) h
+unread_before (answers.Refused e) h = of_unread reading.IsBeforeWriting (λ none. none) (answers.Refused e) h
+unread_before (answers.Stream f) h = before_writing f h
+
+pub unread_turns : {X : Type 0} (u : Unread) → IsErrOf {T = X} (Err (fault_of_unread u)) (fault.Stream faults.TurnLimit) → plain u ≡ faults.TurnLimit
+unread_turns (answers.Refused reads.Memory) is = absurd cc
+unread_turns (answers.Refused e) is = absurd cc
+unread_turns {X} (answers.Stream f) is = let turns = stream_turns {X = X} f is in let same : f ≡ faults.TurnLimit = cc in same
+
+pub unread_reads : {X : Type 0} (u : Unread) → failed_reads (as_stream {X = X} (Err (fault_of_unread u))) ≡ failed_reads {X = X} (Err (plain u))
+unread_reads (answers.Refused reads.Memory) = refl
+unread_reads (answers.Refused e) = refl
+unread_reads {X} (answers.Stream f) = ap (λ r. failed_reads {X = X} r) (same_stream f)
+
+pub unread_writes : {X : Type 0} (u : Unread) → failed_writes (as_stream {X = X} (Err (fault_of_unread u))) ≡ failed_writes {X = X} (Err (plain u))
+unread_writes (answers.Refused reads.Memory) = refl
+unread_writes (answers.Refused e) = refl
+unread_writes {X} (answers.Stream f) = ap (λ r. failed_writes {X = X} r) (same_stream f)
+
+pub unread_named : (P : ReadFault → Type 0) (u : Unread) → IfRefusedAs u P → IfNamed (fault_of_unread u) P
+unread_named P (answers.Refused reads.Memory) named = tt
+unread_named P (answers.Refused e) named = named
+unread_named P (answers.Stream faults.Memory) named = tt
+unread_named P (answers.Stream f) named = tt
 
 -- ---- a project that is refused
 pub project_outside : (left : Option (List ℕ)) (project : List ℕ) (range : FrameRange) (e : Fault) → (e ≡ fault.Memory) ⊎ (decimator_of_text project ≡ Err e) → OnlyFromOutside left project range e
@@ -166,6 +221,10 @@ project_stream (fault.Project f) is = refl
 project_stream fault.NoDecimation is = refl
 project_stream fault.Memory is = refl
 project_stream e is = absurd is
+
+pub project_named : (P : ReadFault → Type 0) (e : Fault) → IsOfDecimator e → IfNamed e P
+project_named P (fault.FileRefused f) is = absurd is
+project_named P e is = tt
 
 pub project_turns : {X : Type 0} (e : Fault) → IsOfDecimator e → IsErrOf {T = X} (Err e) (fault.Stream faults.TurnLimit) → ⊥
 project_turns e of is = let same = sym (project_stream e of) ∙ ap as_stream is in absurd cc

@@ -1,23 +1,26 @@
 -- What is played from a reader to a writer, and which faults apply.
-use Rattle.std.specs.Prelude.{◌≡◌, ℕ, ◌-◌, ◌%◌, ◌<◌, ◌⊎◌, List, Option, Some, IfSome, ⊤}
+use Rattle.std.specs.Prelude.{◌≡◌, ℕ, ◌-◌, ◌%◌, ◌<◌, ◌⊎◌, List, Option, Some, IfSome, Err, ⊤}
 use Rattle.dsd_bits.specs.Contents.{Content}
 use Rattle.dsd_bits.specs.declared.sound.Sound.{Sound}
 use Rattle.fir_core.specs.Decimator.{Decimator}
 use Rattle.wave_core.specs.Texts.{wave_text}
 use Rattle.form_core.specs.declared.form.Form.{Form}
 use Rattle.form_core.specs.Forms.{HoldsAs}
+use Rattle.form_core.specs.Opening.{opened_of}
 use Rattle.form_core.specs.Steps.{FailsUnless}
 use Rattle.sound_core.specs.Faults as streams
 use Rattle.sound_core.specs.Files.{LeadsToSound}
+use Rattle.sound_core.specs.Naming.{IfRefusedAs, IsExactUnless, plain}
 use Rattle.sound_core.specs.Sinks.{sound_given}
+use Rattle.sound_core.specs.declared.fault.Unread.{Unread}
 use Rattle.player_core.specs.Frames.{frame_count}
 use Rattle.player_core.specs.Pace.{WritesFrames}
-use Rattle.player_core.specs.Playing.{Applies, range_pcm}
+use Rattle.player_core.specs.Playing.{Applies, IsLackedBySome, range_pcm}
 use Rattle.player_core.specs.Ranges.{IsInside}
 use Rattle.player_core.specs.declared.range.FrameRange.{FrameRange}
 use Rattle.request_core.specs.declared.fault.Fault.{Fault}
 use Rattle.request_core.specs.declared.fault.Fault.TheVariants.{Project, NoDecimation, Memory}
-use Rattle.request_core.specs.Faults.{OfStream}
+use Rattle.request_core.specs.Faults.{OfStream, OfUnread}
 use Rattle.request_core.specs.Projects.{SaysDecimator, decimator_of_text}
 
 -- the frames from one on, up to another that is not among them
@@ -46,9 +49,16 @@ abbrev pub KeepsUp : Option (List ℕ) → List ℕ → FrameRange → ℕ → O
 KeepsUp left project range given held_old held_new = IfSome left (λ file. (bytes : List ℕ) (s : Sound) (plays : PlaysRange project range file bytes) → LeadsToSound file s → 131072 < sound_given s given
     → WritesFrames plays.decimator s range (sound_given s given - 131072) bytes held_old held_new)
 
--- this fault applies: it is the first of the project and its decimator, or applies to a file that is played by that
+-- an answer is right for a reader's file, if that is known: its fault applies, and one that is named is the file's first;
+-- none is missing, but where a sound may lack frames of the range
+pub record UnreadApplies (left : Option (List ℕ)) (d : Decimator) (range : FrameRange) (u : Unread) : Type 0 where
+  pub applies : IfSome left (λ file. Applies d range file (plain u))
+  pub first : IfSome left (λ file. IfRefusedAs u (λ fault. opened_of file ≡ Err fault))
+  pub exact : IsExactUnless (IsLackedBySome d range) u
+
+-- this fault applies: it is the first of the project and its decimator, or is right for a file that is played by that
 abbrev pub StreamApplies : Option (List ℕ) → List ℕ → FrameRange → Fault → Type 0
-StreamApplies left project range fault = FailsUnless Memory fault (decimator_of_text project) ⊎ OfStream (λ f. IfSome left (λ file. (d : Decimator) × SaysDecimator project d × Applies d range file f)) fault
+StreamApplies left project range fault = FailsUnless Memory fault (decimator_of_text project) ⊎ ((d : Decimator) × SaysDecimator project d × OfUnread (UnreadApplies left d range) fault)
 
 -- a fault that comes before the first write
 abbrev pub FailsBeforeWriting : Fault → Type 0

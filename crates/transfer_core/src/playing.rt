@@ -4,8 +4,9 @@ ghost use Rattle.std.specs.Prelude.{◌≡◌, ◌+◌, ◌-◌, ◌<◌, ◌≤
 ghost use Rattle.chunk_core.specs.Inlets.{inlet_failures, inlet_reads};
 ghost use Rattle.chunk_core.specs.Outlets.{outlet_failures};
 ghost use Rattle.sound_core.specs.Faults.{StopsReading, failed_reads, failed_writes};
+ghost use Rattle.sound_core.specs.Naming.{NamesFault};
 ghost use Rattle.transfer_core.specs.Ends.{AreSpent, LagsLittle, PlaysAll, PlaysRead, Starts, WritesNothing, left_in};
-ghost use Rattle.request_core.specs.Faults.{OfStream, as_stream};
+ghost use Rattle.request_core.specs.Faults.{IfNamed, OfStream, as_stream};
 ghost use Rattle.transfer_core.specs.Laws.{WholePlays};
 ghost use Rattle.transfer_core.specs.Playing.{Plays, played_of};
 ghost use Rattle.form_core.specs.Steps.{GivesUnless};
@@ -51,7 +52,9 @@ pub fn play(alloc: Global, project: &[u8], file: &[u8]) -> Result<Vec<u8>, Fault
 /// Refusals:
 ///
 /// - `Project`, `NoDecimation`, before the first read;
-/// - `FileRefused` if the bytes are neither a DSDIFF nor a DSF file that holds a recording with these frames;
+/// - `FileRefused` with the fault that [`form_core::read_any`] answers, for bytes that are neither a DSDIFF nor a DSF
+///   file that holds a recording (as much more of them is read as tells it);
+/// - `Stream` with `FileRefused` if the recording lacks these frames;
 /// - `RateNotDivided`, `TooLarge`, before the first write;
 /// - `ReadFailed`, `WriteFailed`;
 /// - `TurnLimit` after `2^40` reads (there are never more, whatever is returned), or at once if the inlet had counted
@@ -87,6 +90,8 @@ pub fn play_stream<R: Read, W: Write>(
         → LagsLittle R.remaining inlet.old inlet.new project.now range W.contents outlet.old outlet.new) }
     // A fault that is returned is true.
     ensures refused { IfErr result (StreamApplies (left_in R.remaining inlet.old) project.now range) }
+    // The first fault of what was read, and of the reader's file.
+    ensures named { IfErr result (λ fault. IfNamed fault (NamesFault R.remaining inlet.old inlet.new)) }
     ensures read_failed { inlet_failures inlet.new ≡ inlet_failures inlet.old + failed_reads (as_stream result) }
     ensures write_failed { outlet_failures outlet.new ≡ outlet_failures outlet.old + failed_writes (as_stream result) }
     // Whatever is returned, there were at most 2^40 reads.

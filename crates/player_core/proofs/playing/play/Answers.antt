@@ -3,7 +3,8 @@ use Rattle.std.proofs.lemmas.Result.{IfErr-weaker}
 use Rattle.chunk_core.specs.Inlets.{inlet_given, inlet_reader}
 use Rattle.chunk_core.specs.Outlets.{outlet_failures, outlet_writer}
 use Rattle.player_core.specs.Pace.{PlayFails}
-use Rattle.player_core.specs.Playing.{PlaysBy, PlaysFile, PlaysGiven}
+use Rattle.player_core.specs.Playing.{IsLackedBySome, PlaysBy, PlaysFile, PlaysGiven}
+use Rattle.sound_core.specs.Naming.{IsExactUnless, plain}
 use Rattle.sound_core.specs.Readers.{CanFail, RunsOut}
 use Rattle.player_core.proofs.FaultLaws.{of_err, writes_are}
 use Rattle.player_core.proofs.PlayLaws.{only_outside}
@@ -24,11 +25,11 @@ returns g c =
     let given = inlet_given c.play_file.new.inlet - inlet_given c.args.inlet.now in
     let r = c.play_file.result in
     let made = c.new-sink.result in
-    let fails : IfErr r (PlayFails held left c.args.taps.now c.args.range given c.args.outlet.now end)
-    = subst (λ d. IfErr r (PlayFails held left d c.args.range given c.args.outlet.now end)) taps
-    (subst (λ m. IfErr r (PlayFails held left made.taps.now m given c.args.outlet.now end)) range
-    (subst (λ i. IfErr r (PlayFails held left made.taps.now made.range given i end)) was
-    (subst (λ j. IfErr r (PlayFails held left made.taps.now made.range given made.outlet.now j)) is c.play_file.ensures.fault))) in
+    let fails : IfErr r (λ u. PlayFails held left c.args.taps.now c.args.range given c.args.outlet.now end (plain u))
+    = subst (λ d. IfErr r (λ u. PlayFails held left d c.args.range given c.args.outlet.now end (plain u))) taps
+    (subst (λ m. IfErr r (λ u. PlayFails held left made.taps.now m given c.args.outlet.now end (plain u))) range
+    (subst (λ i. IfErr r (λ u. PlayFails held left made.taps.now made.range given i end (plain u))) was
+    (subst (λ j. IfErr r (λ u. PlayFails held left made.taps.now made.range given made.outlet.now j (plain u))) is c.play_file.ensures.fault))) in
     record {
       ok = subst (λ d. IfOk r (PlaysFile left (PlaysBy d c.args.range) (held (outlet_writer c.args.outlet.now)) (held (outlet_writer end)))) taps
           (subst (λ m. IfOk r (PlaysFile left (PlaysBy made.taps.now m) (held (outlet_writer c.args.outlet.now)) (held (outlet_writer end)))) range
@@ -38,13 +39,15 @@ returns g c =
           (subst (λ m. IfOk r (PlaysGiven g.R.Read.remaining c.args.inlet.now c.play_file.new.inlet (PlaysBy made.taps.now m) (held (outlet_writer c.args.outlet.now)) (held (outlet_writer end)))) range
           (subst (λ i. IfOk r (PlaysGiven g.R.Read.remaining c.args.inlet.now c.play_file.new.inlet (PlaysBy made.taps.now made.range) (held (outlet_writer i)) (held (outlet_writer end)))) was
           (subst (λ j. IfOk r (PlaysGiven g.R.Read.remaining c.args.inlet.now c.play_file.new.inlet (PlaysBy made.taps.now made.range) (held (outlet_writer made.outlet.now)) (held (outlet_writer j)))) is c.play_file.ensures.any_reader)));
-      fault = IfErr-weaker r _ _ (λ f h. h.fault) fails;
-      cause = IfErr-weaker r _ _ (λ f h. only_outside c.part_is_played.ensures c.args.taps.now c.keeps_limits.ensures.least_factor c.args.range left f h.fault) fails;
-      unwritten = IfErr-weaker r _ _ (λ f h. h.unwritten) fails;
-      prefix = of_err r _ _ (λ f h. h.prefix) fails;
-      keeps_up = IfErr-weaker r _ _ (λ f h. h.keeps_up) fails;
+      fault = IfErr-weaker r _ _ (λ u h. h.fault) fails;
+      cause = IfErr-weaker r _ _ (λ u h. only_outside c.part_is_played.ensures c.args.taps.now c.keeps_limits.ensures.least_factor c.args.range left (plain u) h.fault) fails;
+      named = c.play_file.ensures.named;
+      exact = subst (λ d. IfErr r (IsExactUnless (IsLackedBySome d c.args.range))) taps (subst (λ m. IfErr r (IsExactUnless (IsLackedBySome made.taps.now m))) range c.play_file.ensures.exact);
+      unwritten = IfErr-weaker r _ _ (λ u h. h.unwritten) fails;
+      prefix = of_err r _ _ (λ u h. h.prefix) fails;
+      keeps_up = IfErr-weaker r _ _ (λ u h. h.keeps_up) fails;
       read_failed = c.play_file.ensures.read_failed;
-      write_failed = writes_are r _ _ (subst (λ i. OnOk r (outlet_failures end ≡ outlet_failures i)) was (subst (λ j. OnOk r (outlet_failures j ≡ outlet_failures made.outlet.now)) is c.play_file.ensures.failures)) (IfErr-weaker r _ _ (λ f h. h.failures) fails);
+      write_failed = writes_are r _ _ (subst (λ i. OnOk r (outlet_failures end ≡ outlet_failures i)) was (subst (λ j. OnOk r (outlet_failures j ≡ outlet_failures made.outlet.now)) is c.play_file.ensures.failures)) (IfErr-weaker r _ _ (λ u h. h.failures) fails);
       reads = c.play_file.ensures.reads;
-      turn_limit = λ is. subst (λ o. (CanFail o → ⊥) ⊎ RunsOut c.args.inlet.now c.play_file.new.inlet) was (c.play_file.ensures.turn_limit is);
+      turn_limit = IfErr-weaker r _ _ (λ u h is. subst (λ o. (CanFail o → ⊥) ⊎ RunsOut c.args.inlet.now c.play_file.new.inlet) was (h is)) c.play_file.ensures.turn_limit;
     }

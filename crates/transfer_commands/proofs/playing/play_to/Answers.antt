@@ -4,7 +4,7 @@ use Rattle.folder_core.specs.Files.{IsGiven, View}
 use Rattle.folder_core.proofs.FileLaws.{given_up, not_kept}
 use Rattle.transfer_commands.specs.Playing.{PlayedComesTo, StopsRange, WritesRange, left_in}
 use Rattle.transfer_commands.specs.declared.fault.CommandFault.TheVariants.{Call, WriteFailed}
-use Rattle.transfer_commands.proofs.PlayLaws.{ended, played}
+use Rattle.transfer_commands.proofs.PlayLaws.{ended, named_read, played}
 use Rattle.transfer_commands.proofs.playing.play_to.Goals as goal
 
 pub returns-in_default : goal.returns-in_default
@@ -55,5 +55,6 @@ returns-in-Err g c = λ input given.
           let file = given_then reported in
           let stays = given_up c.args.output.now old new (is_ok c.play_source-played.result.0) written c.hand_back-handed.result in_part c.hand_back-handed.ensures.whole c.hand_back-handed.ensures.refused reported in
           (file.0, file.1, ended project range c.args.output.now old new left held written stays fault stops file.0 file.2 (empty reported))),
+      named_read old input left fault given_then stops.named,
       c.hand_back-handed.ensures.others,
     )

@@ -4,7 +4,8 @@ use Rattle.chunk_core.specs.Outlets.{outlet_writer}
 use Rattle.sound_core.specs.Faults.{StopsReading}
 use Rattle.player_core.proofs.PlayLaws.{none_prefix}
 use Rattle.transfer_core.specs.Streaming.{PlaysRange}
-use Rattle.transfer_core.proofs.StreamLaws.{answered, before_writing, fault_is, keeps_up, of_stream, only_outside, plays_file, plays_given, project_keeps_up, project_outside, project_stream, project_turns, same_stream, stands, stream_turns, writes_prefix}
+use Rattle.sound_core.specs.Naming.{NamesFault}
+use Rattle.transfer_core.proofs.StreamLaws.{answered, fault_is, keeps_up, of_unread, only_outside, plays_file, plays_given, project_keeps_up, project_named, project_outside, project_stream, project_turns, stands, unread_before, unread_named, unread_reads, unread_turns, unread_writes, writes_prefix}
 use Rattle.transfer_core.proofs.playing.play_stream.Goals as goal
 
 pub returns-in_err-taps : goal.returns-in_err-taps
@@ -21,6 +22,7 @@ returns-in_err-taps g c =
       prefix = none_prefix left (PlaysRange p c.args.range) before;
       keeps_up = project_keeps_up left before before p c.args.range _ f s.cause;
       refused = inl s.exact;
+      named = project_named (NamesFault g.R.Read.remaining c.args.inlet.now c.args.inlet.now) f s.cause;
       read_failed = rw (project_stream f s.cause) (sym (add-zero _));
       write_failed = rw (project_stream f s.cause) (sym (add-zero _));
       reads = omega arith;
@@ -36,21 +38,22 @@ returns-in_err-play g c =
     let p = c.args.project.now in
     let after = g.W.Write.contents (outlet_writer c.play.new.outlet) in
     let taps = c.in_ok-taps.taps in
-    let f = c.in_err-play.field-0.0 in
+    let u = c.in_err-play.field-0.0 in
     let s = c.in_err-play.ensures in
     rw (fault_is c.from_residual-in_err-play.result _ c.from_residual-in_err-play.ensures.1) (record {
       ok = tt;
       any_reader = tt;
-      cause = only_outside p c.args.range taps c.in_ok-taps.ensures.exact left f s.cause;
+      cause = only_outside p c.args.range taps c.in_ok-taps.ensures.exact left u s.cause;
       prefix = writes_prefix p c.args.range taps c.in_ok-taps.ensures.exact left before after s.prefix;
-      keeps_up = λ stop. keeps_up p c.args.range taps c.in_ok-taps.ensures.exact left before after _ (s.keeps_up (of_stream StopsReading f stop));
-      refused = stands p c.args.range taps c.in_ok-taps.ensures.found left f s.fault;
-      read_failed = rw (same_stream f) s.read_failed;
-      write_failed = rw (same_stream f) s.write_failed;
+      keeps_up = λ stop. keeps_up p c.args.range taps c.in_ok-taps.ensures.exact left before after _ (s.keeps_up (of_unread StopsReading (λ none. none) u stop));
+      refused = stands p c.args.range taps c.in_ok-taps.ensures.found g.R.Read.remaining c.args.inlet.now c.play.new.inlet u s.fault s.named s.exact;
+      named = unread_named (NamesFault g.R.Read.remaining c.args.inlet.now c.play.new.inlet) u s.named;
+      read_failed = rw (unread_reads u) s.read_failed;
+      write_failed = rw (unread_writes u) s.write_failed;
       reads = c.play.ensures.reads;
-      turn_limit = λ is. s.turn_limit (stream_turns f is);
+      turn_limit = λ is. s.turn_limit (unread_turns u is);
       unread = λ none. absurd (none taps c.in_ok-taps.ensures.found);
-      unwritten = λ early. s.unwritten (before_writing f early);
+      unwritten = λ early. s.unwritten (unread_before u early);
     })
 
 pub returns : goal.returns
@@ -61,6 +64,7 @@ returns g c = record {
   prefix = tt;
   keeps_up = tt;
   refused = tt;
+  named = tt;
   read_failed = c.in_ok-play.ensures.read_failed;
   write_failed = c.in_ok-play.ensures.write_failed;
   reads = c.play.ensures.reads;

@@ -2,7 +2,7 @@
 
 use crate::line::Line;
 use crate::line::Part::Named;
-use crate::opening::{input_of, project_of};
+use crate::opening::{File, input_of, project_of};
 use crate::recordings::{CERTIFICATE, RECORDING};
 use cut_core::CutFault;
 use ended_core::{Ended, Explain, Explanation, Summed};
@@ -92,10 +92,8 @@ impl<R: Files + Env + AllocGlobal> Line<'_, R> {
         match (fault, input_of(task), project_of(task)) {
             (Fault::Memory, None, _) => self.push(CUT_MEMORY),
             (Fault::Memory, Some(_), _) => self.push(MEMORY),
-            (Fault::FileUnread(why) | Fault::FileRefused(why), Some((name, word)), _) => {
-                self.say("{0}: ", &[Named(name, word)]);
-                self.explain_file(name, why);
-            }
+            (Fault::FileUnread(why), Some(file), _) => self.explain_input(file, why),
+            (Fault::FileRefused(why), Some(file), _) => self.explain_input(file, why),
             (Fault::NotWholeBytes, Some((name, _)), _) => self.explain_rest(name),
             (Fault::Stream(fault), Some((input, word)), Some(project)) => match (task, fault) {
                 (Task::PlayPart { .. }, StreamFault::TooLarge) => {
@@ -106,6 +104,12 @@ impl<R: Files + Env + AllocGlobal> Line<'_, R> {
             (_, _, Some(project)) => self.explain_in_project(project, fault),
             _ => {}
         }
+    }
+
+    // Adds why an input is no recording, for this fault.
+    fn explain_input(&mut self, (name, word): File, why: ReadFault) {
+        self.say("{0}: ", &[Named(name, word)]);
+        self.explain_file(name, why);
     }
 
     fn explain_in_project(&mut self, project: &str, fault: Fault) {

@@ -1,4 +1,4 @@
-use Rattle.std.proofs.Common.{Err, Ok, arith, inl, subst}
+use Rattle.std.proofs.Common.{Err, Ok, arith, inl, inr, subst}
 use Rattle.chunk_core.specs.Inlets.{inlet_given, inlet_reader}
 use Rattle.sound_core.specs.Faults.{IsWritingFault}
 use Rattle.sound_core.specs.Naming.{plain}
@@ -36,6 +36,9 @@ returns-in_err-outline-clause-exact g c =
     rw (fault_is c.from_residual.result _ c.from_residual.ensures.1)
     (lacked g.W.Write.contents c.args.sink.now c.read_named.new.sink c.in_err-outline.field-0.0 c.in_err-outline.ensures.exact)
 
+pub returns-in_err-outline-clause-turn_limit : goal.returns-in_err-outline-clause-turn_limit
+returns-in_err-outline-clause-turn_limit g c = rw (fault_is c.from_residual.result _ c.from_residual.ensures.1) (λ is. inr (c.in_err-outline.ensures.turn_limit is))
+
 pub returns-in-Ok : goal.returns-in-Ok
 returns-in-Ok g c =
     let old = c.args.sink.now in
@@ -66,8 +69,8 @@ returns-in-Ok g c =
       turn_limit = tt;
     }
 
-pub returns-in-Err : goal.returns-in-Err
-returns-in-Err g c =
+pub returns : goal.returns
+returns g c =
     let old = c.args.sink.now in
     let mid = c.read_named.new.sink in
     let new = c.finish.new.sink in

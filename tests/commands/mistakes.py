@@ -577,6 +577,13 @@ REJECTED = (
     (splice([1, 1]), b"", FREE, "MasterUnread", "m.dff (MASTER): it is empty"),
     (
         splice([1, 1]),
+        FILE[:126],
+        FREE,
+        "MasterUnread",
+        "m.dff (MASTER): the file ends 2 bytes early, at byte 126: fetch it again",
+    ),
+    (
+        splice([1, 1]),
         mono(b"\xff\x80"),
         FREE,
         "Cert 0 Cost",

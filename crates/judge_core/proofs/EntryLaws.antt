@@ -156,9 +156,9 @@ module _ (cut : CutContent) (zs : List (List Bool)) where
         )
 
     pub entries_rejected : CertIsRead → (d : Option (List ℕ)) (reason : Reason) → JudgesClaims v (claims cut zs) b d (Rejected reason) → JudgesCert cut zs a (Rejected reason)
-    entries_rejected law d MasterUnread w = absurd w
-    entries_rejected law d MasterShape w = absurd w
-    entries_rejected law d MasterLength w = absurd w
+    entries_rejected law d (MasterUnread fault) w = absurd w
+    entries_rejected law d (MasterShape found wanted) w = absurd w
+    entries_rejected law d (MasterLength found wanted) w = absurd w
     entries_rejected law d MasterMarks w = absurd w
     entries_rejected law d (CuedBit c place) w = absurd w
     entries_rejected law d (CertHead reason) w = absurd w

@@ -14,7 +14,7 @@ use Rattle.judge_core.specs.declared.finding.Found.{Found}
 use Rattle.request_core.specs.declared.reason.Reason.{Reason}
 use Rattle.request_core.specs.declared.reason.Reason.TheVariants.{MasterUnread, MasterShape, MasterLength, MasterMarks, CuedBit, CertHead, Cert, CertExtra}
 use Rattle.cut_core.specs.Masters.{HaveShape, HoldCues, IsMasterOf, channel_numbers}
-use Rattle.judge_core.specs.Checking.{IsLike, MasterReason, OuterReason}
+use Rattle.judge_core.specs.Checking.{IsLike, MasterReason, OuterReason, shape_of}
 use Rattle.cut_core.specs.Claims.{bridge_bits}
 use Rattle.judge_core.specs.Kept.{AreKept, FindsCued, IsFoundOf, bridges_kept, kept_at, kept_items}
 use Rattle.cut_core.proofs.TotalLaws.{own_long}
@@ -27,14 +27,17 @@ module _ (cut : CutContent) (form : Form) (q r : Content) (count : ℕ) (rate : 
   back : AreAlike cut.first r → AreAlike cut.first q
   back a = record { same_rate = rate ∙ a.same_rate; as_many_channels = many ∙ a.as_many_channels }
 
+  same_shape : shape_of q ≡ shape_of r
+  same_shape = λ j. record { rate = rate j; channels = many j }
+
   pub like_whole : IsLike cut form q count → IsLike cut form r (count_of r.channels)
   like_whole like = record { shape = alike like.shape; long = sym count_is ∙ like.long; titled = λ dsdiff. sym marks ∙ like.titled dsdiff }
 
   pub reason_whole : (x : Reason) → OuterReason cut form q count x → MasterReason cut form r x
-  reason_whole MasterShape h = λ a. h (back a)
-  reason_whole MasterLength h = (alike h.0, λ e. h.1 (count_is ∙ e))
+  reason_whole (MasterShape found wanted) h = (λ a. h.0 (back a), h.1 ∙ same_shape, h.2)
+  reason_whole (MasterLength found wanted) h = (alike h.0, λ e. h.1 (count_is ∙ e), h.2 ∙ count_is, h.3)
   reason_whole MasterMarks h = (alike h.0, sym count_is ∙ h.1, h.2, λ e. h.3 (marks ∙ e))
-  reason_whole MasterUnread h = absurd h
+  reason_whole (MasterUnread fault) h = absurd h
   reason_whole (CuedBit c place) h = absurd h
   reason_whole (CertHead reason) h = absurd h
   reason_whole (Cert k reason) h = absurd h

@@ -32,13 +32,13 @@ use Rattle.cut_core.proofs.TotalLaws.{own_lengths, own_long, windows_are_total}
 
 -- ---- a reason against a master
 pub reason_against : (cut : CutContent) (form : Form) (r : Content) (reason : Reason) → MasterReason cut form r reason → IsMasterOf cut form r → ⊥
-reason_against cut form r MasterShape h is = h is.shape
-reason_against cut form r MasterLength h is = h.1 is.long
+reason_against cut form r (MasterShape found wanted) h is = h.0 is.shape
+reason_against cut form r (MasterLength found wanted) h is = h.1 is.long
 reason_against cut form r MasterMarks h is = h.3 (is.titled h.2)
 reason_against cut form r (CuedBit c place) h is =
     let same = zip_number (λ k z. z ≡ rebuilt cut k z) (take_channels cut) r.channels c [] is.cued (omega (arith, h.3.there, is.shape.as_many_channels)) in
     h.3.differs.differs (ap (λ (l : List Bool). get_or l place false) same)
-reason_against cut form r MasterUnread h is = h
+reason_against cut form r (MasterUnread fault) h is = h
 reason_against cut form r (CertHead reason) h is = h
 reason_against cut form r (Cert k reason) h is = h
 reason_against cut form r CertExtra h is = h

@@ -3,6 +3,7 @@ use Rattle.std.specs.Prelude.{◌≡◌, ℕ, ◌⊎◌, List, MatchResult, None
 use Rattle.dsd_bits.specs.Contents.{Content}
 use Rattle.form_core.specs.declared.form.Form.{Form}
 use Rattle.form_core.specs.Forms.{HoldsAs}
+use Rattle.form_core.specs.declared.fault.ReadFault.{ReadFault}
 use Rattle.cert_core.specs.Readers.{IfLeft}
 use Rattle.cert_core.specs.declared.reader.CertReader.{CertReader}
 use Rattle.cert_core.specs.declared.verdict.CheckFault.{CheckFault}
@@ -15,7 +16,7 @@ use Rattle.judge_core.specs.declared.verdict.Verdict.TheVariants.{Accepted, Reje
 use Rattle.cut_core.specs.Masters.{IsMasterOf, IsTitled, AreLeastChannels, AreMasterChannels, CostLeast, total_cost}
 use Rattle.judge_core.specs.Checking.{IsFirstAgainst}
 use Rattle.cut_core.specs.Claims.{IsCertOf, windows_total}
-use Rattle.judge_core.specs.Finding.{HoldsNothing, IsFoundHeld, IsFoundIn}
+use Rattle.judge_core.specs.Finding.{IsFoundHeld, IsFoundIn, IsRefusedFor}
 use Rattle.judge_core.specs.declared.finding.Found.{Found}
 use Rattle.sound_core.specs.declared.fault.StreamFault.TheVariants.{ReadFailed}
 use Rattle.request_core.specs.declared.fault.Fault.{Fault}
@@ -76,12 +77,12 @@ pub record CostsWindows (project : List ℕ) (files : List (List ℕ)) (file : L
   pub file_holds : HoldsAs file form recording
   pub cost_is : cost ≡ windows_total cut recording.channels
 
--- there is a cut, and this is the first reason against the master: the file isn't of any form, or something is wrong
--- with its recording or its certificate
+-- there is a cut, and this is the first reason against the master: the file isn't of any form, for this fault, its
+-- first; or something is wrong with its recording or its certificate
 pub record RejectsFirst (project : List ℕ) (files : List (List ℕ)) (master cert : List ℕ) (reason : Reason) : Type 0 where
   pub cut : CutContent
   pub says : SaysCut project files None cut
-  pub stands : ((reason ≡ MasterUnread) × HoldsNothing master)
+  pub stands : ((fault : ReadFault) × (reason ≡ MasterUnread fault) × IsRefusedFor master fault)
       ⊎ ((form : Form) × (r : Content) × HoldsAs master form r × IsFirstAgainst cut form r cert reason)
 
 -- P holds of the cost, if the master was accepted
@@ -120,11 +121,12 @@ AcceptsAny project files master cert result = (cost : ℕ) → Accepts project f
 
 -- ---- a call that is given the cut, what was found of the master's file, and a reader of the certificate
 -- if the call accepts, P holds of each project, files and master's file that these are of, and of the cost
-abbrev pub OnAccepted : CutContent → Option Found → Result Verdict Fault → (List ℕ → List (List ℕ) → List ℕ → ℕ → Type 0) → Type 0
+abbrev pub OnAccepted : CutContent → Result Found ReadFault → Result Verdict Fault → (List ℕ → List (List ℕ) → List ℕ → ℕ → Type 0) → Type 0
 OnAccepted cut found result P = (project : List ℕ) (files : List (List ℕ)) (master : List ℕ) → IsFoundIn project files cut found master → IfMasterAccepted result (P project files master)
 
--- P holds of each project, files and master's file that these are of; if nothing was found, the file holds no recording
-abbrev pub ForEachHeld : CutContent → Option Found → (List ℕ → List (List ℕ) → List ℕ → Type 0) → Type 0
+-- P holds of each project, files and master's file that these are of; what was found is of the file's recording, or is
+-- its first fault
+abbrev pub ForEachHeld : CutContent → Result Found ReadFault → (List ℕ → List (List ℕ) → List ℕ → Type 0) → Type 0
 ForEachHeld cut found P = (project : List ℕ) (files : List (List ℕ)) (master : List ℕ) → SaysCut project files None cut → IsFoundHeld cut master found → P project files master
 
 -- the master is accepted at this cost with the certificate that the reader has left, if its bytes are known

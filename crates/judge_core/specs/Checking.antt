@@ -15,9 +15,14 @@ use Rattle.cert_core.specs.declared.verdict.CertReason.{CertReason}
 use Rattle.cut_core.specs.Cuts.{AreAlike, CutContent, master_length}
 use Rattle.cut_core.specs.Titles.{titles_of}
 use Rattle.request_core.specs.declared.reason.Reason.{Reason}
+use Rattle.request_core.specs.declared.reason.Shape.{Shape}
 use Rattle.request_core.specs.declared.reason.Reason.TheVariants.{MasterShape, MasterLength, MasterMarks, CuedBit, CertHead, Cert, CertExtra}
 use Rattle.cut_core.specs.Claims.{claims}
 use Rattle.cut_core.specs.Masters.{HoldCues, IsMasterOf, IsTitled, rebuilt}
+
+-- the rate and the number of channels of a recording
+abbrev pub shape_of : Content → Shape
+shape_of r = record { rate = r.rate; channels = length r.channels }
 
 -- what can be said without its bits: it is like the takes, has as many bits as a master, and the marks of the titles
 pub record IsLike (cut : CutContent) (form : Form) (r : Content) (count : ℕ) : Type 0 where
@@ -25,10 +30,11 @@ pub record IsLike (cut : CutContent) (form : Form) (r : Content) (count : ℕ) :
   pub long : count ≡ master_length cut.splice.cues
   pub titled : IsTitled cut form r
 
--- the first reason why a recording isn't like this
+-- the first reason why a recording isn't like this, with what it has and what the takes or the cues want
 abbrev pub OuterReason : CutContent → Form → Content → ℕ → Reason → Type 0
-OuterReason cut form r count MasterShape = AreAlike cut.first r → ⊥
-OuterReason cut form r count MasterLength = AreAlike cut.first r × (count ≢ master_length cut.splice.cues)
+OuterReason cut form r count (MasterShape found wanted) = (AreAlike cut.first r → ⊥) × (found ≡ shape_of r) × (wanted ≡ shape_of cut.first)
+OuterReason cut form r count (MasterLength found wanted) =
+    AreAlike cut.first r × (count ≢ master_length cut.splice.cues) × (found ≡ count) × (wanted ≡ master_length cut.splice.cues)
 OuterReason cut form r count MasterMarks = AreAlike cut.first r × (count ≡ master_length cut.splice.cues) × (form ≡ Dsdiff) × (r.marks ≢ titles_of cut)
 OuterReason cut form r count _ = ⊥
 
@@ -71,10 +77,12 @@ pub record HasMore (cut : CutContent) (zs : List (List Bool)) (cert : List ℕ) 
   pub some : 0 < length after
   pub goes_on : ShowsUpTo (length cut.splice.weights) (length (claims cut zs)) (claims cut zs) cert after
 
--- a recording isn't the master for this reason, and for none before it in the order: shape, length, marks, cued bits
+-- a recording isn't the master for this reason, and for none before it in the order: shape, length, marks, cued bits; of
+-- shape and length it tells what the recording has and what the takes or the cues want
 abbrev pub MasterReason : CutContent → Form → Content → Reason → Type 0
-MasterReason cut form r MasterShape = AreAlike cut.first r → ⊥
-MasterReason cut form r MasterLength = AreAlike cut.first r × (count_of r.channels ≢ master_length cut.splice.cues)
+MasterReason cut form r (MasterShape found wanted) = (AreAlike cut.first r → ⊥) × (found ≡ shape_of r) × (wanted ≡ shape_of cut.first)
+MasterReason cut form r (MasterLength found wanted) =
+    AreAlike cut.first r × (count_of r.channels ≢ master_length cut.splice.cues) × (found ≡ count_of r.channels) × (wanted ≡ master_length cut.splice.cues)
 MasterReason cut form r MasterMarks =
     AreAlike cut.first r × (count_of r.channels ≡ master_length cut.splice.cues) × (form ≡ Dsdiff) × (r.marks ≢ titles_of cut)
 MasterReason cut form r (CuedBit c place) =

@@ -1,8 +1,10 @@
 //! The file of a master, read once.
 
-ghost use Rattle.std.specs.Prelude.{◌≡◌, ◌+◌, ◌-◌, ◌<◌, ◌≤◌, ◌^◌, IfErr, IfOk, IsErrOf};
+ghost use Rattle.std.specs.Prelude.{◌≡◌, ◌+◌, ◌-◌, ◌<◌, ◌≤◌, ◌^◌, IfErr, IfOk};
 ghost use Rattle.chunk_core.specs.Inlets.{inlet_failures, inlet_reader, inlet_reads};
+ghost use Rattle.form_core.specs.Steps.{map_err};
 ghost use Rattle.sound_core.specs.Faults.{failed_reads};
+ghost use Rattle.sound_core.specs.Naming.{IfRefusedAs, IsExact, NamesFault, plain};
 ghost use Rattle.sound_core.specs.Outlines.{IsOutlineFault};
 ghost use Rattle.sound_core.specs.Readers.{RunsOut};
 ghost use Rattle.judge_core.specs.Auditing.{AuditsFile, AuditsGiven};
@@ -14,7 +16,7 @@ use chunk_core::Inlet;
 use cut_core::Cut;
 use dsd_bits::Bits;
 use form_core::has_shape;
-use sound_core::{Outline, StreamFault, read_into};
+use sound_core::{Outline, StreamFault, Unread, read_named};
 use std::alloc::Global;
 use std::io::Read;
 
@@ -34,26 +36,30 @@ pub(crate) struct Audited {
 /// verdict by the cut needs: the first bit that isn't that of the cue there, and the bits of the bridges. Besides
 /// these, at most three blocks of 65,536 bytes of the sound are held at a time, and the channels of one.
 ///
-/// Refusals: `FileRefused` if the bytes are neither a DSDIFF nor a DSF file that holds a recording; `ReadFailed`;
-/// `TurnLimit` as for `read_outline` (there are never more than `2^40` reads, whatever is returned); `Memory`.
+/// Refusals: those of `read_outline`.
 pub(crate) fn audit<R: Read>(
     alloc: Global,
     cut: &Cut,
     inlet: &mut Inlet<R>,
-) -> Result<Audited, StreamFault>
+) -> Result<Audited, Unread>
     // The reader's file is the outline with some sound, and this was found in the recording that it holds.
     ensures ok { IfOk result (AuditsFile (R.remaining (inlet_reader inlet.old)) cut.now) }
     // The same of the bytes that were read, if the reader's bytes aren't known.
     ensures any_reader { IfOk result (AuditsGiven R.remaining inlet.old inlet.new cut.now) }
-    ensures fault { IfErr result (IsOutlineFault (R.remaining (inlet_reader inlet.old))) }
-    ensures read_failed { inlet_failures inlet.new ≡ inlet_failures inlet.old + failed_reads result }
+    // The first fault of what was read, and of the reader's file.
+    ensures named { IfErr result (λ u. IfRefusedAs u (NamesFault R.remaining inlet.old inlet.new)) }
+    ensures exact { IfErr result IsExact }
+    ensures fault { IfErr result (λ u. IsOutlineFault (R.remaining (inlet_reader inlet.old)) (plain u)) }
+    ensures read_failed { inlet_failures inlet.new ≡ inlet_failures inlet.old + failed_reads (map_err plain result) }
     // Whatever is returned, there were at most 2^40 reads.
     ensures reads { inlet_reads inlet.new ≤ inlet_reads inlet.old + 2 ^ 40 }
-    ensures turn_limit { IsErrOf result StreamFault.TurnLimit → RunsOut inlet.old inlet.new }
+    ensures turn_limit { IfErr result (λ u. plain u ≡ StreamFault.TurnLimit → RunsOut inlet.old inlet.new) }
 {
-    let ranges = bridge_ranges(alloc, cut)?;
+    let Ok(ranges) = bridge_ranges(alloc, cut) else {
+        return Err(Unread::Stream(StreamFault::Memory));
+    };
     let mut auditor = Auditor::new(alloc, cut, &ranges);
-    match read_into(alloc, inlet, &mut auditor) {
+    match read_named(alloc, inlet, &mut auditor) {
         Ok(outline) => {
             has_shape(&outline.recording);
             let differs = lowest_off(cut, &auditor.firsts);

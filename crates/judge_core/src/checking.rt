@@ -16,6 +16,7 @@ use crate::verdict::Verdict;
 use cert_core::{CertReader, CheckFault};
 use chunk_core::Inlet;
 use cut_core::Cut;
+use form_core::ReadFault;
 use request_core::{Fault, Reason, cut_files};
 use sound_core::StreamFault;
 use std::alloc::Global;
@@ -26,8 +27,9 @@ use std::io::Read;
 /// No master of the project and the takes has a smaller total.
 ///
 /// `takes` are the files of the takes in the order of their numbers, `master` a DSDIFF or DSF file, `cert` a
-/// certificate. A rejection has the first reason in this order: `MasterUnread`, `MasterShape` (another sample rate or
-/// number of channels than the takes), `MasterLength`, `MasterMarks` (a DSDIFF file whose marks aren't those of the
+/// certificate. A rejection has the first reason in this order: `MasterUnread` with the file's first fault, which
+/// [`read_any`](form_core::read_any) answers too, `MasterShape` (another sample rate or number of channels than the
+/// takes) and `MasterLength`, each with what the master has and what is wanted, `MasterMarks` (a DSDIFF file whose marks aren't those of the
 /// titles), `CuedBit` with the lowest such channel and place, `CertHead`, `Cert` with the first such entry,
 /// `CertExtra`. Refusals, in this order: `Project`, `NoSplice`, `TakeNumber`, `TakeUnread`, `TakeMismatch`,
 /// `CueOutside`, `MasterTooLong`, then by rising cue `NoRoomBefore` and `NoRoomAfter`. Whenever memory runs out it is
@@ -74,7 +76,7 @@ pub fn check(
 pub fn check_found<R: Read>(
     alloc: Global,
     cut: &Cut,
-    found: &Option<Found>,
+    found: &Result<Found, ReadFault>,
     cert: &mut CertReader<R>,
 ) -> Result<Verdict, Fault>
     requires ready { inlet_failures (cert_inlet cert.old) < 2 ^ 64 - 1 }
@@ -93,8 +95,9 @@ pub fn check_found<R: Read>(
     // `ReadFailed` is returned exactly if a read failed.
     ensures failures { check_failures cert.new ≡ check_failures cert.old + failed_reads (as_stream result) }
 {
-    let Some(found) = found else {
-        return Ok(Verdict::Rejected(Reason::MasterUnread));
+    let found = match found {
+        Ok(found) => found,
+        Err(fault) => return Ok(Verdict::Rejected(Reason::MasterUnread(*fault))),
     };
     match judge_found(alloc, cut, found, cert) {
         Ok(judged) => Ok(judged),

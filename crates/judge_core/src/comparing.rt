@@ -5,12 +5,12 @@ ghost use Rattle.dsd_bits.specs.Contents.{mark_content};
 ghost use Rattle.form_core.specs.declared.form.Form.TheVariants.{Dsdiff};
 ghost use Rattle.cut_core.specs.Titles.{titles_of};
 ghost use Rattle.cut_core.specs.Masters.{IsTitled};
-ghost use Rattle.judge_core.specs.Checking.{FindsOuterReason};
+ghost use Rattle.judge_core.specs.Checking.{FindsOuterReason, shape_of};
 
 use cut_core::{Cut, differ};
 use dsd_bits::{Mark, Recording};
 use form_core::Form;
-use request_core::Reason;
+use request_core::{Reason, Shape};
 use std::alloc::{AllocError, Global};
 
 /// The first reason why a recording isn't the master of the cut, among those that need none of its bits: its rate or
@@ -26,15 +26,30 @@ pub(crate) fn outer_reason(
     ensures { IfOk result (FindsOuterReason cut.now form recording.now count) }
 {
     if differ(cut.first(), recording) {
-        return Ok(Some(Reason::MasterShape));
+        let (found, wanted) = (shape_of(recording), shape_of(cut.first()));
+        return Ok(Some(Reason::MasterShape { found, wanted }));
     }
-    if count != cut.length() {
-        return Ok(Some(Reason::MasterLength));
+    let wanted = cut.length();
+    if count != wanted {
+        return Ok(Some(Reason::MasterLength {
+            found: count,
+            wanted,
+        }));
     }
     if !is_titled(alloc, cut, form, recording)? {
         return Ok(Some(Reason::MasterMarks));
     }
     Ok(None)
+}
+
+// The rate and the number of channels of a recording.
+fn shape_of(recording: &Recording) -> Shape
+    ensures { result ≡ shape_of recording.now }
+{
+    Shape {
+        rate: recording.rate(),
+        channels: recording.channels().len(),
+    }
 }
 
 // Whether the recording of a DSDIFF file has exactly the marks of the titles.

@@ -19,7 +19,7 @@
 //!   cost (`specs/Accepting.antt`).
 //! - `JudgesMaster cut form recording cert verdict`: what a verdict says (`specs/Judging.antt`).
 //! - `IsFoundOf cut found recording`: this was found of the recording, and kept of its bridges (`specs/Kept.antt`).
-//!   `IsFoundHeld cut file found` says that a file holds such a recording, or holds none if nothing was found
+//!   `IsFoundHeld cut file found` says that a file holds such a recording, or holds none for this fault, its first
 //!   (`specs/Finding.antt`).
 //!
 //! What follows from `Accepts`, whoever made master and certificate, is the law on [`accepted_is_least`].

@@ -12,14 +12,15 @@ use crate::auditing::{Audited, audit};
 use crate::finding::Found;
 use chunk_core::Inlet;
 use cut_core::Cut;
-use form_core::form_in;
-use sound_core::StreamFault;
+use form_core::{ReadFault, form_in};
+use sound_core::{StreamFault, Unread};
 use std::alloc::Global;
 use std::io::Read;
 
-/// What is found of the file of a master that is to be judged by a cut, or none if the file doesn't hold a recording.
-/// It is read once, as far as needed, as [`read_outline`](sound_core::read_outline) does. Besides what is found, at
-/// most three blocks of 65,536 bytes of the sound are held at a time, and the channels of one.
+/// What is found of the file of a master that is to be judged by a cut, or the first fault of a file that doesn't hold a
+/// recording, which [`read_any`](form_core::read_any) answers too. The file is read once, as far as needed, as
+/// [`read_outline`](sound_core::read_outline) does. Besides what is found, at most three blocks of 65,536 bytes of the
+/// sound are held at a time, and the channels of one.
 ///
 /// Refusals: `ReadFailed`; `TurnLimit` after `2^40` reads (there are never more, whatever is returned), or at once if the
 /// inlet had counted `2^63` reads or bytes, or as many failures as it can; `Memory`.
@@ -27,8 +28,8 @@ pub fn find_master<R: Read>(
     alloc: Global,
     cut: &Cut,
     inlet: &mut Inlet<R>,
-) -> Result<Option<Found>, StreamFault>
-    // It was found in the recording that the reader's file holds.
+) -> Result<Result<Found, ReadFault>, StreamFault>
+    // It was found in the recording that the reader's file holds, or is the file's first fault.
     ensures found { IfOk result (IsFoundLeft R.remaining inlet.old cut.now) }
     // The same of the bytes that were read, if the reader's bytes aren't known.
     ensures any_reader { IfOk result (IsFoundGiven R.remaining inlet.old inlet.new cut.now) }
@@ -39,9 +40,9 @@ pub fn find_master<R: Read>(
     ensures turn_limit { IsErrOf result StreamFault.TurnLimit → RunsOut inlet.old inlet.new }
 {
     match audit(alloc, cut, inlet) {
-        Ok(audited) => Ok(Some(found_by(audited))),
-        Err(StreamFault::FileRefused) => Ok(None),
-        Err(fault) => Err(fault),
+        Ok(audited) => Ok(Ok(found_by(audited))),
+        Err(Unread::Refused(fault)) => Ok(Err(fault)),
+        Err(Unread::Stream(fault)) => Err(fault),
     }
 }
 

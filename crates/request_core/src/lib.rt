@@ -1,7 +1,7 @@
 //! What a call is asked for, and why it is refused. [`take_names`], [`splice_of`] and [`decimator_of`] return what a
 //! project text has, and [`cut_files`] the cut of a project and its takes. [`cut_excerpts`] opens the cut from parts of
 //! takes that were read before. A refusal is a fault ([`Fault`]), a part that isn't there ([`SpanFault`]), or the reason
-//! against a master ([`Reason`]).
+//! against a master ([`Reason`]), with what was found of it and what was wanted.
 //!
 //! The words of the contracts:
 //!
@@ -22,5 +22,5 @@ mod span_fault;
 pub use cutting::{cut_excerpts, cut_files};
 pub use fault::Fault;
 pub use projects::{decimator_of, splice_of, take_names};
-pub use reason::Reason;
+pub use reason::{Reason, Shape};
 pub use span_fault::SpanFault;

@@ -48,6 +48,6 @@ def workflow(
     os.makedirs(out, exist_ok=True)
     names.link(os.path.abspath(archive), f"{out}/archive")
     asked = ["--directory", out, *more, "--config", f"form={form}", *arguments, "--cores", "4"]
-    status, out_text, err = run(*SNAKEMAKE, *asked)
-    demand(status == 0, f"the workflow to {form}: {status} {out_text[-500:]} {err[-500:]}")
+    status, printed, err = run(*SNAKEMAKE, *asked)
+    demand(status == 0, f"the workflow to {form}: {status} {printed[-500:]} {err[-500:]}")
     return files_in(out), names.load(f"{out}/results.json"), out

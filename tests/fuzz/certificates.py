@@ -14,8 +14,8 @@ class Refused(Exception):
     """The reason's text."""
 
 
-def refuse(stands: object, text: str) -> None:
-    if stands:
+def refuse(is_wrong: object, text: str) -> None:
+    if is_wrong:
         raise Refused(text)
 
 

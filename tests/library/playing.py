@@ -32,8 +32,8 @@ def played(folder: str, name: str, size: int) -> tuple[str, str, str, bytes, int
     return dff, dsf, filter, *frames_of(get(wave))
 
 
-def compiled(source: str, *words: str) -> None:
+def compiled(source: str, *flags: str) -> None:
     status, said = run(
-        os.environ.get("CC", "cc"), "-I", os.path.join(ROOT, "library"), os.path.join(ROOT, source), *words
+        os.environ.get("CC", "cc"), "-I", os.path.join(ROOT, "library"), os.path.join(ROOT, source), *flags
     )
     demand(status == 0, f"{source} isn't compiled: {said}")

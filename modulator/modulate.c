@@ -101,16 +101,16 @@ static void modulate_sine(Modulator *m, long long bytes, double rate, double her
     }
 }
 
-int main(int count, char **words) {
+int main(int count, char **arguments) {
     Modulator m = {0};
-    m.order = count > 1 ? atoi(words[1]) : 0;
+    m.order = count > 1 ? atoi(arguments[1]) : 0;
     int fixed = 2 * m.order + 5;
     if (m.order < 1 || m.order > MOST || count < fixed || count > fixed + 3 || count == fixed + 1) return 2;
     for (int i = 0; i < m.order; i++) {
-        m.a[i] = atof(words[2 + i]);
-        m.b[i] = atof(words[2 + m.order + i]);
+        m.a[i] = atof(arguments[2 + i]);
+        m.b[i] = atof(arguments[2 + m.order + i]);
     }
-    char **rest = words + 2 + 2 * m.order;
+    char **rest = arguments + 2 + 2 * m.order;
     m.dither = atof(rest[0]);
     m.random = strtoull(rest[1], NULL, 10);
     long long bytes = atoll(rest[2]);

@@ -315,5 +315,5 @@ def main(step: str, *key: str) -> int:
 
 
 if __name__ == "__main__":
-    with room.told("OUT"):
+    with room.reported("OUT"):
         sys.exit(outputs.ended(lambda: main(*sys.argv[1:])))

@@ -78,7 +78,7 @@ def watch(workflow: Any, logger: Any) -> None:
 def one_line(logger: Any) -> Iterator[None]:
     """Ends Snakemake before it starts with the line that stops it, without where in the Snakefile that was."""
     try:
-        with room.told("OUT"):
+        with room.reported("OUT"):
             yield
     except SystemExit as stop:
         hush(logger)

@@ -192,7 +192,7 @@ filter_in() {
         }' "$1"
 }
 
-# Ends with the status of `info`, and with what it printed; in the explanation the file has the name that `play` gives it.
+# Ends with the status of `info`, and with what it printed. Its explanation gets the name that `play` gives the file.
 refused_by_info() {
     printf '%s\n' "$play_said" | LC_ALL=C sed '2s/ (FILE)\([: ]\)/ (IN)\1/' >&2 || true
     exit "$1"

@@ -134,7 +134,7 @@ class Surroundings:
         self.above = [above_of(*it) for it in spans] if wish.slow else None
 
     def after(self, moved: int) -> np.ndarray:
-        """The errors of the second take, moved so many bits: from its first bit on."""
+        """The errors of the second take, moved this many bits: from its first bit on."""
         first = self.wish.most + moved
         part = self.after_errors[:, first : first + self.reach]
         return let_in(part[:, ::-1], self.rate)[:, ::-1]

@@ -280,13 +280,13 @@ class Cut:
         return quietest([self.place(*it) for it in self.near(TRIED)])
 
     def best_linked(self, shortest: int) -> Place:
-        """The same, or a cut with a link of at least so many bits where that clicks less."""
+        """The same, or a cut with a link of at least this many bits where that clicks less."""
         plain, found = self.best(), self.linked(shortest)
         best = quietest(found) if found else plain
         return best if best.loudest < plain.loudest - GAIN else plain
 
     def linked(self, shortest: int) -> list[Place]:
-        """The best cuts with a link of at least so many bits."""
+        """The best cuts with a link of at least this many bits."""
         window = self.window
         found = parity_pairs(self.owing, *self.owed, window.wished, window.most)
         found = found[(found[:, 0] >= MARGIN) & (found[:, 1] < window.starts - MARGIN)]
@@ -305,7 +305,7 @@ class Cut:
         return second[at[:, 1]] - first[at[:, 0]]
 
     def links_at(self, found: np.ndarray, shortest: int, more: np.ndarray | float = 0.0) -> Found:
-        """The best links of at least so many bits at each of these pairs of places, where `more` is left."""
+        """The best links of at least this many bits at each of these pairs of places, where `more` is left."""
         window, takes = self.window, [self.before, self.after]
         if shortest not in self.held:
             middles = [window.stop + window.stops // 2, window.start + window.starts // 2]
@@ -320,7 +320,7 @@ class Cut:
         return replace(self.with_link(middle, start, link, moved), other=other)
 
     def with_link(self, middle: int, start: int, link: Link, moved: float) -> Place:
-        """The exact click of a cut with a link in its place, whose sound changes so many bits after its middle."""
+        """The exact click of a cut with a link in its place, whose sound changes this many bits after its middle."""
         stop, start = middle - link.ahead, start + link.length - link.ahead
         takes, peaks = (self.before, self.after), []
         more = int(np.ceil(abs(moved)))

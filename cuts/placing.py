@@ -56,7 +56,7 @@ class Transition:
         return max(it.step for it in self.places)
 
     def ends(self, margin: int) -> tuple[int, int]:
-        """The first bit of the first take that it replaces, and the place after the last: so many bits from the links'
+        """The first bit of the first take that it replaces, and the place after the last: `margin` bits from the links'
         middles."""
         middles = [it.stop + it.known_link.ahead for it in self.places]
         return min(middles) - margin, max(middles) + margin

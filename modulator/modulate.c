@@ -4,7 +4,7 @@
 // one what standard input has: 64-bit floats as the machine has them, first the errors of the ORDER steps before, the
 // newest first, then the same after the noise transfer, and then the signal, one for each bit. Writes BYTES bytes to
 // standard output, the earliest bit as the most significant, and to standard error the largest magnitude before the
-// quantizer. With TIMES the same is done so many times, each time with a seed that is larger by STEP.
+// quantizer. With TIMES the same is done that many times, each time with a seed that is larger by STEP.
 #include <limits.h>
 #include <math.h>
 #include <stdint.h>
@@ -72,7 +72,7 @@ static int modulate_input(Modulator *m, long long bytes) {
     return 1;
 }
 
-// The same so many times, each time with a seed that is larger by a step; and whether there was memory for the samples.
+// The same several times, each time with a seed that is larger by a step; and whether there was memory for the samples.
 static int modulate_again(Modulator *m, long long bytes, long long times, uint64_t step) {
     if (bytes < 1 || bytes > LLONG_MAX / 64 || !read_past(m)) return 0;
     size_t number = (size_t)bytes * 8;

@@ -21,7 +21,7 @@ def stereo(sound: bytes) -> bytes:
 
 
 def dsf(bits: int, count: int, sound: bytes, channels: int = 1, size: int = 4096, tag: bytes = b"") -> bytes:
-    """A DSF file: 1 or 8 bits per sample, so many bits a channel, this sound at the front of so many bytes, and a tag."""
+    """A DSF file: 1 or 8 bits per sample, this many bits a channel, this sound at the start of `size` bytes, and a tag."""
     stop = 92 + size
     head = b"DSD " + struct.pack("<QQQ", 28, stop + len(tag), stop if tag else 0)
     head += b"fmt " + struct.pack("<QIIIIIIQII", 52, 1, 0, LAYOUTS[channels - 1], channels, RATE, bits, count, 4096, 0)
@@ -29,7 +29,7 @@ def dsf(bits: int, count: int, sound: bytes, channels: int = 1, size: int = 4096
 
 
 def sized(size: int, file: bytes) -> bytes:
-    """A file, which has so many bytes."""
+    """A file, which has this many bytes."""
     demand(len(file) == size, f"a file of {len(file)} bytes, not {size}")
     return file
 

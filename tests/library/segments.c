@@ -2,7 +2,7 @@
  *
  * It goes to frame FIRST by a seek that flushes, and then TIMES - 1 times by seeks that don't, each up to frame STOP and
  * answered by SEGMENT_DONE. The last seek has no segment, and ends with the stream. OUT then holds the frames from FIRST
- * to STOP so many times, and those from STOP on. The status is 1 where an answer doesn't come, or is another one. */
+ * to STOP this many times, and those from STOP on. The status is 1 where an answer doesn't come, or is another one. */
 #include <gst/gst.h>
 #include <stdlib.h>
 

@@ -7,7 +7,7 @@
 #include <libavformat/avformat.h>
 #include <stdio.h>
 
-int main(int count, char **words) {
+int main(int count, char **arguments) {
     AVFormatContext *file = NULL;
     AVCodecContext *decoder;
     const AVCodec *codec;
@@ -15,7 +15,7 @@ int main(int count, char **words) {
     AVFrame *frame = av_frame_alloc();
     long long frames = 0;
     int stream, more = 1;
-    if (count != 2 || avformat_open_input(&file, words[1], NULL, NULL) < 0) return 3;
+    if (count != 2 || avformat_open_input(&file, arguments[1], NULL, NULL) < 0) return 3;
     if ((stream = av_find_best_stream(file, AVMEDIA_TYPE_AUDIO, -1, -1, &codec, 0)) < 0) return 3;
     decoder = avcodec_alloc_context3(codec);
     avcodec_parameters_to_context(decoder, file->streams[stream]->codecpar);

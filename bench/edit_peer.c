@@ -1,5 +1,5 @@
 // Cuts a DSDIFF master from DSDIFF takes and writes its certificate, as a C programmer would write it: rows of 64-bit
-// numbers, a byte for each level and state that tells which of the two ways was less, and a plain loop over the states.
+// numbers, a byte for each level and state that says which of the two ways was less, and a plain loop over the states.
 // The certificate is of version 2, whose bounds are cut at the cost: once that is known the rows are made again, two at a
 // time, and written. What it writes is what `dsdarc edit dsdiff` writes of the same project without titles: master and
 // certificate are equal byte by byte.
@@ -251,7 +251,7 @@ static void write_rows(const struct bridge *bridge, uint64_t cost, FILE *cert) {
     }
 }
 
-// Finds the bridge behind a cue in one channel, and writes its entry.
+// Finds the bridge after a cue in one channel, and writes its entry.
 static uint64_t join(int at, uint32_t channel, FILE *cert) {
     struct bridge bridge = prepare(&cues[at], channel);
     uint64_t cost = search(&bridge);
@@ -292,9 +292,9 @@ static void print_total(unsigned __int128 total) {
     printf("edited total %s\n", digits + at);
 }
 
-int main(int words, char **word) {
-    if (words != 3 && words != 4) return 2;
-    read_plan(word[1]);
+int main(int given, char **arguments) {
+    if (given != 3 && given != 4) return 2;
+    read_plan(arguments[1]);
     uint32_t channels = takes[0].channels;
     FILE *cert = NULL;
     uint64_t count = 0, entries = 0;
@@ -304,8 +304,8 @@ int main(int words, char **word) {
     }
     if (count % 8) return 2;
     uint8_t *sound = room(count / 8 * channels);
-    if (words == 4) {
-        if (!(cert = fopen(word[3], "wb"))) return 2;
+    if (given == 4) {
+        if (!(cert = fopen(arguments[3], "wb"))) return 2;
         setvbuf(cert, NULL, _IOFBF, 1 << 20);
         fputs("DSPC", cert), put(cert, 2, 2), put(cert, (uint64_t)width, 2), put(cert, entries, 4);
     }
@@ -324,5 +324,5 @@ int main(int words, char **word) {
     }
     print_total(total);
     if (cert && (ferror(cert) | fclose(cert))) return 2;
-    return write_master(word[2], sound, count / 8 * channels) ? 0 : 2;
+    return write_master(arguments[2], sound, count / 8 * channels) ? 0 : 2;
 }

@@ -18,16 +18,16 @@ static int put(int out, const unsigned char *bytes, size_t size) {
     return 1;
 }
 
-int main(int count, char **words) {
+int main(int count, char **arguments) {
     static unsigned char text[1 << 20], bytes[BLOCK], pcm[FRAMES * 6 * 3];
     dsdarc_player *player;
     dsdarc_info info = {0};
     size_t taken, given;
     ssize_t size;
-    size_t piece = count == 5 ? strtoul(words[4], NULL, 10) : BLOCK;
+    size_t piece = count == 5 ? strtoul(arguments[4], NULL, 10) : BLOCK;
     int project, file, out;
-    if (count < 4 || count > 5 || piece == 0 || piece > BLOCK || (project = open(words[1], O_RDONLY)) < 0 || (file = open(words[2], O_RDONLY)) < 0) return 3;
-    if ((out = open(words[3], O_WRONLY | O_CREAT | O_TRUNC, 0666)) < 0) return 3;
+    if (count < 4 || count > 5 || piece == 0 || piece > BLOCK || (project = open(arguments[1], O_RDONLY)) < 0 || (file = open(arguments[2], O_RDONLY)) < 0) return 3;
+    if ((out = open(arguments[3], O_WRONLY | O_CREAT | O_TRUNC, 0666)) < 0) return 3;
     if ((size = read(project, text, sizeof text)) < 0 || dsdarc_player_new(text, (size_t)size, &player)) return 1;
     while ((size = read(file, bytes, piece)) > 0)
         for (size_t at = 0; at < (size_t)size; at += taken) {

@@ -15,19 +15,19 @@ USUAL = ("2", "1", "2822400")  # channels, seed, rate
 MOST = (100_000, 1000, 10**9, 2**32 - 1)
 
 
-def numbers(words: list[str]) -> list[int]:
+def numbers(texts: list[str]) -> list[int]:
     """Megabytes, channels, seed and rate."""
-    for word, most in zip(words, MOST):
-        if not re.fullmatch(r"\d{1,10}", word) or not 1 <= int(word) <= most:
-            raise Refused(f"{word} is no number from 1 to {most}")
-    return [int(word) for word in words]
+    for text, most in zip(texts, MOST):
+        if not re.fullmatch(r"\d{1,10}", text) or not 1 <= int(text) <= most:
+            raise Refused(f"{text} is no number from 1 to {most}")
+    return [int(text) for text in texts]
 
 
 def main() -> int:
     if not 3 <= len(sys.argv) <= 6:
         raise Refused(__doc__.partition("\n")[0])
-    out, *words = sys.argv[1:]
-    megabytes, channels, seed, rate = numbers([*words, *USUAL[len(words) - 1 :]])
+    out, *texts = sys.argv[1:]
+    megabytes, channels, seed, rate = numbers([*texts, *USUAL[len(texts) - 1 :]])
     # DSF has no place for IDs: of more channels than two it gives numbers back.
     ids = numbered(channels) if channels > 2 else None
     block = random.Random(seed).randbytes(channels * 10_000)

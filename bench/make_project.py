@@ -48,12 +48,12 @@ def plan(takes: list[str], weights: list[int], cues: list[tuple[int, int, int, i
     return [*takes, *(" ".join(map(str, it)) for it in numbers)]
 
 
-def numbers(words: list[str]) -> tuple[int, int, int, int]:
+def numbers(texts: list[str]) -> tuple[int, int, int, int]:
     """Bits, cues, the bits of a bridge and how many weights."""
-    for word in words:
-        if not re.fullmatch(r"\d{1,12}", word):
-            raise Refused(f"{word} is no number")
-    bits, number, bridge, weights = (int(word) for word in words)
+    for text in texts:
+        if not re.fullmatch(r"\d{1,12}", text):
+            raise Refused(f"{text} is no number")
+    bits, number, bridge, weights = (int(text) for text in texts)
     if not (1 <= number <= 256 and 2 <= weights <= len(WEIGHTS)):
         raise Refused("there are 1 to 256 cues, and 2 to 12 weights")
     return bits, number, bridge, weights

@@ -1,5 +1,5 @@
 #!/usr/bin/env python3
-"""Tells what a program's own instructions take: own_time.py PROGRAM WORD..
+"""Prints what a program's own instructions take: own_time.py PROGRAM ARGUMENT..
 
 It runs the program under `perf`, whose clock takes two samples a millisecond, and prints two numbers of milliseconds:
 what the program's own instructions took, neither the C library's nor the system's; and of this what the innermost loops
@@ -17,8 +17,8 @@ TURNING = re.compile(r"bswap|\bmovbe|pshufb")
 JUMP = re.compile(r"j\w+ +([0-9a-f]+) ")
 
 
-def answer_of(*words: str) -> str:
-    return subprocess.run(words, check=True, stdout=subprocess.PIPE, stderr=subprocess.DEVNULL, text=True).stdout
+def answer_of(*arguments: str) -> str:
+    return subprocess.run(arguments, check=True, stdout=subprocess.PIPE, stderr=subprocess.DEVNULL, text=True).stdout
 
 
 def functions_of(program: str) -> dict[str, Steps]:
@@ -42,11 +42,11 @@ def turning_loops(steps: Steps) -> Iterator[tuple[int, int]]:
             yield first, last
 
 
-def samples_of(program: str, words: list[str]) -> Iterator[tuple[int, str, int]]:
+def samples_of(program: str, arguments: list[str]) -> Iterator[tuple[int, str, int]]:
     """Of each sample in the program: how long it stands for, the function and the distance from its start."""
     with tempfile.NamedTemporaryFile() as file:
         record = ("perf", "record", "-q", "-e", "cpu-clock", "-F", "1999", "-o", file.name, "--")
-        answer_of(*record, program, *words)
+        answer_of(*record, program, *arguments)
         text = answer_of("perf", "script", "-i", file.name, "-F", "period,ip,sym,symoff,dso")
     for line in text.splitlines():
         if it := re.match(r" *(\d+) +[0-9a-f]+ (.*)\+0x([0-9a-f]+) \((.*)\)$", line):
@@ -55,10 +55,10 @@ def samples_of(program: str, words: list[str]) -> Iterator[tuple[int, str, int]]
 
 
 def main() -> None:
-    program, words = os.path.realpath(sys.argv[1]), sys.argv[2:]
+    program, arguments = os.path.realpath(sys.argv[1]), sys.argv[2:]
     functions = functions_of(program)
     loops, own, turned = {}, 0, 0
-    for period, name, distance in samples_of(program, words):
+    for period, name, distance in samples_of(program, arguments):
         steps = functions.get(name, [])
         if name not in loops:
             loops[name] = list(turning_loops(steps))

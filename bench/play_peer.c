@@ -9,7 +9,7 @@
 #include <stdlib.h>
 #include <string.h>
 
-// How many bytes stand before the samples.
+// How many bytes come before the samples.
 #define HEAD 68
 
 static int32_t taps[8192];
@@ -58,16 +58,16 @@ static int32_t plain(const uint8_t *bits, int64_t count, int64_t place) {
     return sum;
 }
 
-int main(int words, char **word) {
-    if (words != 7) return 2;
-    FILE *list = fopen(word[1], "r");
+int main(int given, char **arguments) {
+    if (given != 7) return 2;
+    FILE *list = fopen(arguments[1], "r");
     if (!list) return 2;
     while (number < 4096 && fscanf(list, "%d", &taps[number]) == 1) number++;
     fclose(list);
-    int64_t factor = atoi(word[2]), delay = atoi(word[3]);
-    int shift = atoi(word[4]);
+    int64_t factor = atoi(arguments[2]), delay = atoi(arguments[3]);
+    int shift = atoi(arguments[4]);
     size_t size;
-    uint8_t *file = slurp(word[5], &size);
+    uint8_t *file = slurp(arguments[5], &size);
     uint32_t rate = 0, channels = 0;
     uint8_t *sound = NULL;
     size_t bytes = 0;
@@ -89,7 +89,7 @@ int main(int words, char **word) {
     if (!sound || !channels) return 2;
 
     // The taps in the order of the bits, so that the window ends with the byte of its place.
-    int64_t behind = 7 - delay % 8, groups = ((int64_t)number + behind + 7) / 8, ahead = 8 * groups - behind - (int64_t)number;
+    int64_t after = 7 - delay % 8, groups = ((int64_t)number + after + 7) / 8, ahead = 8 * groups - after - (int64_t)number;
     int32_t *turned = calloc((size_t)(8 * groups), sizeof *turned);
     for (size_t k = 0; k < number; k++) turned[ahead + (int64_t)number - 1 - (int64_t)k] = taps[k];
     int32_t(*table)[256] = malloc((size_t)groups * sizeof *table);
@@ -122,6 +122,6 @@ int main(int words, char **word) {
             out[0] = (uint8_t)sum, out[1] = (uint8_t)(sum >> 8), out[2] = (uint8_t)(sum >> 16);
         }
     }
-    FILE *out = fopen(word[6], "wb");
+    FILE *out = fopen(arguments[6], "wb");
     return out && fwrite(wave, 1, whole, out) == whole && !fclose(out) ? 0 : 2;
 }

@@ -16,7 +16,7 @@ static unsigned char *whole(const char *name, size_t *size) {
     return bytes;
 }
 
-int main(int count, char **words) {
+int main(int count, char **arguments) {
     enum { SEEKS = 200 };
     static unsigned char pcm[18];
     size_t text_size, size, taken, given = 0;
@@ -25,7 +25,7 @@ int main(int count, char **words) {
     dsdarc_info info;
     clock_t began;
     if (count != 3) return 3;
-    text = whole(words[1], &text_size), bytes = whole(words[2], &size);
+    text = whole(arguments[1], &text_size), bytes = whole(arguments[2], &size);
     if (dsdarc_player_new(text, text_size, &player) != DSDARC_OK) return 1;
     if (dsdarc_player_push(player, bytes, size, &taken) != DSDARC_OK) return 1;
     if (dsdarc_player_info(player, &info) != DSDARC_OK) return 1;

@@ -29,5 +29,5 @@ least_of_seven() {
     echo "$best"
 }
 
-# The ratio of two times, with two digits or so many behind the point.
+# The ratio of two times, with two digits or that many after the point.
 ratio() { awk -v a="$1" -v b="$2" "BEGIN { printf \"%.${3:-2}f\", a / (b > 0 ? b : 1) }"; }

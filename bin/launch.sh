@@ -9,7 +9,7 @@
 #
 #   run_child PROGRAM ARGUMENT..
 #
-# runs the program as a child, so that a signal leaves nothing behind, and ends this shell with its status. HUP, INT,
+# runs the program as a child, so that a signal leaves nothing over, and ends this shell with its status. HUP, INT,
 # QUIT and TERM end the program too. What it was writing is then removed, and the shell ends by the same signal (status
 # 128 + n), so that whoever called it stops too.
 #
@@ -85,7 +85,7 @@ free_number() {
     while [ -e "/dev/fd/$child_input" ] && [ "$child_input" -gt 3 ]; do child_input=$((child_input - 1)); done
 }
 
-# Whether a word is RATE/BITS, or several of these with commas between them.
+# Whether an argument is RATE/BITS, or several of these with commas between them.
 is_wish() {
     wish_rest="$1,"
     while [ -n "$wish_rest" ]; do
@@ -103,22 +103,22 @@ is_wish() {
 plays_by_wish() {
     play_in='' play_wish='' play_at=0 play_names=0 play_place=0 play_before=program play_louder='' play_explains=''
     play_drops=' '
-    for play_word; do
+    for play_argument; do
         play_place=$((play_place + 1))
-        case "$play_before $play_word" in
+        case "$play_before $play_argument" in
             program\ *) play_before='' && continue ;;
             --from\ * | --to\ *) play_before='' && continue ;;
-            " --from" | " --to") play_before="$play_word" && continue ;;
+            " --from" | " --to") play_before="$play_argument" && continue ;;
             " --from="* | " --to="*) continue ;;
             " --") play_before=names && continue ;;
             " --plus6") play_louder=yes play_drops="$play_drops$play_place " && continue ;;
             " --explain") play_explains=--explain play_drops="$play_drops$play_place " && continue ;;
         esac
-        case "$play_names:$play_word" in
+        case "$play_names:$play_argument" in
             0:play) ;;
             0:*) return 1 ;;
-            1:*) play_wish="$play_word" play_at="$play_place" ;;
-            2:*) play_in="$play_word" ;;
+            1:*) play_wish="$play_argument" play_at="$play_place" ;;
+            2:*) play_in="$play_argument" ;;
         esac
         play_names=$((play_names + 1))
     done
@@ -192,6 +192,12 @@ filter_in() {
         }' "$1"
 }
 
+# Ends with the status of `info`, and with what it printed. Its explanation gets the name that `play` gives the file.
+refused_by_info() {
+    printf '%s\n' "$play_said" | LC_ALL=C sed '2s/ (FILE)\([: ]\)/ (IN)\1/' >&2 || true
+    exit "$1"
+}
+
 # Finds the filter by which a program plays a file to a wish, or ends this shell.
 find_filter() {
     play_filters="$usage_folder/filters"
@@ -203,8 +209,10 @@ find_filter() {
     fi
     play_rate="$(rate_in_head "$play_in")" || play_rate=
     if [ -z "$play_rate" ]; then
-        # The program says what is wrong with it.
-        play_said="$("$1" ${play_explains:+"$play_explains"} info "$play_in")" || exit
+        # The program says what is wrong with it. It explains where this shell's standard error is a terminal.
+        play_asks="$play_explains"
+        if [ -t 2 ]; then play_asks=--explain; fi
+        play_said="$("$1" ${play_asks:+"$play_asks"} info "$play_in" 2>&1)" || refused_by_info "$?"
         play_rate="$(printf '%s\n' "$play_said" | sed -n 's/^rate //p')"
     fi
     if play_found="$(filter_in "$play_filters/index.txt" "$play_rate" "$play_wish" "$play_louder")"; then
@@ -218,12 +226,12 @@ run_child() {
     if plays_by_wish "$@"; then
         find_filter "$1"
         play_place=0
-        for play_word; do
+        for play_argument; do
             shift
             play_place=$((play_place + 1))
             case "$play_drops" in *" $play_place "*) continue ;; esac
-            if [ "$play_place" -eq "$play_at" ]; then play_word="$play_filter"; fi
-            set -- "$@" "$play_word"
+            if [ "$play_place" -eq "$play_at" ]; then play_argument="$play_filter"; fi
+            set -- "$@" "$play_argument"
             if [ "$play_place" -eq 1 ] && [ -n "$play_explains" ]; then set -- "$@" "$play_explains"; fi
         done
     elif [ "$play_names" -gt 0 ] && [ -n "$play_louder" ]; then

@@ -15,7 +15,7 @@
 
 enum { BLOCK = 65536, FRAMES = 4096, MOST_TEXT = 1 << 20, MOST_RATES = 16, MOST_SECONDS = 1000000000 };
 
-static int told(const char *name, const char *what) {
+static int failed_with(const char *name, const char *what) {
     fprintf(stderr, "dsdarcplay: %s: %s\n", name, what);
     return 1;
 }
@@ -70,7 +70,7 @@ static int play(const char *device, filter by, double from, const char *name) {
     dsdarc_status status = dsdarc_player_new(by.text, by.size, &player);
     size_t size, at, taken, given;
     int fault = 0;
-    if (!file) return dsdarc_player_drop(player), told(name, "it can't be read");
+    if (!file) return dsdarc_player_drop(player), failed_with(name, "it can't be read");
     while (status == DSDARC_OK && fault >= 0 && (size = fread(bytes, 1, BLOCK, file)) > 0)
         for (at = 0; at < size && status == DSDARC_OK && fault >= 0; at += taken) {
             if ((status = dsdarc_player_push(player, bytes + at, size - at, &taken)) != DSDARC_OK) break;
@@ -99,34 +99,34 @@ static int play(const char *device, filter by, double from, const char *name) {
     if (pcm) snd_pcm_close(pcm);
     dsdarc_player_drop(player);
     fclose(file);
-    if (fault < 0) return told(device, snd_strerror(fault));
-    return status == DSDARC_OK ? 0 : told(name, dsdarc_status_text(status));
+    if (fault < 0) return failed_with(device, snd_strerror(fault));
+    return status == DSDARC_OK ? 0 : failed_with(name, dsdarc_status_text(status));
 }
 
-/* Seconds from 0 on, and nothing else behind them: -1 if the word isn't that. */
-static double seconds_of(const char *word) {
+/* Seconds from 0 on, and nothing else after them: -1 if the text isn't that. */
+static double seconds_of(const char *text) {
     char *end;
-    double seconds = strtod(word, &end);
-    return end != word && *end == 0 && seconds >= 0 && seconds < MOST_SECONDS ? seconds : -1;
+    double seconds = strtod(text, &end);
+    return end != text && *end == 0 && seconds >= 0 && seconds < MOST_SECONDS ? seconds : -1;
 }
 
-int main(int count, char **words) {
+int main(int count, char **arguments) {
     const char *device = "default";
     char *text;
     size_t size;
     double from = 0;
-    int word, failed = 0;
-    while ((word = getopt(count, words, "D:s:")) != -1)
-        if (word == 'D') device = optarg;
-        else if (word == 's') from = seconds_of(optarg);
+    int option, failed = 0;
+    while ((option = getopt(count, arguments, "D:s:")) != -1)
+        if (option == 'D') device = optarg;
+        else if (option == 's') from = seconds_of(optarg);
         else return 2;
     if (optind + 2 > count || from < 0) {
         fprintf(stderr, "dsdarcplay [-D DEVICE] [-s SECONDS] FILTER FILE..\n");
         return 2;
     }
-    if (!(text = text_of(words[optind], &size))) return told(words[optind], "it can't be read");
-    for (word = optind + 1; word < count; word++)
-        failed |= play(device, (filter){words[optind], text, size}, from, words[word]);
+    if (!(text = text_of(arguments[optind], &size))) return failed_with(arguments[optind], "it can't be read");
+    for (int at = optind + 1; at < count; at++)
+        failed |= play(device, (filter){arguments[optind], text, size}, from, arguments[at]);
     free(text);
     return failed;
 }

@@ -36,12 +36,12 @@ typedef struct {
     guint64 place;                 /* the next byte of the file */
     dsdarc_info info;
     guint32 mask;            /* the loudspeakers of the channels, if the file names them */
-    gboolean told, dropping; /* what was sent before a seek is dropped */
-    gboolean stopped;        /* the element behind wants no more */
+    gboolean announced, dropping; /* what was sent before a seek is dropped */
+    gboolean stopped;        /* the next element wants no more */
     gboolean expects_end;    /* the end of a segment was reported: what ends then isn't the stream */
     GstSegment segment;
     guint32 seek_number; /* of the events and messages that belong to the last seek */
-    gboolean keeps;      /* this seek flushes what comes before the element, and nothing behind it */
+    gboolean keeps;      /* this seek flushes what comes before the element, and nothing after it */
     guint64 frame, last; /* the next one, and the one at which the segment stops */
 } DsdarcDec;
 typedef struct {
@@ -144,8 +144,8 @@ static GstFlowReturn begin(DsdarcDec *dec, guint32 rate) {
     return flow;
 }
 
-/* Tells what follows, once it is known. */
-static void tell(DsdarcDec *dec) {
+/* Announces what follows, once it is known. */
+static void announce(DsdarcDec *dec) {
     GstCaps *caps = gst_caps_new_simple("audio/x-raw", "format", G_TYPE_STRING, dec->info.width == 16 ? "S16LE" : "S24LE",
                                         "rate", G_TYPE_INT, (int)dec->info.rate, "channels", G_TYPE_INT,
                                         (int)dec->info.channels, "layout", G_TYPE_STRING, "interleaved", NULL);
@@ -157,7 +157,7 @@ static void tell(DsdarcDec *dec) {
     dec->last = dec->info.frames;
     dec->segment.duration = time_of(dec, dec->info.frames);
     gst_pad_push_event(dec->src, gst_event_new_segment(&dec->segment));
-    dec->told = TRUE;
+    dec->announced = TRUE;
 }
 
 /* Reports that a segment was given whole, for which the application waits instead of the end of the stream. */
@@ -171,7 +171,7 @@ static void answer(DsdarcDec *dec) {
     gst_pad_push_event(dec->src, event);
 }
 
-static gboolean is_segment(DsdarcDec *dec) { return dec->told && (dec->segment.flags & GST_SEGMENT_FLAG_SEGMENT); }
+static gboolean is_segment(DsdarcDec *dec) { return dec->announced && (dec->segment.flags & GST_SEGMENT_FLAG_SEGMENT); }
 
 /* All frames were given. At the end of the sound the rest of the file is still looked at. */
 static GstFlowReturn all_given(DsdarcDec *dec) {
@@ -210,8 +210,8 @@ static GstFlowReturn push(DsdarcDec *dec, const guint8 *bytes, gsize size) {
         dsdarc_status status = dsdarc_player_push(dec->player, bytes + at, size - at, &taken);
         if (status != DSDARC_OK) return refused(dec, status);
         dec->place += taken;
-        if (!dec->told && dsdarc_player_info(dec->player, &dec->info) == DSDARC_OK) tell(dec);
-        if (dec->told) flow = give(dec);
+        if (!dec->announced && dsdarc_player_info(dec->player, &dec->info) == DSDARC_OK) announce(dec);
+        if (dec->announced) flow = give(dec);
     }
     return flow;
 }
@@ -251,14 +251,14 @@ static GstFlowReturn chain(GstPad *pad, GstObject *parent, GstBuffer *buffer) {
     return flow;
 }
 
-/* Whether the stream ends with the file, and neither by the element behind nor by the application. */
+/* Whether the stream ends with the file, and neither by the next element nor by the application. */
 static gboolean is_at_end(DsdarcDec *dec, GstEvent *event) {
     guint64 place = dec->player ? dec->place : dec->front->len;
     guint32 number = gst_event_get_seqnum(event);
     GstEvent *known;
     gint64 size;
     gboolean is_own = FALSE;
-    if (dec->stopped || (dec->told && dec->frame == dec->last && dec->last < dec->info.frames)) return FALSE;
+    if (dec->stopped || (dec->announced && dec->frame == dec->last && dec->last < dec->info.frames)) return FALSE;
     if (gst_pad_peer_query_duration(dec->sink, GST_FORMAT_BYTES, &size) && size >= 0) return place >= (guint64)size;
     /* The element before doesn't know the size: an end of the application has a number of its own. Before the first byte
      * there is no segment: then it is a number after that of the start. */
@@ -294,7 +294,7 @@ static gboolean sink_event(GstPad *pad, GstObject *parent, GstEvent *event) {
     GstEvent *own;
     switch (GST_EVENT_TYPE(event)) {
     case GST_EVENT_SEGMENT:
-        if (dec->told && !dec->dropping) {
+        if (dec->announced && !dec->dropping) {
             own = gst_event_new_segment(&dec->segment);
             gst_event_set_seqnum(own, number);
             gst_pad_push_event(dec->src, own);
@@ -335,7 +335,7 @@ static gboolean sought(DsdarcDec *dec, GstEvent *event, GstSegment *segment, gui
     GstSeekType type, stop_type;
     gint64 start, stop;
     gst_event_parse_seek(event, &rate, &format, &flags, &type, &start, &stop_type, &stop);
-    if (!dec->told || format != GST_FORMAT_TIME || rate != 1.0) return FALSE;
+    if (!dec->announced || format != GST_FORMAT_TIME || rate != 1.0) return FALSE;
     *segment = dec->segment;
     segment->position = time_of(dec, dec->frame);
     if (!gst_segment_do_seek(segment, rate, format, flags, type, start, stop_type, stop, NULL)) return FALSE;
@@ -409,7 +409,7 @@ static gboolean src_event(GstPad *pad, GstObject *parent, GstEvent *event) {
 static gboolean src_query(GstPad *pad, GstObject *parent, GstQuery *query) {
     DsdarcDec *dec = (DsdarcDec *)parent;
     GstFormat format;
-    if (!dec->told) return gst_pad_query_default(pad, parent, query);
+    if (!dec->announced) return gst_pad_query_default(pad, parent, query);
     switch (GST_QUERY_TYPE(query)) {
     case GST_QUERY_DURATION:
         gst_query_parse_duration(query, &format, NULL);
@@ -437,7 +437,7 @@ static void reset(DsdarcDec *dec) {
     dsdarc_player_drop(dec->scout), dec->scout = NULL;
     g_byte_array_set_size(dec->front, 0);
     gst_segment_init(&dec->segment, GST_FORMAT_TIME);
-    dec->told = dec->dropping = dec->stopped = dec->expects_end = dec->keeps = FALSE;
+    dec->announced = dec->dropping = dec->stopped = dec->expects_end = dec->keeps = FALSE;
     dec->frame = dec->last = dec->place = 0;
     dec->mask = 0;
     dec->seek_number = GST_SEQNUM_INVALID;

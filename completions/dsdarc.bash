@@ -1,8 +1,8 @@
-# Completes the words of dsdarc in bash: its commands, the names of forms, and files by what a command reads. Where a
-# filter is named, the ready ones are found by the fronts of their names too, and rates and widths by their first
-# figures. bin/install installs this as share/bash-completion/completions/dsdarc; from a clone it is read by
-# `source completions/dsdarc.bash`. The commands of scripts, as dsdarc-fade, have bash's own completion of files.
-# shellcheck shell=bash
+# Completes the arguments of dsdarc in bash: its commands, the names of forms, and files by what a command reads. Where
+# a filter is named, the ready ones are found by the fronts of their names too, and rates and widths by their first
+# figures. bin/install installs this as share/bash-completion/completions/dsdarc; from a clone it is read by `source
+# completions/dsdarc.bash`. The commands of scripts, as dsdarc-fade, have bash's own completion of files. shellcheck
+# shell=bash
 
 # The folder of the ready filters, in the clone or the installation that this file belongs to.
 _dsdarc_filters=$(
@@ -66,7 +66,7 @@ _dsdarc_words() {
 
 _dsdarc() {
     local cur=${COMP_WORDS[COMP_CWORD]} first=1
-    # The word that asks to explain comes before the command.
+    # The option that asks to explain comes before the command.
     if [ "${COMP_WORDS[1]-}" = --explain ] && [ "$COMP_CWORD" -gt 1 ]; then first=2; fi
     local command=${COMP_WORDS[first]-} place=$((COMP_CWORD - first + 1))
     COMPREPLY=()
@@ -76,7 +76,7 @@ _dsdarc() {
         if [ "$first" -eq 1 ]; then _dsdarc_words --explain --help --version; fi
         return
     fi
-    # The options of play come before its names, and each takes a word of its own. Bash splits words at : and @.
+    # The options of play come before its names, and each takes an argument of its own. Bash splits words at : and @.
     local next=$((first + 1)) width
     if [ "$command" = play ]; then
         while [ "$next" -lt "$COMP_CWORD" ]; do

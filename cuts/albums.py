@@ -49,11 +49,11 @@ class Track:
     stop: int = 0
 
 
-def asked(what: str, name: str, *words: str, folder: str | None = None) -> str:
+def asked(what: str, name: str, *arguments: str, folder: str | None = None) -> str:
     """What the program prints; a fault is one of that file, and is explained in the same line."""
     program = os.path.abspath(PROGRAM) if "/" in PROGRAM else PROGRAM
     try:
-        status, out, err = finished([program, "--explain", *words], folder)
+        status, out, err = finished([program, "--explain", *arguments], folder)
     except OSError as error:
         raise Refused(
             f"the program {program} can't be run ({error.strerror}): build it, or name it by DSDARC"
@@ -88,7 +88,7 @@ def text_of(data: bytes) -> str:
 
 
 def form_chunks(file: BinaryIO) -> Iterator[tuple[bytes, int]]:
-    """ID and size of each chunk of a DSDIFF form; the file stands at its data."""
+    """ID and size of each chunk of a DSDIFF form; the file is at its data."""
     size = struct.unpack(">4sQ", channels.take(file, 12))[1]
     at, stop = 16, min(12 + size, os.fstat(file.fileno()).st_size)
     while at + 12 <= stop:
@@ -140,19 +140,19 @@ def sheet(name: str) -> list[dict[str, Any]]:
         lines = text_of(file.read()).splitlines()
     tracks, files = list[Any](), 0
     for number, line in enumerate(lines, 1):
-        word, _, rest = line.strip().partition(" ")
-        word, rest, last = word.upper(), rest.strip(), tracks[-1] if tracks else None
-        files += word == "FILE"
+        key, _, rest = line.strip().partition(" ")
+        key, rest, last = key.upper(), rest.strip(), tracks[-1] if tracks else None
+        files += key == "FILE"
         if files > 1:
             raise Refused(f"{shown_name(name)}, line {number}: a second FILE; the sheet has to be one of one recording")
-        if word == "TRACK":
+        if key == "TRACK":
             digits = rest.split(" ")[0]
             if not re.fullmatch(r"\d{1,3}", digits, re.ASCII) or int(digits) <= (last["number"] if last else 0):
                 raise Refused(f"{shown_name(name)}, line {number}: no track of a higher number: {line.strip()!r}")
             tracks.append({"number": int(digits), "title": ""})
-        elif word == "TITLE" and last:
+        elif key == "TITLE" and last:
             last["title"] = unquoted(rest)
-        elif word == "INDEX":
+        elif key == "INDEX":
             indexed(name, line.strip(), number, last, rest)
     for track in tracks:
         if "at" not in track:

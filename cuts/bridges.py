@@ -27,7 +27,7 @@ def targets(weights: list[int], before: np.ndarray, after: np.ndarray, length: i
 
 
 def line(ends: list[int], more: int, length: int) -> np.ndarray:
-    """The targets of a line, as one row: at the bridge's places, and at so many behind it."""
+    """The targets of a line, as one row: at the bridge's places, and at that many after it."""
     rising = np.minimum(np.arange(1, length + more + 1), length + 1)
     return ((length + 1 - rising) * ends[0] + rising * ends[1])[None]
 
@@ -38,7 +38,7 @@ def states_of(signs: np.ndarray) -> np.ndarray:
 
 
 def ends_of(sums: np.ndarray, following: np.ndarray, wished: np.ndarray) -> np.ndarray:
-    """What the places behind the bridge cost for each state, a row for each cut."""
+    """What the places after the bridge cost for each state, a row for each cut."""
     count = sums.size // 2
     states = np.tile(np.arange(count), (len(following), 1))
     total = np.zeros(states.shape, np.int64)

@@ -11,19 +11,19 @@ from dsdarc_scripts.explained import shown_name
 from dsdarc_scripts.outputs import Refused
 
 
-def usual(words: argparse.ArgumentParser) -> None:
-    """The words of both."""
-    words.add_argument("project", type=Path)
-    words.add_argument("-o", "--output", type=Path, required=True, metavar="NEW")
-    words.add_argument("--take", type=Path, metavar="FILE", help="the take of seams, DSDIFF (NEW.seams.dff)")
-    words.add_argument("--cut", type=int, nargs="+", metavar="N", help="these cuts alone, counted from 0")
+def usual(parser: argparse.ArgumentParser) -> None:
+    """The arguments of both."""
+    parser.add_argument("project", type=Path)
+    parser.add_argument("-o", "--output", type=Path, required=True, metavar="NEW")
+    parser.add_argument("--take", type=Path, metavar="FILE", help="the take of seams, DSDIFF (NEW.seams.dff)")
+    parser.add_argument("--cut", type=int, nargs="+", metavar="N", help="these cuts alone, counted from 0")
     going = "leave the cuts that are refused as they are; the status is 1 then"
-    words.add_argument("--keep-going", action="store_true", help=going)
+    parser.add_argument("--keep-going", action="store_true", help=going)
 
 
-def parsed(words: argparse.ArgumentParser) -> argparse.Namespace:
+def parsed(parser: argparse.ArgumentParser) -> argparse.Namespace:
     """What is asked for, with the name of the take of seams."""
-    asked = words.parse_args()
+    asked = parser.parse_args()
     asked.take = asked.take or Path(f"{os.path.splitext(asked.output)[0]}.seams.dff")
     try:
         str(asked.take).encode()
@@ -50,7 +50,7 @@ def cuts_of(project: Project, wished: list[int] | None, staying: set[str], what:
     for number in sorted(set(range(len(spots)) if wished is None else wished)):
         role = spots[number].role
         if role == "line" or wished is None and role in staying:
-            why = "its bridge goes in a line" if role == "line" else f"it has a {role}; --cut {number} makes it anew"
+            why = "its bridge goes in a line" if role == "line" else f"it has a {role}; --cut {number} makes it again"
             print(f"cut {number}: stays, as {why}")
         elif goes_on(project, spots[number]):
             print(f"cut {number}: stays, as its take goes on there")

@@ -29,7 +29,8 @@ def turns(rate: int) -> np.ndarray:
 
 def answers(modulator: modulators.Modulator, rate: int) -> np.ndarray:
     """The spectrum of what a modulator adds for each number of its past alone: the quantizer's errors, then the same
-    after the noise transfer, the newest first. It is told by polynomials, as a recursion would lose it in rounding."""
+    after the noise transfer, the newest first. It is computed by polynomials, as a recursion would lose it in
+    rounding."""
     zeros, poles = modulators.noise_transfer(modulator, rate)
     order, turn = modulator.order, np.exp(-1j * turns(rate))
     columns = []
@@ -40,7 +41,7 @@ def answers(modulator: modulators.Modulator, rate: int) -> np.ndarray:
 
 
 def past_of(modulator: modulators.Modulator, rate: int, errors: np.ndarray) -> np.ndarray:
-    """The numbers with which a modulator goes on behind these errors, which were let in."""
+    """The numbers with which a modulator goes on after these errors, which were let in."""
     answer, order = answers(modulator, rate), modulator.order
     shaped = errors[: -order - 1 : -1]
     wanted = -(hearing.ahead(errors, turns(rate), len(errors))[:, 0] + answer[:, order:] @ shaped)
@@ -61,7 +62,7 @@ class Modulated:
         return past_of(self.modulator, self.rate, errors)
 
     def continued(self, past: np.ndarray, sound: np.ndarray, seed: int, times: int) -> np.ndarray:
-        """Signs of a sound that go on behind a past: so many rows, by this seed and each second one after it."""
+        """Signs of a sound that go on after a past: that many rows, by this seed and each second one after it."""
         padded = np.pad(sound, (0, -len(sound) % 8), mode="edge")
         bits = modulators.modulated(self.program, self.modulator, self.rate, padded, seed, past, (times, 2))
         rows = np.frombuffer(bits, np.uint8).reshape(times, -1)
@@ -70,16 +71,16 @@ class Modulated:
 
 # Where bits that go on from one take meet bits that lead up to another, so that nearly nothing is heard of it.
 #
-# What is heard of errors that end or begin at a place is told by some numbers (`Ends`). A link, a few bits about the
-# place that are chosen anew, changes the first of them as finely as is needed, and the next ones by even multiples of a
-# step: of these what is off the nearest even number stays, whatever the bits. The others it hardly changes. So first
+# What is heard of errors that end or begin at a place is given by some numbers (`Ends`). A link, a few bits about the
+# place that are chosen again, changes the first of them as finely as is needed, and the next ones by even multiples of
+# a step: of these what is off the nearest even number stays, whatever the bits. The others it hardly changes. So first
 # the meetings are found where least is left that no link changes, and then for each of them the link that leaves least.
 #
 # Only errors that are heard around the place count. The rest of a fade has noise of its own, elsewhere.
 
-AROUND = 1024  # bits at 2,822,400 Hz to each side of a place, in which a click is told
+AROUND = 1024  # bits at 2,822,400 Hz to each side of a place, in which a click is computed
 STEP = 16  # such bits between the times at which it is
-FAR = 100  # such bits to each side, of whose errors the numbers tell
+FAR = 100  # such bits to each side, whose errors the numbers describe
 NEAR = 40  # such bits within which these count most
 NUMBERS = 12
 FREE = 3  # numbers that a link changes finely
@@ -89,8 +90,8 @@ KEPT = 2048  # meetings for which a link is looked for
 
 
 class Ends:
-    """Numbers that tell what is heard of errors that end or begin at a place: the sum of their squares is as loud as
-    the click. `click` tells from numbers what is heard at some times around the place, and `reach` is how far errors
+    """Numbers that say what is heard of errors that end or begin at a place: the sum of their squares is as loud as
+    the click. `click` computes from numbers what is heard at some times around the place, and `reach` is how far errors
     count."""
 
     def __init__(self, rate: int) -> None:
@@ -119,7 +120,7 @@ class Ends:
         """Those of the numbers of errors of 1 at places from one to another, for so many places."""
         return fft.rfft(self.click @ self.heard(np.arange(*places, 1 if places[0] < places[1] else -1)), size, axis=1)
 
-    def told(self, errors: np.ndarray, places: tuple[int, int]) -> np.ndarray:
+    def numbers_of(self, errors: np.ndarray, places: tuple[int, int]) -> np.ndarray:
         """The numbers of rows of errors, of which those count that lie at some places: a column for each place that has
         all of these."""
         size = fft.next_fast_len(errors.shape[1], real=True)
@@ -129,11 +130,11 @@ class Ends:
     def before(self, errors: np.ndarray) -> np.ndarray:
         """What is heard of rows of errors that end: for each row the numbers, a column for each place that has `reach`
         errors before it."""
-        return self.told(errors, (-1, -1 - self.reach))
+        return self.numbers_of(errors, (-1, -1 - self.reach))
 
     def after(self, errors: np.ndarray) -> np.ndarray:
         """The same of errors that begin, for each place that has `reach` errors from it on."""
-        return self.told(errors[:, ::-1], (0, self.reach))[:, :, ::-1]
+        return self.numbers_of(errors[:, ::-1], (0, self.reach))[:, :, ::-1]
 
     def left(self, numbers: np.ndarray) -> tuple[np.ndarray, np.ndarray]:
         """How loud that is, squared, of numbers what no link changes: in rows with a column for each place. And how far
@@ -214,8 +215,8 @@ class Field:
         meetings, moment = self.suited(fronts[1], rears[1])
         i, j, away = meetings.T
         ahead = fronts[0][i[:, None], self.first + away[:, None] + half - LINK // 2]
-        behind = rears[0][j[:, None], away[:, None] + half]
-        wanted = np.concatenate([ahead, behind], axis=1) @ ends.bits - fronts[1][i, :, away] - rears[1][j, :, away]
+        following = rears[0][j[:, None], away[:, None] + half]
+        wanted = np.concatenate([ahead, following], axis=1) @ ends.bits - fronts[1][i, :, away] - rears[1][j, :, away]
         links = ends.links.query(wanted)[1]
         peaks = np.abs((ends.links.data[links] - wanted) @ ends.click).max(axis=1)
         best = int(peaks.argmin())

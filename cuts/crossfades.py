@@ -50,14 +50,14 @@ def risen(row: np.ndarray, ramp: float, middles: np.ndarray) -> np.ndarray:
     places = np.arange(len(row)) + 0.5
     sums, moments = (np.append(np.cumsum(it[::-1])[::-1], 0.0) for it in (row, places * row))
 
-    def behind(starts: np.ndarray) -> np.ndarray:
-        """The sum of the row times how far each place is behind a start, from there on."""
+    def risen_from(starts: np.ndarray) -> np.ndarray:
+        """The sum of the row times how far each place is after a start, from there on."""
         first = np.clip(np.floor(starts + 0.5), 0, len(row)).astype(int)
         return moments[first] - starts * sums[first]
 
     if not ramp:
         return sums[np.clip(np.floor(middles + 0.5), 0, len(row)).astype(int)]
-    return (behind(middles - ramp / 2) - behind(middles + ramp / 2)) / ramp
+    return (risen_from(middles - ramp / 2) - risen_from(middles + ramp / 2)) / ramp
 
 
 def mix(away: np.ndarray, ramp: float, power: bool, before: np.ndarray, after: np.ndarray) -> np.ndarray:
@@ -159,7 +159,8 @@ QUIET = -115.0  # dB to full scale: what is heard of it at most, on the average
 
 
 def around(take: Signals, first: int, stop: int, ends: tuple[int, int]) -> np.ndarray:
-    """What of a take is between two frequencies (Hz), both told from the limits of its sound: a row for each channel."""
+    """What of a take is between two frequencies (Hz), both counted from the limits of its sound: a row for each
+    channel."""
     low, high = (sounds(take, first, stop, [(one + more, two + more) for one, two in take.bands]) for more in ends)
     return high - low
 
@@ -188,6 +189,6 @@ def is_whole(takes: tuple[Signals, Signals], places: tuple[int, int], power: boo
 
 
 def doubt(takes: tuple[Signals, Signals], places: tuple[int, int], power: bool, slow: float) -> float:
-    """How loud a butt may be (dB) that changes what is above the audio band within so many bits: what is above the
+    """How loud a butt may be (dB) that changes what is above the audio band within that many bits: what is above the
     limits may be sound, which goes on in the takes."""
     return heard(takes, places, Crossfade(slow, power, []), (0, ABOVE)) + LOUDER

@@ -6,9 +6,9 @@ is, `taps` being the low-pass of `hearing`,
 
     owed(p, t) = sum over q < p of taps(p + t - q) error(q)
 
-So a plain cut from place a of one take to place b of another clicks by owed_a(t) - owed_b(t). Here it is told by the
-spectrum of the errors before p, as seen from there. As nearly all comes of the last hundred bits it is smooth, a
-polynomial of the frequency, and eight numbers a channel tell it."""
+So a plain cut from place a of one take to place b of another clicks by owed_a(t) - owed_b(t). Here it is described by
+the spectrum of the errors before p, as seen from there. As nearly all comes of the last hundred bits it is smooth, a
+polynomial of the frequency, and eight numbers a channel describe it."""
 import copy
 from collections.abc import Callable
 
@@ -21,7 +21,7 @@ from cuts.takes import Signals
 LINES = 17
 HIGHEST = 22_400  # Hz: the last line
 NUMBERS = 8
-AROUND = 1024  # bits at 2,822,400 Hz to each side of a place, in which a click is told
+AROUND = 1024  # bits at 2,822,400 Hz to each side of a place, in which a click is computed
 STEP = 16  # such bits between the times at which it is
 
 
@@ -38,7 +38,7 @@ def sounds(take: Signals, first: int, stop: int, bands: list[Band] | None = None
 
 
 def known(take: Signals) -> int:
-    """How many bits to each side tell what the sound of a take is."""
+    """How many bits to each side determine what the sound of a take is."""
     return max(len(lowpass(take.rate, *it)) for it in take.bands) // 2
 
 
@@ -67,7 +67,7 @@ class Errors:
 
 class Owing:
     """How spectra at the lines, as seen from a place, become numbers; the less their squares add up to, the less is
-    heard. `click` tells from numbers what is heard around the place, and `moments` the errors' sum and their first
+    heard. `click` computes from numbers what is heard around the place, and `moments` the errors' sum and their first
     moment."""
 
     def __init__(self, hearing: Hearing) -> None:
@@ -99,10 +99,10 @@ class Owing:
     def after(self, errors: Errors, first: int, number: int) -> np.ndarray:
         """What would have to be owed where a take begins at the places from `first` on."""
         known = hearing.let_in(errors.values[:, first - errors.first :][:, ::-1], self.rate)[:, ::-1]
-        return np.stack([-self.numbers(hearing.behind(it, self.turns, number)) for it in known])
+        return np.stack([-self.numbers(hearing.from_place_on(it, self.turns, number)) for it in known])
 
     def bits(self, length: int) -> np.ndarray:
-        """The numbers of each of so many errors of 1, as seen from the middle one."""
+        """The numbers of each of that many errors of 1, as seen from the middle one."""
         return self.numbers(np.exp(-1j * np.outer(self.turns, np.arange(length) - length // 2)))
 
 

@@ -1,8 +1,9 @@
-"""A fade from take to take, modulated anew, that joins both without a click.
+"""A fade from take to take, newly modulated, that joins both without a click.
 
 From the first take a modulator goes on, and another leads up to the second (`continuing`), each through the whole
-fade. Somewhere inside both meet: several of each are tried, and all places near the middle, and where a few bits chosen
-anew join them best the one is cut to the other. Each channel has a place of its own, as these bits belong to no take.
+fade. Somewhere inside both meet: several of each are tried, and all places near the middle, and where a few newly
+chosen bits join them best the one is cut to the other. Each channel has a place of its own, as these bits belong to no
+take.
 
 Two numbers of all that is owed can't be changed by choosing bits: their sum is odd or even, and so is their first
 moment. So the middle of the crossfade moves in each channel until the sum is right (`crossfades`), and what is left of
@@ -52,7 +53,7 @@ class Wish:
     be moved. With `power` the sum of both takes' powers stays, else that of their levels. A butt changes the sound at
     the cut, within `ramp` seconds; if that is None, within the usual time, and if need be it is split: it takes longer
     for what is above the audio band. `doubt` is how loud it may be then (dB), as
-    nobody can tell what the takes hold there."""
+    nobody can know what the takes hold there."""
 
     stop: int
     start: int
@@ -89,9 +90,9 @@ class Wish:
 
 @dataclass(frozen=True)
 class Fade:
-    """Bits that stand between bit `stop` - 1 of the first take and bit `start` of the second: their signs, a row for
+    """Bits between bit `stop` - 1 of the first take and bit `start` of the second: their signs, a row for
     each channel. `bumps` is how large the bump is in each channel, of full scale: 0 where there is none. `doubt` is how
-    loud it may be (dB), as nobody can tell what the takes hold above the audio band."""
+    loud it may be (dB), as nobody can know what the takes hold above the audio band."""
 
     stop: int
     start: int
@@ -133,7 +134,7 @@ class Surroundings:
         self.above = [above_of(*it) for it in spans] if wish.slow else None
 
     def after(self, moved: int) -> np.ndarray:
-        """The errors of the second take, moved so many bits: from its first bit on."""
+        """The errors of the second take, moved this many bits: from its first bit on."""
         first = self.wish.most + moved
         part = self.after_errors[:, first : first + self.reach]
         return let_in(part[:, ::-1], self.rate)[:, ::-1]
@@ -254,8 +255,8 @@ def joined(program: Path, modulator: modulators.Modulator, rate: int, known: tup
     rears = rears[:, ::-1]
     ends = field.fronts(before, fronts - parts[0]), field.rears(rears - sound[first:], after)
     found = field.quietest((fronts, ends[0]), (rears, ends[1]))
-    ahead, behind = fronts[found.front, : found.place], rears[found.rear, found.place - first :]
-    signs = np.concatenate([ahead[: -(LINK // 2)], found.link, behind[LINK // 2 :]])
+    ahead, following = fronts[found.front, : found.place], rears[found.rear, found.place - first :]
+    signs = np.concatenate([ahead[: -(LINK // 2)], found.link, following[LINK // 2 :]])
     return Joint(signs, found.heard, found.moment)
 
 

@@ -16,7 +16,7 @@ COSINES = (0.35875, 0.48829, 0.14128, 0.01168)  # of the window of Blackman and 
 
 def kaiser_lowpass(turn: float, width: float, down: int) -> np.ndarray:
     """Taps of linear phase, an odd number, with the sum 1, by Kaiser's window: what they pass ends at a turn, and falls
-    around it in a width, both told to half the rate. What they stop is more than 50 dB down."""
+    around it in a width, both relative to half the rate. What they stop is more than 50 dB down."""
     number = int(np.ceil((down - 7.95) / 2.285 / (np.pi * width) + 1)) | 1
     shape, half = 0.1102 * (down - 8.7), (number - 1) / 2.0
     places = np.arange(0, number)
@@ -63,13 +63,13 @@ def convolved(rows: np.ndarray, taps: np.ndarray) -> np.ndarray:
 
 PASSED, STOPPED = 20_000, 24_000  # Hz: the low-pass passes what is below, and stops what is above
 DOWN = 120  # dB
-CLICK = 0.005  # seconds: A-weighted clicks are told to a sine at full scale of this length
+CLICK = 0.005  # seconds: A-weighted clicks are relative to a sine at full scale of this length
 LEAST_LOUD = 1e-15
 
 
 @lru_cache
 def lowpass(rate: int, passed: int, stopped: int, down: int = DOWN) -> np.ndarray:
-    """Taps of linear phase, an odd number, with the sum 1; what they stop is so many dB down."""
+    """Taps of linear phase, an odd number, with the sum 1; what they stop is `down` dB down."""
     taps = kaiser_lowpass((passed + stopped) / 2 / (0.5 * rate), (stopped - passed) / (rate / 2), down)
     return taps / taps.sum()
 
@@ -80,7 +80,7 @@ def decibels(magnitude: float) -> float:
 
 class Hearing:
     """The low-pass of a rate: its taps, how many there are to each side of the middle one (half), and how many places
-    a click is told by (size), unless it is wide."""
+    a click is computed from (size), unless it is wide."""
 
     def __init__(self, rate: int) -> None:
         self.rate = rate
@@ -89,12 +89,12 @@ class Hearing:
         self.size = self.size_for(0)
 
     def size_for(self, wider: int) -> int:
-        """How many places tell a click that is wider by so many places to each side."""
+        """How many places a click needs that is wider by that many places to each side."""
         return 1 << int(np.ceil(np.log2(5.5 * self.half + 2 * wider)))
 
     @lru_cache(maxsize=8)
     def spectrum(self, size: int) -> np.ndarray:
-        """That of the low-pass, for so many places."""
+        """That of the low-pass, for that many places."""
         return fft.rfft(np.roll(np.pad(self.taps, (0, size - len(self.taps))), -self.half)).real
 
     @lru_cache(maxsize=8)
@@ -154,7 +154,7 @@ LINE = 3e-3  # seconds: about the length of a spectrum
 SMOOTHED = 5  # lines of a spectrum that are taken together
 LOWEST = 21_000  # Hz
 HIGHEST = 1 / 40  # of the rate
-SILENT = 1e-16  # of the power of white noise: what is below isn't told apart
+SILENT = 1e-16  # of the power of white noise: what is below isn't distinguished
 
 Band = tuple[int, int]
 
@@ -210,15 +210,15 @@ RISE = 4_000  # bits at 2,822,400 Hz over which errors are let in, far from wher
 
 
 def let_in(errors: np.ndarray, rate: int, most: int | None = None) -> np.ndarray:
-    """Errors with a slow rise at their start, of so many bits at most. It has no edges: what they would leave in the
-    audio band is next to nothing, but its moment is told from far away."""
+    """Errors with a slow rise at their start, of `most` bits at most. It has no edges: what they would leave in the
+    audio band is next to nothing, but its moment is known from far away."""
     rise = RISE * rate // 2_822_400
     part = np.clip(np.arange(errors.shape[-1]) / (rise if most is None else max(min(rise, most), 1)), 0, 1)
     return errors * part**3 * (10 - 15 * part + 6 * part**2)
 
 
 def ahead(errors: np.ndarray, turns: np.ndarray, first: int) -> np.ndarray:
-    """The spectrum of all errors before a place, as seen from it: a column for each place from `first` to behind the
+    """The spectrum of all errors before a place, as seen from it: a column for each place from `first` to after the
     last, a row for each line, which turns by an angle a bit."""
     places, found = np.arange(len(errors) + 1), []
     for turn in turns:
@@ -228,8 +228,8 @@ def ahead(errors: np.ndarray, turns: np.ndarray, first: int) -> np.ndarray:
     return np.array(found)
 
 
-def behind(errors: np.ndarray, turns: np.ndarray, stop: int) -> np.ndarray:
+def from_place_on(errors: np.ndarray, turns: np.ndarray, stop: int) -> np.ndarray:
     """The spectrum of all errors from a place on, as seen from it: a column for each place before `stop`. Seen from
-    behind times are turned, and the place itself is one bit away."""
+    after it, times are turned, and the place itself is one bit away."""
     seen = ahead(errors[::-1], turns, len(errors) - stop + 1)[:, ::-1]
     return np.conj(seen) * np.exp(1j * turns)[:, None]

@@ -37,7 +37,7 @@ class Link:
 
     @property
     def ahead(self) -> int:
-        """How many of its bits stand before the place of the cut."""
+        """How many of its bits come before the place of the cut."""
         return self.length // 2
 
 
@@ -89,9 +89,9 @@ def replaced(takes: list[Errors], places: np.ndarray, length: int) -> np.ndarray
     """The signs that a link of a length stands for at each pair of places, as those of pieces."""
     before, after = takes
     ahead = np.arange(-(length // 2), 0)
-    behind = np.arange(length - length // 2)
+    following = np.arange(length - length // 2)
     front = before.signs[:, places[:, :1] + ahead - before.first]
-    rear = after.signs[:, places[:, 1:] + behind - after.first]
+    rear = after.signs[:, places[:, 1:] + following - after.first]
     return np.concatenate([front, rear], axis=2).transpose(1, 0, 2).reshape(len(places), -1)
 
 
@@ -108,14 +108,14 @@ def parity_pairs(owing: Owing, before: np.ndarray, after: np.ndarray, wished: in
 
 @dataclass(frozen=True)
 class Found:
-    """Links at pairs of places: how loud each is told to be, and rows of the pair's number, the link's take, its first
-    bit and its length."""
+    """Links at pairs of places: how loud each is estimated to be, and rows of the pair's number, the link's take, its
+    first bit and its length."""
 
     peaks: np.ndarray
     rows: np.ndarray
 
     def first(self, kept: int) -> "Found":
-        """So many, the quietest first, and of equal ones the first."""
+        """That many, the quietest first, and of equal ones the first."""
         order = np.lexsort((*self.rows.T[::-1], self.peaks))[:kept]
         return Found(self.peaks[order], self.rows[order])
 
@@ -129,7 +129,7 @@ class Held:
 
 
 def held(owing: Owing, takes: list[Errors], spans: list[tuple[int, int]], shortest: int) -> dict[int, Held]:
-    """The pieces of at least so many bits that lie in these spans of the takes, by their lengths."""
+    """The pieces of at least that many bits that lie in these spans of the takes, by their lengths."""
     found, count = {}, len(takes[0].signs)
     for length in range(max(shortest, LENGTHS[0]), LENGTHS[-1] + 1):
         some = pieces(takes, spans, length)
@@ -172,7 +172,7 @@ def best(owing: Owing, takes: list[Errors], known: dict[int, Held], places: np.n
 # A cut between two takes: what it clicks, and where in a window it clicks least.
 
 NEAR_PAIRS = 4096  # pairs that owe most nearly the same
-TRIED = 64  # of these, the quietest ones, whose click is told exactly; and so many links
+TRIED = 64  # of these, the quietest ones, whose click is computed exactly; and that many links
 GAIN = 1.0  # dB that a link gains at least, or there is none
 
 
@@ -280,13 +280,13 @@ class Cut:
         return quietest([self.place(*it) for it in self.near(TRIED)])
 
     def best_linked(self, shortest: int) -> Place:
-        """The same, or a cut with a link of at least so many bits where that clicks less."""
+        """The same, or a cut with a link of at least this many bits where that clicks less."""
         plain, found = self.best(), self.linked(shortest)
         best = quietest(found) if found else plain
         return best if best.loudest < plain.loudest - GAIN else plain
 
     def linked(self, shortest: int) -> list[Place]:
-        """The best cuts with a link of at least so many bits."""
+        """The best cuts with a link of at least this many bits."""
         window = self.window
         found = parity_pairs(self.owing, *self.owed, window.wished, window.most)
         found = found[(found[:, 0] >= MARGIN) & (found[:, 1] < window.starts - MARGIN)]
@@ -297,7 +297,7 @@ class Cut:
 
     def apart(self, places: np.ndarray, most: int) -> np.ndarray:
         """How far the second take's sound is from the first's around pairs of places in the window: for each a row of
-        so many bits before and behind it."""
+        that many bits before and after it."""
         around = np.arange(-most, most)
         before, after = self.before, self.after
         at = (places + (self.window.stop - before.first, self.window.start - after.first))[:, :, None] + around
@@ -305,7 +305,7 @@ class Cut:
         return second[at[:, 1]] - first[at[:, 0]]
 
     def links_at(self, found: np.ndarray, shortest: int, more: np.ndarray | float = 0.0) -> Found:
-        """The best links of at least so many bits at each of these pairs of places, where `more` is left."""
+        """The best links of at least this many bits at each of these pairs of places, where `more` is left."""
         window, takes = self.window, [self.before, self.after]
         if shortest not in self.held:
             middles = [window.stop + window.stops // 2, window.start + window.starts // 2]
@@ -320,7 +320,7 @@ class Cut:
         return replace(self.with_link(middle, start, link, moved), other=other)
 
     def with_link(self, middle: int, start: int, link: Link, moved: float) -> Place:
-        """The exact click of a cut with a link in its place, whose sound changes so many bits after its middle."""
+        """The exact click of a cut with a link in its place, whose sound changes this many bits after its middle."""
         stop, start = middle - link.ahead, start + link.length - link.ahead
         takes, peaks = (self.before, self.after), []
         more = int(np.ceil(abs(moved)))
@@ -376,8 +376,8 @@ def row(errors: Errors, channel: int, first: int, stop: int) -> np.ndarray:
 
 
 def changed(moved: np.ndarray, most: int) -> np.ndarray:
-    """How much of the second take a sound has less that changes so many bits later than between two bits: a row of so
-    many bits before and behind that place."""
+    """How much of the second take a sound has less that changes that many bits later than between two bits: a row of
+    that many bits before and after that place."""
     at = np.arange(-most, most)
     return (at >= 0) - np.clip(at + 1 - moved[:, None], 0, 1)
 

@@ -144,7 +144,7 @@ def named(seen: Seen) -> str:
     return {"plain": "cut plain", "link": f"link of {seen.length} bits"}.get(seen.spot.role, f"bridge of {seen.length}")
 
 
-def told(number: int, old: Seen, new: Seen, more: list[str] | None = None) -> str:
+def line_of(number: int, old: Seen, new: Seen, more: list[str] | None = None) -> str:
     """The line of a cut that was changed; `more` is what else there is to say of each channel."""
     late = ((new.stop + new.length - old.stop - old.length) - (new.start - old.start)) / new.rate * 1e6
     places = f"stop {old.stop} to {new.stop}, start {old.start} to {new.start}, {late + 0.0:+.1f} us"
@@ -156,10 +156,10 @@ def told(number: int, old: Seen, new: Seen, more: list[str] | None = None) -> st
     return "; ".join(parts)
 
 
-def tell(project: Project, number: int, old: Seen, more: list[str] | None = None) -> None:
+def report(project: Project, number: int, old: Seen, more: list[str] | None = None) -> None:
     """Prints the line of a cut that was changed, and warnings about it."""
     new = Seen(project, number)
-    print(told(number, old, new, more), flush=True)
+    print(line_of(number, old, new, more), flush=True)
     warn(project, number)
     peaks = [max(peak for peak, _ in it.clicks) for it in (old, new)]
     if is_louder(peaks[1], peaks[0]):

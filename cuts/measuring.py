@@ -17,7 +17,7 @@ from cuts.takes import Shifted, Signals
 
 @dataclass(frozen=True)
 class Reference:
-    """What the takes' sounds are: `sound` tells that of a take, counted from 0, from one place to another, a row for
+    """What the takes' sounds are: `sound` gives that of a take, counted from 0, from one place to another, a row for
     each channel. Where a take ends something may be heard of what is left of it, unless it `is_silent`."""
 
     sound: Callable[[int, int, int], np.ndarray]
@@ -104,7 +104,7 @@ def above_split(rate: int, reference: Reference) -> Reference:
 
 
 def linked(project: Project, roles: list[str], number: int) -> tuple[int, int]:
-    """How many bits of the links before and behind it sound like a cue."""
+    """How many bits of the links before and after it sound like a cue."""
     early = length_of(project.cues[number - 1]) if number and roles[number - 1] == "link" else 0
     late = length_of(project.cues[number + 1]) if roles[number + 1 : number + 2] == ["link"] else 0
     return early - early // 2, late // 2

@@ -56,7 +56,7 @@ class Transition:
         return max(it.step for it in self.places)
 
     def ends(self, margin: int) -> tuple[int, int]:
-        """The first bit of the first take that it replaces, and the place after the last: so many bits from the links'
+        """The first bit of the first take that it replaces, and the place after the last: `margin` bits from the links'
         middles."""
         middles = [it.stop + it.known_link.ahead for it in self.places]
         return min(middles) - margin, max(middles) + margin
@@ -359,7 +359,7 @@ def with_title(project: Project, cut: int, ends: tuple[int, int], offset: int) -
 
 
 def link_row(place: joining.Place, middle: int, early: int) -> list[int]:
-    """A link as a seam has it, in a channel that comes so many bits early in the take after."""
+    """A link as a seam has it, in a channel that comes that many bits early in the take after."""
     link = place.known_link
     return [link.take, link.first - (early if link.take else 0), link.length, middle]
 
@@ -370,8 +370,8 @@ def signs_of(project: Project, cut: int, ends: tuple[int, int], place: joining.P
     offset, link = place.start - place.stop - place.between, place.known_link
     before = takes[0].signs(ends[0], place.stop)
     between = takes[link.take].signs(link.first, link.first + link.length)
-    behind = takes[1].signs(place.start, ends[1] + offset)
-    return np.concatenate([it[channel] for it in (before, between, behind)])
+    after = takes[1].signs(place.start, ends[1] + offset)
+    return np.concatenate([it[channel] for it in (before, between, after)])
 
 
 def place(project: Project, number: int, asked: PlaceAsked) -> None:

@@ -34,8 +34,8 @@ class Spot:
 
 
 def hand_over(one: tomlkit.items.Item, other: tomlkit.items.Item) -> bool:
-    """Lets comments and empty lines behind the keys of a table, which are those before the next table, stand behind
-    another one's instead. Tells whether there are any."""
+    """Moves comments and empty lines after the keys of a table, which are those before the next table, to after
+    another one's. Returns whether there are any."""
     if not isinstance(one, tomlkit.items.Table) or not isinstance(other, tomlkit.items.Table):
         return False
     for table in (other, one):
@@ -71,9 +71,9 @@ def opened(text: Text) -> list[Take]:
         try:
             takes.append(Take(name))
         except (Unread, OSError, ValueError) as error:
-            words = f"TakeUnread {number}" if isinstance(error, Unread) else "ReadFailed"
+            fault = f"TakeUnread {number}" if isinstance(error, Unread) else "ReadFailed"
             why = getattr(error, "strerror", None) or str(error)
-            raise text.fault(words, ("splice", "takes", number), f"take {number}, {shown(name)}: {why}") from None
+            raise text.fault(fault, ("splice", "takes", number), f"take {number}, {shown(name)}: {why}") from None
     for number, take in enumerate(takes):
         differing = unlike(take, takes[0])
         if differing:
@@ -131,7 +131,7 @@ class Project:
         for number, cue in enumerate(self.cues):
             bits = self.take(number).bits
             if cue["stop"] > bits:
-                why = f"{cue['stop']} is behind the end of take {cue['take']}, which has {bits} bits"
+                why = f"{cue['stop']} is after the end of take {cue['take']}, which has {bits} bits"
                 raise self.fault(f"CueOutside {number}", number, "stop", why)
         if self.length() > MOST_BITS:
             raise self.source.fault("MasterTooLong", ("splice",), "the master has more than 2^36 bits a channel")
@@ -141,7 +141,7 @@ class Project:
                 why = f"before bit {following['start']} of its take there is no room for the bridge"
                 raise self.fault(f"NoRoomBefore {number}", number + 1, "start", why)
             if length and cue["stop"] + length > self.take(number).bits:
-                why = f"behind bit {cue['stop']} of its take there is no room for the bridge"
+                why = f"after bit {cue['stop']} of its take there is no room for the bridge"
                 raise self.fault(f"NoRoomAfter {number}", number, "stop", why)
 
     @property
@@ -212,8 +212,8 @@ class Project:
         return Region(first, stop, self.early(cue))
 
     def shift(self, cue: int, early: list[int], name: Callable[[int], str], reach: int) -> None:
-        """Lets the channels of a cue, which has the bits of a usual take, come so many bits early: as a cue of a take
-        that is made of it, whose number tells its name. The cut before it needs so many more bits of it."""
+        """Lets the channels of a cue, which has the bits of a usual take, come that many bits early: as a cue of a take
+        that is made from it, whose name its number gives. The cut before it needs that many more bits of it."""
         source, new = self.cues[cue]["take"], self.used(cue, reach)
         new = Region(new.first, new.stop, early)
         for number, shift in enumerate(self.shifts):
@@ -298,7 +298,7 @@ class Project:
         return sum(cue["stop"] - cue["start"] + cue.get("bridge", 0) for cue in self.cues)
 
     def move(self, cut: int, stop: int, start: int) -> None:
-        """Sets the places of the cut behind a cue."""
+        """Sets the places of the cut after a cue."""
         self.cues[cut]["stop"] = stop
         self.cues[cut + 1]["start"] = start
 
@@ -402,13 +402,13 @@ class Project:
         return self.seams.stored([self.seam(it) for it in held])
 
     def insert(self, cut: int, take: int, start: int, stop: int) -> None:
-        """Puts a cue behind another."""
+        """Puts a cue after another."""
         self.demand_room(0, 1)
         self.cues.insert(cut + 1, {"take": take, "start": start, "stop": stop})
         self.origins.insert(cut + 1, None)
 
     def end_with_a_byte(self) -> int:
-        """Lets the last cue end up to 7 bits earlier, so that a DSDIFF file holds the master. Tells how many."""
+        """Lets the last cue end up to 7 bits earlier, so that a DSDIFF file holds the master. Returns how many."""
         spare = self.length() % 8
         last = self.cues[-1]
         if last["stop"] - last["start"] - spare < self.shortest:

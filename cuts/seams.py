@@ -121,7 +121,7 @@ def seam_of(row: dict) -> Seam:
     return Seam(**named)
 
 
-def told_of(take: Signals) -> Iterator[Any]:
+def rows_of(take: Signals) -> Iterator[Any]:
     """What a take says of each of its seams; nothing for a comment that can't be read."""
     for comment in take.comments() if isinstance(take, Take) else ():
         if comment.startswith(HEAD):
@@ -134,13 +134,13 @@ def told_of(take: Signals) -> Iterator[Any]:
 
 def seams_of(take: Signals) -> dict[tuple[int, int], Seam]:
     """The seams of a take by their ends; none of one that isn't a take of seams."""
-    found = [seam_of(it) for it in told_of(take) if is_seam(it, take.count)]
+    found = [seam_of(it) for it in rows_of(take) if is_seam(it, take.count)]
     return {it.ends: it for it in reversed(found)}
 
 
 def is_unread(take: Signals) -> bool:
     """Whether a take says of its seams what can't be read."""
-    return not all(is_seam(it, take.count) for it in told_of(take))
+    return not all(is_seam(it, take.count) for it in rows_of(take))
 
 
 class Seams:

@@ -24,7 +24,7 @@ MOST_COMMENTS = 1 << 24  # bytes of a chunk of comments that is read
 
 
 def sound_of(file: BinaryIO) -> channels.Sound:
-    """The sound of a file that dsdarc would read, as far as its headers tell."""
+    """The sound of a file that dsdarc would read, as far as its headers say."""
     try:
         sound = channels.sound_of(file)
     except (struct.error, LookupError, ArithmeticError, ValueError, MemoryError, OSError):
@@ -218,7 +218,7 @@ def is_region(row: object, count: int) -> bool:
 
 
 def are_regions(rows: object, take: Signals) -> bool:
-    """Whether rows of a comment are the regions of a take, one behind the other."""
+    """Whether rows of a comment are the regions of a take, one after the other."""
     if not isinstance(rows, list) or not rows or not all(is_region(it, take.count) for it in rows):
         return False
     ends = [0, *(it["stop"] for it in rows)]
@@ -231,11 +231,15 @@ def shift_of(take: Signals) -> Shift | None:
     for comment in take.comments() if isinstance(take, Take) else ():
         if comment.startswith(HEAD):
             try:
-                told = tomllib.loads(comment.decode())
+                stated = tomllib.loads(comment.decode())
             except (ValueError, RecursionError):
                 continue
-            if set(told) == {"take", "regions"} and type(told["take"]) is str and are_regions(told["regions"], take):
-                return Shift(told["take"], [Region(**it) for it in told["regions"]])
+            if (
+                set(stated) == {"take", "regions"}
+                and type(stated["take"]) is str
+                and are_regions(stated["regions"], take)
+            ):
+                return Shift(stated["take"], [Region(**it) for it in stated["regions"]])
     return None
 
 
@@ -251,7 +255,7 @@ class Shifted(Signals):
         return self.shift.rows(self.read, first, stop)
 
     def read(self, first: int, stop: int) -> np.ndarray:
-        """The bits of the source; its last ones are repeated behind it."""
+        """The bits of the source; its last ones are repeated after it."""
         end = min(stop, self.source.bits)
         rows = self.source.stored(min(first, end - 1), end)
         return np.pad(rows, ((0, 0), (0, stop - end)), mode="edge")[:, -(stop - first) :]

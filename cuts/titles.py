@@ -69,7 +69,7 @@ def move_into(seam: dict, following: dict, place: int, shortest: int) -> None:
 
 
 def widened(ends: tuple[int, int], wished: int, room: tuple[int, int], shortest: int) -> tuple[int, int]:
-    """The ends of a seam, as far as there is room so that the wished place is one of them, or so many bits from both."""
+    """The ends of a seam, as far as there is room so that the wished place is one of them, or `shortest` bits from both."""
     low, high = ends
     first, last = wished - shortest if low < wished else low, wished + shortest if high > wished else wished
     return min(low, max(first, min(low, room[0]))), max(high, min(last, max(high, room[1])))

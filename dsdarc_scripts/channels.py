@@ -85,7 +85,7 @@ def dsdiff_sound(file: BinaryIO) -> Sound:
         else:
             skip(file, size + size % 2)
     if shape is None:
-        raise Unread("the sound stands before its property")
+        raise Unread("the sound comes before its property")
     rate, count = shape
     return Sound(rate, count, size // count * 8, None, file.tell(), file.tell() + size)
 

@@ -75,7 +75,7 @@ def dsdiff(
     more: bytes = b"",
     kept: bytes = b"",
 ) -> bytes:
-    """The file of a sound, the bytes of all channels in turn, with more chunks of the form behind it, and kept ones in
+    """The file of a sound, the bytes of all channels in turn, with more chunks of the form after it, and kept ones in
     its property."""
     inner = b"".join(chunk(*it) for it in property_chunks(rate, channels, compression, ids))
     body = chunk(*VERSION) + chunk(b"PROP", b"SND " + inner + kept) + chunk(b"DSD ", sound) + more
@@ -83,7 +83,7 @@ def dsdiff(
 
 
 def around(rate: int, channels: int, size: int, more: bytes = b"") -> tuple[bytes, bytes]:
-    """What stands before and behind a sound of so many bytes in such a file."""
+    """What comes before and after a sound of that many bytes in such a file."""
     empty = dsdiff(rate, channels, b"", more=more)
     head = empty[: len(empty) - len(more)]
     rest = b"\0" * (size % 2) + more

@@ -1,7 +1,7 @@
-"""The names of an archive's files: which there are, the key that each goes by, and where what is made of it is put.
+"""The names of an archive's files: which there are, the key that each goes by, and where what is made from it is put.
 
 A name can hold whatever a disk takes, also what a shell would run. So no shell and no Snakemake reads one: inside a
-workflow a file goes by its key, the first digits of its name's SHA-256, and `work/names.json` tells whose key it is.
+workflow a file goes by its key, the first digits of its name's SHA-256, and `work/names.json` has whose key it is.
 """
 import functools
 import hashlib
@@ -30,7 +30,7 @@ LONGEST_OUT = 1000
 FRONT = 200
 TABLE = "work/names.json"
 SETTINGS = "work/settings.json"
-# A word that no shell reads even without quotes around it, and what it reads in one kind of quotes or the other.
+# An argument that no shell reads even without quotes around it, and what it reads in one kind of quotes or the other.
 PLAIN = re.compile(r"[\w./+@-]+")
 READ_IN_QUOTES = set("'\"\\$`!")
 
@@ -144,7 +144,7 @@ def table_of(archive: str, out: str) -> dict[str, Any]:
     return {"files": files, "refused": found.refused, "others": found.others}
 
 
-def tells_apart(folder: str, first: str, second: str) -> bool:
+def distinguishes(folder: str, first: str, second: str) -> bool:
     """Whether a folder's disk takes two names for two files."""
     names = [os.path.join(folder, name) for name in (first, second)]
     try:
@@ -155,11 +155,11 @@ def tells_apart(folder: str, first: str, second: str) -> bool:
 
 
 def clashing(files: dict[str, dict[str, Any]], folder: str) -> tuple[str, str] | None:
-    """Two names that OUT's disk would take for one, or None: it may not tell capital letters, or accents, apart."""
+    """Two names that OUT's disk would take for one, or None: it may not distinguish capital letters, or accents."""
     forms = []
-    if not tells_apart(folder, "probe", "PROBE"):
+    if not distinguishes(folder, "probe", "PROBE"):
         forms.append(str.casefold)
-    if not tells_apart(folder, "prob\u00e9", "probe\u0301"):
+    if not distinguishes(folder, "prob\u00e9", "probe\u0301"):
         forms.append(lambda name: unicodedata.normalize("NFD", name))
     seen: dict[str, str] = {}
     for entry in files.values() if forms else ():
@@ -314,16 +314,16 @@ def settle(archive: str | None, settings: dict[str, Any]) -> None:
     keep_if_other(SETTINGS, settings)
 
 
-def check_words(out: str, words: Iterable[str]) -> None:
+def check_arguments(out: str, arguments: Iterable[str]) -> None:
     """Refuses what Snakemake 7 would hand to a cluster's shell in a way that isn't safe."""
     if not PLAIN.fullmatch(out):
         sys.exit(
             f"Snakemake hands the path of OUT to the cluster's shell: only letters, digits and ._-+@/ are safe in it, "
             f"so take another than {shown_name(out)}"
         )
-    for word in words:
-        if not word.isprintable() or READ_IN_QUOTES & set(word):
+    for argument in arguments:
+        if not argument.isprintable() or READ_IN_QUOTES & set(argument):
             sys.exit(
-                f"Snakemake hands this to the cluster's shell, which would read more in it: {shown_name(word)}; "
+                f"Snakemake hands this to the cluster's shell, which would read more in it: {shown_name(argument)}; "
                 f"if it is the archive, put a link to it into OUT: ln -s FOLDER OUT/archive"
             )

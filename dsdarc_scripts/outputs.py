@@ -1,14 +1,14 @@
 """What scripts write: whole or not at all, and never over what they read; and how they end.
 
 Files are written beside those that they replace, and get their names once all files of a run are whole. After a
-fault or a signal (INT, TERM, HUP) nothing is left over, and old files stand as they were. What is no file of a folder,
-such as a pipe, is written as it stands."""
+fault or a signal (INT, TERM, HUP) nothing is left over, and old files stay as they were. What is no file of a folder,
+such as a pipe, is written in place."""
 import signal
 from collections.abc import Callable, Iterable, Iterator
 from pathlib import Path
 from typing import BinaryIO, NoReturn
 
-# Ctrl-C ends a script without a word while these modules are loaded.
+# Ctrl-C ends a script silently while these modules are loaded.
 is_usual = signal.getsignal(signal.SIGINT) is signal.default_int_handler
 if is_usual:
     signal.signal(signal.SIGINT, signal.SIG_DFL)
@@ -110,7 +110,7 @@ def disk_of(name: str) -> str:
     return place
 
 
-def told(error: OSError) -> str:
+def reason_of(error: OSError) -> str:
     """The line of a fault of the system."""
     name = error.filename
     if isinstance(name, bytes):
@@ -317,7 +317,7 @@ class Outputs:
 
 
 def begin() -> None:
-    """Lets Ctrl-C end a script without a word while it loads its modules. What it prints shows names as `shown_name`."""
+    """Lets Ctrl-C end a script silently while it loads its modules. What it prints shows names as `shown_name`."""
     codecs.register_error("shown", shown_part)
     for stream in (sys.stdout, sys.stderr):
         with contextlib.suppress(OSError, AttributeError):  # one that is closed is None
@@ -395,7 +395,7 @@ def status_of(main: Callable[[], int]) -> int:
 def why_of(error: Exception) -> str:
     """The line of what can be wrong with what a script is given; other faults are its own."""
     if isinstance(error, OSError):
-        return told(error)
+        return reason_of(error)
     if isinstance(error, MemoryError):
         return "more memory is wanted than there is"
     if isinstance(error, Refused):

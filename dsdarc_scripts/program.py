@@ -32,11 +32,11 @@ def unlaunched(program: str) -> str:
     return path
 
 
-def finished(words: Sequence[Path | str], folder: str | None = None) -> tuple[int, bytes, bytes]:
+def finished(arguments: Sequence[Path | str], folder: str | None = None) -> tuple[int, bytes, bytes]:
     """Runs a command, in a folder: its status, and what it prints on both outputs. Where this is stopped the command is
     asked to end, so that it removes what it was writing."""
     child = subprocess.Popen(
-        words, stdin=subprocess.DEVNULL, stdout=subprocess.PIPE, stderr=subprocess.PIPE, cwd=folder
+        arguments, stdin=subprocess.DEVNULL, stdout=subprocess.PIPE, stderr=subprocess.PIPE, cwd=folder
     )
     try:
         out, err = child.communicate()
@@ -47,12 +47,12 @@ def finished(words: Sequence[Path | str], folder: str | None = None) -> tuple[in
     return child.returncode, out, err
 
 
-def must(program: Path | str, *words: Path | str) -> None:
+def must(program: Path | str, *arguments: Path | str) -> None:
     """Runs a command that has to be done."""
     try:
-        status, out, err = finished([program, *words])
+        status, out, err = finished([program, *arguments])
     except (OSError, ValueError) as error:
         raise Refused(f"the program {program} can't be run ({error}): build it, or name it by DSDARC") from None
     if status:
         said = (err or out).decode(errors="replace").strip()
-        raise Refused(f"{' '.join(map(str, [program, *words]))}: {said or f'status {status}'}")
+        raise Refused(f"{' '.join(map(str, [program, *arguments]))}: {said or f'status {status}'}")

@@ -23,8 +23,8 @@ CUE = ("take", "start", "stop", "bridge", "target", "line", "title")
 class Fault(Refused):
     """A text is no project, or asks for what there isn't: `words` are those of the program, without `Project`."""
 
-    def __init__(self, words: str, told: str) -> None:
-        super().__init__(told)
+    def __init__(self, words: str, line: str) -> None:
+        super().__init__(line)
         self.words = words
 
 
@@ -33,7 +33,7 @@ def shown(name: object) -> str:
     return shown_name(name) if isinstance(name, str) else ascii(name)
 
 
-def place_told(path: Place) -> str:
+def place_shown(path: Place) -> str:
     """The key, table or cue at a path."""
     if not path:
         return ""
@@ -124,7 +124,7 @@ class Text:
     def fault(self, words: str, path: Place, why: str, line: int = 0) -> Fault:
         line = line or self.line(path)
         where = f", line {line}" if line else ""
-        return Fault(words, f"{shown(self.name)}{where}: {place_told(path)}{why} ({words})")
+        return Fault(words, f"{shown(self.name)}{where}: {place_shown(path)}{why} ({words})")
 
 
 class Reading:
@@ -202,7 +202,7 @@ class Reading:
         for number, cue in enumerate(cues):
             self.cue(cue, (*path, "cue", number), len(takes), len(weights) - 1)
         last = (*path, "cue", len(cues) - 1, "bridge")
-        self.demand(cues[-1].get("bridge", 0) == 0, "LastBridge", last, "the last cue has no bridge behind it")
+        self.demand(cues[-1].get("bridge", 0) == 0, "LastBridge", last, "the last cue has no bridge after it")
 
     def cue(self, cue: dict[str, Any], path: Place, takes: int, shortest: int) -> None:
         self.table(cue, path, CUE, "cue")

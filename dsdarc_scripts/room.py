@@ -35,7 +35,7 @@ def advice(folder: str) -> str:
 
 
 def line_of(error: OSError, folder: str) -> str:
-    """What a script says of an error of the system; `folder` is the word for where it writes."""
+    """What a script says of an error of the system; `folder` is the name of where it writes."""
     if is_full(error):
         return advice(folder)
     said = error.strerror or str(error)
@@ -94,7 +94,7 @@ def drop_output() -> None:
 
 
 @contextlib.contextmanager
-def told(folder: str) -> Iterator[None]:
+def reported(folder: str) -> Iterator[None]:
     """Ends a script with one line where the system refuses it something."""
     try:
         yield

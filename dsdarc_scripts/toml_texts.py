@@ -1,12 +1,12 @@
-"""TOML texts as they are written: the lines in which their keys stand, and TOML 1.1 spelled as TOML 1.0.
+"""TOML texts as they are written: the lines that their keys are in, and TOML 1.1 spelled as TOML 1.0.
 
-Python's `tomllib` reads TOML 1.0 and tells no lines. TOML 1.1 may also have line ends, comments and a last comma in
+Python's `tomllib` reads TOML 1.0 and gives no lines. TOML 1.1 may also have line ends, comments and a last comma in
 inline tables, the escapes \\e and \\xHH, and times without seconds. Nothing here judges a text, as a parser does."""
 import re
 import tomllib
 from collections.abc import Iterator
 
-# Where a value stands: the names of tables and keys, and numbers of cues and elements.
+# Where a value is: the names of tables and keys, and numbers of cues and elements.
 Place = tuple[str | int, ...]
 
 PARTS = re.compile(
@@ -48,12 +48,12 @@ def older_word(word: str) -> str:
 
 class Older:
     """A text of TOML 1.1 spelled as TOML 1.0, and for each of its lines that which it had. An inline table may have
-    line ends before a key and behind a value; others stay, and so does all behind what is no TOML."""
+    line ends before a key and after a value; others stay, and so does all after what is no TOML."""
 
     def __init__(self, text: str) -> None:
         self.parts, self.lines = [], [1]
-        self.open: list[list[str]] = []  # brackets, each with what came last behind it
-        self.ends: list[int] = []  # where line ends were that a value may not go on behind
+        self.open: list[list[str]] = []  # brackets, each with what came last after it
+        self.ends: list[int] = []  # where line ends were that a value may not go on after
         self.comma, self.word = 0, ""
         self.is_broken = False
         for kind, part, line in parts_of(text):
@@ -80,12 +80,12 @@ class Older:
 
     def between(self, last: list[str], kind: str, part: str) -> str:
         """A line end or a comment in an inline table."""
-        if last[1] not in ("", "comma", "value", "behind"):
+        if last[1] not in ("", "comma", "value", "after"):
             return part
         if kind == "comment":
             return part if CONTROLS.search(part) else ""
-        if last[1] in ("value", "behind"):
-            last[1] = "behind"
+        if last[1] in ("value", "after"):
+            last[1] = "after"
             self.ends.append(len(self.parts))
         return " "
 
@@ -95,9 +95,9 @@ class Older:
             if self.open.pop() == ["{", "comma"] and part == "}":
                 self.parts[self.comma] = ""
             return
-        if last[1] == "behind" and part != ",":
+        if last[1] == "after" and part != ",":
             self.parts[self.ends[-1]] = "\n"
-        if part == "," and last[1] in ("value", "behind"):
+        if part == "," and last[1] in ("value", "after"):
             self.comma = len(self.parts)
             last[1] = "comma"
         elif part == "=":
@@ -130,7 +130,7 @@ class Lines:
         self.found.setdefault(path, line)
 
     def names(self) -> tuple[list[str], int]:
-        """The names of a key, up to what is behind them, and its line."""
+        """The names of a key, up to what is after them, and its line."""
         names, line = [], self.parts[self.at][2]
         while self.at < len(self.parts) and self.peek() not in ("=", "]", "\n"):
             kind, part, _ = self.parts[self.at]
@@ -176,7 +176,7 @@ class Lines:
         self.value(path)
 
     def value(self, path: Place) -> None:
-        """Goes behind a value."""
+        """Goes past a value."""
         opened = self.peek()
         if opened in ("[", "{"):
             self.at += 1
@@ -188,7 +188,7 @@ class Lines:
             self.at += 1
 
     def inside(self, path: Place, opened: str) -> None:
-        """Goes through an array or an inline table, and behind it."""
+        """Goes through an array or an inline table, and past it."""
         number = 0
         while self.at < len(self.parts):
             kind, part, line = self.parts[self.at]

@@ -117,9 +117,9 @@ def by_rates(text: str, is_louder: bool = False) -> dict[str, str]:
     return found
 
 
-def asked(words: list[str], options: tuple[str, ...] = (), **how: Any) -> subprocess.CompletedProcess[bytes]:
+def asked(arguments: list[str], options: tuple[str, ...] = (), **how: Any) -> subprocess.CompletedProcess[bytes]:
     try:
-        return subprocess.run([PROGRAM, *options, "info", *words], check=False, **how)
+        return subprocess.run([PROGRAM, *options, "info", *arguments], check=False, **how)
     except OSError as error:
         raise Refused(f"no program runs: {PROGRAM}: {error.strerror}") from None
 
@@ -139,8 +139,8 @@ def rate_in_head(name: str) -> int | None:
 
 def rate_of(name: str) -> int:
     """The rate in which a file is stored, as the program reports it; of one that it refuses, the fault and why."""
-    word = f"./{name}" if name.startswith("-") and name != "-" else name
-    reported = asked([word], ("--explain",), capture_output=True)
+    argument = f"./{name}" if name.startswith("-") and name != "-" else name
+    reported = asked([argument], ("--explain",), capture_output=True)
     for line in reported.stdout.decode().splitlines() if reported.returncode == 0 else ():
         if line.startswith("rate "):
             return int(line[5:])

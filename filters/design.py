@@ -178,11 +178,11 @@ def lines_of(taps: list[int]) -> list[str]:
     """The taps in lines of limited length."""
     lines, line = [], " "
     for tap in taps:
-        word = f" {tap},"
-        if len(line) + len(word) > COLUMNS:
+        number = f" {tap},"
+        if len(line) + len(number) > COLUMNS:
             lines.append(line)
             line = " "
-        line += word
+        line += number
     return lines + [line.removesuffix(",")]
 
 
@@ -255,10 +255,10 @@ def check(folder: Path, texts: dict[str, str]) -> bool:
 
 
 def main() -> int:
-    words = argparse.ArgumentParser(description=__doc__.split("\n")[0])
-    words.add_argument("folder", nargs="?", type=Path, default=Path(__file__).parent)
-    words.add_argument("--check", action="store_true", help="compare with the files that are there, write nothing")
-    asked = words.parse_args()
+    parser = argparse.ArgumentParser(description=__doc__.split("\n")[0])
+    parser.add_argument("folder", nargs="?", type=Path, default=Path(__file__).parent)
+    parser.add_argument("--check", action="store_true", help="compare with the files that are there, write nothing")
+    asked = parser.parse_args()
     if not asked.folder.is_dir():
         raise outputs.Refused(f"{outputs.shown_name(str(asked.folder))} is no folder")
     if asked.check:

@@ -284,11 +284,11 @@ def draw_all(projects: list[Project], folder: Path) -> None:
 
 
 def main() -> int:
-    words = argparse.ArgumentParser(description=__doc__.split("\n")[0])
-    words.add_argument("folder", nargs="?", type=Path, default=Path(__file__).parent)
-    words.add_argument("--plots", action="store_true", help="draw each response")
-    words.add_argument("--check", action="store_true", help="status 1 where something is missed")
-    asked = words.parse_args()
+    parser = argparse.ArgumentParser(description=__doc__.split("\n")[0])
+    parser.add_argument("folder", nargs="?", type=Path, default=Path(__file__).parent)
+    parser.add_argument("--plots", action="store_true", help="draw each response")
+    parser.add_argument("--check", action="store_true", help="status 1 where something is missed")
+    asked = parser.parse_args()
     if not asked.folder.is_dir():
         raise Refused(f"{shown_name(str(asked.folder))} is no folder")
     projects = [read(path) for path in asked.folder.glob("*.toml")]
@@ -300,8 +300,8 @@ def main() -> int:
     if asked.plots:
         draw_all(projects, asked.folder)
     if asked.check:
-        told = (asked.folder / "README.md").read_text(encoding="utf-8", errors="replace")
-        faults += [f"README.md: not the table of {table[0]}" for table in printed if "\n".join(table) not in told]
+        text = (asked.folder / "README.md").read_text(encoding="utf-8", errors="replace")
+        faults += [f"README.md: not the table of {table[0]}" for table in printed if "\n".join(table) not in text]
     for fault in faults:
         print(f"missed: {fault}", file=sys.stderr)
     return 1 if asked.check and faults else 0

@@ -54,8 +54,8 @@ class Figures:
 def make_tone(program: Path, path: Path, rate: int) -> None:
     """Writes the tone, and says how far the modulator went."""
     modulator = modulators.modulator_for(rate)
-    words = [modulators.SEED, rate * SECONDS // 8, rate, HERTZ, 10 ** (DECIBELS / 20)]
-    sound, largest = modulators.run(program, modulator, rate, words)
+    arguments = [modulators.SEED, rate * SECONDS // 8, rate, HERTZ, 10 ** (DECIBELS / 20)]
+    sound, largest = modulators.run(program, modulator, rate, arguments)
     path.write_bytes(dsdiff(rate, 1, sound))
     print(f"tone at {rate} Hz: order {modulator.order}, at most {largest} before the quantizer", file=sys.stderr)
 
@@ -135,7 +135,7 @@ def play(program: str, project: Path, tone: Path, out: Path) -> None:
 
 
 def decode(tone: Path, out: Path, rate: int, width: int, options: str) -> None:
-    words: list[str | Path] = [
+    command: list[str | Path] = [
         "ffmpeg",
         "-v",
         "error",
@@ -147,7 +147,7 @@ def decode(tone: Path, out: Path, rate: int, width: int, options: str) -> None:
         "-af",
         f"aresample={rate}{options}",
     ]
-    must(*words, "-c:a", f"pcm_s{width}le", out)
+    must(*command, "-c:a", f"pcm_s{width}le", out)
 
 
 def table_of(project: Path) -> dict:
@@ -204,22 +204,22 @@ def tone_for(modulate: Path, rate: int) -> Path:
 
 def print_figures(program: str, filters: list[Path], modulate: Path) -> None:
     print("| filter | played by | level error | THD+N | noise | peak | late by |\n" + "|" + "---|" * 7)
-    told = set()
+    printed = set()
     for project in filters:
         rate = stored_rate(project)
         tone = tone_for(modulate, rate)
-        if rate not in told:
+        if rate not in printed:
             print(row(f"{rate} Hz", "(the stored bits)", measure_tone(tone, rate)))
-            told.add(rate)
+            printed.add(rate)
         print("\n".join(compare(program, project, tone, modulate.parent / "out.wav")), flush=True)
 
 
 def main() -> int:
-    words = argparse.ArgumentParser(description=__doc__.split("\n")[0])
-    words.add_argument("filters", nargs="*", type=Path, help="projects of this folder")
-    words.add_argument("--program", default=PROGRAM)
-    words.add_argument("--exact", action="store_true", help="compare each sample with a convolution of scipy")
-    asked = words.parse_args()
+    parser = argparse.ArgumentParser(description=__doc__.split("\n")[0])
+    parser.add_argument("filters", nargs="*", type=Path, help="projects of this folder")
+    parser.add_argument("--program", default=PROGRAM)
+    parser.add_argument("--exact", action="store_true", help="compare each sample with a convolution of scipy")
+    asked = parser.parse_args()
     filters = asked.filters or usual()
     with outputs.scratch() as name:
         modulate = modulators.compiled(Path(name))

@@ -4,7 +4,7 @@
 // one what standard input has: 64-bit floats as the machine has them, first the errors of the ORDER steps before, the
 // newest first, then the same after the noise transfer, and then the signal, one for each bit. Writes BYTES bytes to
 // standard output, the earliest bit as the most significant, and to standard error the largest magnitude before the
-// quantizer. With TIMES the same is done so many times, each time with a seed that is larger by STEP.
+// quantizer. With TIMES the same is done that many times, each time with a seed that is larger by STEP.
 #include <limits.h>
 #include <math.h>
 #include <stdint.h>
@@ -72,7 +72,7 @@ static int modulate_input(Modulator *m, long long bytes) {
     return 1;
 }
 
-// The same so many times, each time with a seed that is larger by a step; and whether there was memory for the samples.
+// The same several times, each time with a seed that is larger by a step; and whether there was memory for the samples.
 static int modulate_again(Modulator *m, long long bytes, long long times, uint64_t step) {
     if (bytes < 1 || bytes > LLONG_MAX / 64 || !read_past(m)) return 0;
     size_t number = (size_t)bytes * 8;
@@ -101,16 +101,16 @@ static void modulate_sine(Modulator *m, long long bytes, double rate, double her
     }
 }
 
-int main(int count, char **words) {
+int main(int count, char **arguments) {
     Modulator m = {0};
-    m.order = count > 1 ? atoi(words[1]) : 0;
+    m.order = count > 1 ? atoi(arguments[1]) : 0;
     int fixed = 2 * m.order + 5;
     if (m.order < 1 || m.order > MOST || count < fixed || count > fixed + 3 || count == fixed + 1) return 2;
     for (int i = 0; i < m.order; i++) {
-        m.a[i] = atof(words[2 + i]);
-        m.b[i] = atof(words[2 + m.order + i]);
+        m.a[i] = atof(arguments[2 + i]);
+        m.b[i] = atof(arguments[2 + m.order + i]);
     }
-    char **rest = words + 2 + 2 * m.order;
+    char **rest = arguments + 2 + 2 * m.order;
     m.dither = atof(rest[0]);
     m.random = strtoull(rest[1], NULL, 10);
     long long bytes = atoll(rest[2]);

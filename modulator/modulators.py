@@ -51,11 +51,11 @@ POLES = {
     (5, 1.3): [1.0, -4.476146395354404, 8.039183172751839, -7.239786642068571, 3.268552428892148, -0.5917159763243617],
     (4, 1.3): [1.0, -3.4767208563705125, 4.562759005031947, -2.6764964637833697, 0.5917159825103558],
 }
-STABLE = 3  # what stands before the quantizer stays below this
+STABLE = 3  # what enters the quantizer stays below this
 
 
 class Unstable(Exception):
-    """What stood before the quantizer grew too large."""
+    """What entered the quantizer grew too large."""
 
 
 @dataclass(frozen=True)
@@ -96,34 +96,34 @@ def compiled(folder: Path) -> Path:
     """The modulator's program, made in a folder, in which the compiler has its own files too."""
     program = folder / "modulate"
     compiler = os.environ.get("CC", "cc")
-    words: list[str | Path] = [compiler, "-O1", "-o", program, FOLDER / "modulate.c", "-lm"]
+    command: list[str | Path] = [compiler, "-O1", "-o", program, FOLDER / "modulate.c", "-lm"]
     how: dict[str, Any] = {
         "stdout": subprocess.DEVNULL,
         "stderr": subprocess.PIPE,
         "env": os.environ | {"TMPDIR": str(folder)},
     }
     try:
-        running = subprocess.Popen(words, start_new_session=True, **how)
+        running = subprocess.Popen(command, start_new_session=True, **how)
     except (OSError, ValueError) as error:
         raise Refused(f"the C compiler {compiler!r} can't be run ({error}): install one, or name it by CC") from None
     try:
-        told = running.communicate()[1]
+        err = running.communicate()[1]
     except BaseException:
         os.killpg(running.pid, signal.SIGKILL)
         running.wait()
         raise
     if running.returncode:
-        said = (told.decode(errors="replace").strip().splitlines() or ["it says nothing"])[-1]
+        said = (err.decode(errors="replace").strip().splitlines() or ["it says nothing"])[-1]
         raise Refused(f"{compiler} can't compile modulate.c in {folder}: {said}")
     return program
 
 
-def run(program: Path, modulator: Modulator, rate: int, words: list, samples: bytes = b"") -> tuple[bytes, float]:
-    """The bytes, and what stood before the quantizer at most. Words are a seed, how many bytes, and perhaps how often
+def run(program: Path, modulator: Modulator, rate: int, arguments: list, samples: bytes = b"") -> tuple[bytes, float]:
+    """The bytes, and what entered the quantizer at most. Arguments are a seed, how many bytes, and perhaps how often
     and by what step of the seed, or a sine."""
     zeros, poles = noise_transfer(modulator, rate)
     numbers = [*(repr(float(it)) for it in [*poles[1:], *zeros[1:]]), str(modulator.dither)]
-    line: list[str | Path] = [program, str(modulator.order), *numbers, *(str(it) for it in words)]
+    line: list[str | Path] = [program, str(modulator.order), *numbers, *(str(it) for it in arguments)]
     done = subprocess.run(line, input=samples, capture_output=True, check=False)
     if done.returncode:
         raise Refused(f"the modulator ended with status {done.returncode}")

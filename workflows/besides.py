@@ -10,7 +10,7 @@ from collections.abc import Iterable
 from dsdarc_scripts import names, room, walks
 
 FOLDER, LIST, LEFT = "beside", "beside.json", "not_kept.tsv"
-# What shows that a copy is still that of its source. Snakemake removes the lists before it has them made anew.
+# What shows that a copy is still that of its source. Snakemake removes the lists before it has them made again.
 CACHE = "work/copies.json"
 PART = "work/parts/beside"
 PIECE = 1 << 20
@@ -82,7 +82,7 @@ def keep_all(files: Iterable[str], whys: dict[str, str], most_mb: int) -> None:
 
 
 def forget_lost() -> None:
-    """Has the lists made anew where a copy is gone, or has another size."""
+    """Has the lists made again where a copy is gone, or has another size."""
     if not all(map(is_there, cached().values())):
         names.remove(LIST)
 

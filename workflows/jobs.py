@@ -94,7 +94,7 @@ def of_tracks(entry: dict[str, Any], tracks: list[albums.Track]) -> dict[int, Jo
 
 def by_tracks(archive: str, files: dict[str, dict[str, Any]]) -> tuple[dict[str, Job], list[tuple[str, str]]]:
     """The jobs of an archive whose albums are played by tracks, by their keys, and the names of albums whose tracks
-    can't be told, with the reason."""
+    can't be determined, with the reason."""
     jobs, refused = dict[str, Job](), []
     for key, entry in files.items():
         try:
@@ -116,9 +116,9 @@ def factor_of(path: str) -> int:
         return tomllib.load(file)["decimate"]["factor"]
 
 
-def words_of(job: Job, filter_path: str) -> str:
-    """The words by which the program plays just what a job says. A track's first frame is the last that begins at its
+def options_of(job: Job, filter_path: str) -> str:
+    """The options by which the program plays just what a job says. A track's first frame is the last that begins at its
     mark or before it, as `play --from '#3'` has it."""
     places = [("--from", job.start or None), ("--to", job.stop)]
-    asked = [(word, bit) for word, bit in places if bit is not None]
-    return " ".join(f"{word} @{bit // factor_of(filter_path)}" for word, bit in asked)
+    asked = [(option, bit) for option, bit in places if bit is not None]
+    return " ".join(f"{option} @{bit // factor_of(filter_path)}" for option, bit in asked)

@@ -124,7 +124,7 @@ def main() -> int:
     parser = argparse.ArgumentParser(description=__doc__.partition(": ")[0] + ".")
     parser.add_argument("folder", help="the folder to make, or to add to")
     folder, chance = parser.parse_args().folder, random.Random(1)
-    with room.told("FOLDER"):
+    with room.reported("FOLDER"):
         broken(folder, chance)
         for number in range(82):
             good(folder, number, chance)

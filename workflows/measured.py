@@ -53,7 +53,7 @@ def wave_of(file: BinaryIO) -> Wave:
 
 def samples(file: BinaryIO, wave: Wave, first: int, count: int) -> np.ndarray:
     """Frames as whole numbers of 32 bits, the lowest 8 or 16 of them zero."""
-    # Of the file that the run made: the library takes four times as long to play the source anew as this to read it.
+    # Of the file that the run made: the library takes four times as long to play the source again as this to read it.
     size = wave.width // 8
     file.seek(wave.start + first * wave.channels * size)
     # Four bytes from each sample's place, less the bytes before it, which belong to another.

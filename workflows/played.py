@@ -19,7 +19,7 @@ EARLIER = "earlier.txt"
 @dataclasses.dataclass(frozen=True)
 class Recipe:
     """What a WAVE file is made of: the name of its source in the archive and what shows a change of that
-    (`walks.identity_of`), the SHA-256 of the filter, and the words for the part that is played."""
+    (`walks.identity_of`), the SHA-256 of the filter, and the options for the part that is played."""
 
     source: str
     identity: tuple[int, ...]
@@ -74,7 +74,7 @@ class Notes:
                 self.known[made.result] = made
 
     def add(self, made: Made) -> None:
-        """Adds a line, which begins anew also where the last one isn't whole."""
+        """Adds a line, which begins on a new line also where the last one isn't whole."""
         with self.lock:
             with open(self.path, "ab", buffering=0) as file:
                 file.write(f"\n{line_of(made)}".encode())
@@ -102,5 +102,5 @@ class Notes:
         return sorted(it for it in self.known if it not in results)
 
     def keep(self) -> None:
-        """Writes all lines anew, each file once."""
+        """Rewrites all lines, each file once."""
         names.keep(self.path, "".join(line_of(self.known[it]) for it in sorted(self.known)))

@@ -121,7 +121,7 @@ def restore_all(out: str, folder: str) -> tuple[int, int]:
                 if isinstance(error, OSError) and room.is_full(error):
                     raise
                 wrong += 1
-                why = outputs.told(error) if isinstance(error, OSError) else error
+                why = outputs.reason_of(error) if isinstance(error, OSError) else error
                 print(f"not made again: {outputs.shown_name(name)}: {why}", file=sys.stderr)
     return len(results) - wrong, wrong
 
@@ -132,7 +132,7 @@ def main() -> int:
         return 0
     if len(sys.argv) != 3:
         raise outputs.Refused(__doc__.partition("\n")[0])
-    with room.told("FOLDER"):
+    with room.reported("FOLDER"):
         made, wrong = restore_all(*sys.argv[1:])
     print(f"made again {made}, not {wrong}")
     left = not_kept(sys.argv[1])

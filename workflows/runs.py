@@ -61,7 +61,7 @@ def is_of_waves(path: str) -> bool:
     return not os.path.lexists(path) or all(name.endswith(".wav") for name in sums_of(path))
 
 
-def told_of(row: Row, found: dict[str, Any]) -> None:
+def take_report(row: Row, found: dict[str, Any]) -> None:
     """Takes what the program reports of a file."""
     row.form, row.rate, row.channels, row.samples = (
         found.get("form", ""),
@@ -103,7 +103,7 @@ def of_workflow(out: str) -> list[Row]:
             continue
         row = rows[entry["name"]] = Row(entry["name"], pcm=found["pcm"])
         row.dropped = found["dropped"] if found["converted"] else None
-        told_of(row, names.load(os.path.join(out, "work", "looks", f"{key}.json")))
+        take_report(row, names.load(os.path.join(out, "work", "looks", f"{key}.json")))
         row.kept = kept_beside(found)
         made = {"file": found["sha256"], "converted": sums.get(found["converted"]), "WAVE": sums.get(found["pcm"])}
         row.sums = {what: total for what, total in made.items() if total}
@@ -143,7 +143,7 @@ def asked(archive: str, row: Row) -> None:
     except ValueError:
         return
     if done.returncode == 0:
-        told_of(row, dict(line.split(" ", 1) for line in done.stdout.decode().split("\n") if line))
+        take_report(row, dict(line.split(" ", 1) for line in done.stdout.decode().split("\n") if line))
         row.samples = None if is_track else row.samples
 
 

@@ -1,9 +1,8 @@
 #!/usr/bin/env python3
 """The steps of the workflow, in OUT: steps.py look|convert|play KEY over one file, steps.py plan|beside|lists over all.
 
-`names.py` has the keys, and the names behind them. The notes in `work/` are what Snakemake knows; a step writes its note
-last, and a file that is written has its name only once it is whole.
-"""
+`names.py` has the keys, and the names that they stand for. The notes in `work/` are what Snakemake knows; a step writes
+its note last, and a file that is written has its name only once it is whole. """
 import os
 import sys
 from collections.abc import Callable
@@ -26,15 +25,15 @@ from workflows import kept as kept_of
 ENDINGS = {"dsdiff": "dff", "dsf": "dsf", "dsf8": "dsf"}
 
 
-def run(*words: str) -> tuple[int, str]:
+def run(*arguments: str) -> tuple[int, str]:
     """Status and line of a command."""
-    status, out, err = finished([PROGRAM, *words])
+    status, out, err = finished([PROGRAM, *arguments])
     return status, (err if status else out).decode(errors="replace").strip()
 
 
-def must(entry: dict[str, Any], size: Callable[[], int], *words: str) -> str:
+def must(entry: dict[str, Any], size: Callable[[], int], *arguments: str) -> str:
     """The line of a command that has to be done; `size` reckons that of the file that it makes."""
-    status, line = run(*words)
+    status, line = run(*arguments)
     if status != 0:
         room.check(line, "work/parts", size)
         sys.exit(f"{line or f'status {status}'}: {shown_name(entry['name'])}")
@@ -73,8 +72,8 @@ def look(key: str) -> None:
     if status == 0:
         # The text of a mark may have what else ends a line.
         lines = [line.split(" ", 1) for line in text.split("\n")]
-        told = {word: value for word, value in lines if word not in ("mark", "ids")}
-        found = {word: value if word == "form" else int(value) for word, value in told.items()}
+        fields = {name: value for name, value in lines if name not in ("mark", "ids")}
+        found = {name: value if name == "form" else int(value) for name, value in fields.items()}
     elif status in (2, 3) and fault != "fault: Memory":
         found = {"fault": fault.removeprefix("fault: "), "why": more}
     else:
@@ -103,9 +102,9 @@ def compare(
     """Rate and sums of a file's channels, once those of the converted ones are equal and it can be made again. The
     converted file is read without the program."""
     first = sums_in(entry, source)
-    for word, sums in (("converted", channels.read(part)), ("back", sums_in(entry, back))):
+    for which, sums in (("converted", channels.read(part)), ("back", sums_in(entry, back))):
         if sums != first:
-            sys.exit(f"the {word} file has other bits: {shown_name(entry['name'])}")
+            sys.exit(f"the {which} file has other bits: {shown_name(entry['name'])}")
     if kept_of.sum_of_pieces(kept_of.made_again(part, kept)) != sum_before:
         sys.exit(f"what is kept doesn't make the file again: {shown_name(entry['name'])}")
     return first
@@ -231,7 +230,7 @@ def by_name(table: dict[str, Any]) -> list[tuple[str, dict[str, Any]]]:
     return sorted(table["files"].items(), key=lambda item: item[1]["name"])
 
 
-def told(key: str, todo: dict[str, Any], form: str) -> tuple[dict[str, dict[str, Any]], dict[str, Any]]:
+def described(key: str, todo: dict[str, Any], form: str) -> tuple[dict[str, dict[str, Any]], dict[str, Any]]:
     """The notes of what was made of a file, and what `results.json` says of it."""
     notes = {step: load(note_of(step, key, form)) for step in ("convert", "play") if todo[step]}
     results = {step: sorted(note["results"]) for step, note in notes.items()}
@@ -251,7 +250,7 @@ def lists() -> None:
     table, steps, form = load(TABLE), load("work/plan.json"), load(SETTINGS)["form"]
     sources, made, sounds, results = [], dict[str, dict[str, Any]](), [], {}
     for key, entry in by_name(table):
-        notes, results[entry["name"]] = told(key, steps[key], form)
+        notes, results[entry["name"]] = described(key, steps[key], form)
         if results[entry["name"]]["sha256"]:
             sources.append(sum_line(results[entry["name"]]["sha256"], entry["name"]))
         for note in notes.values():
@@ -315,5 +314,5 @@ def main(step: str, *key: str) -> int:
 
 
 if __name__ == "__main__":
-    with room.told("OUT"):
+    with room.reported("OUT"):
         sys.exit(outputs.ended(lambda: main(*sys.argv[1:])))

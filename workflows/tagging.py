@@ -1,7 +1,7 @@
 """Hands the ID3 tag of a DSF, DSDIFF or WAVE file on to another one, by mutagen; the sound stays as it is.
 
 A DSF file has its tag at its end, a DSDIFF file in a chunk `ID3 `, a WAVE file in a chunk `id3 `. The tag is handed on as
-its bytes. It has to be one that mutagen reads, before and behind. Whether a file has one is seen without mutagen."""
+its bytes. It has to be one that mutagen reads, before and after. Whether a file has one is seen without mutagen."""
 import hashlib
 import io
 import os
@@ -173,7 +173,7 @@ def write(name: str, tag: bytes) -> None:
 
 def put(name: str, tag: bytes, is_compared: bool = False) -> None:
     """Puts a tag into a file that no one else reads yet, in the place of the one that it has. Its sound has to be the
-    same before and behind, unless that is compared elsewhere, and mutagen has to read the tag back. Where this fails
+    same before and after, unless that is compared elsewhere, and mutagen has to read the tag back. Where this fails
     the file isn't to be used."""
     said, before = read(tag), None if is_compared else sound_sum(name)
     try:

@@ -1,6 +1,6 @@
 """Has Snakemake 7 end with one line where the disk of OUT is full.
 
-By itself it says some fifty lines for each word that its log doesn't take, and with `--keep-going` begins every job.
+By itself it says some fifty lines for each line that its log doesn't take, and with `--keep-going` begins every job.
 """
 import contextlib
 import logging
@@ -17,7 +17,7 @@ HUSHED = frozenset({"all"})
 
 
 class Log(logging.FileHandler):
-    """Snakemake's log: what the disk doesn't take is left out of it, and no word is said of that."""
+    """Snakemake's log: what the disk doesn't take is left out of it, and nothing is said of that."""
 
     def handleError(self, record: logging.LogRecord) -> None:
         pass
@@ -78,7 +78,7 @@ def watch(workflow: Any, logger: Any) -> None:
 def one_line(logger: Any) -> Iterator[None]:
     """Ends Snakemake before it starts with the line that stops it, without where in the Snakefile that was."""
     try:
-        with room.told("OUT"):
+        with room.reported("OUT"):
             yield
     except SystemExit as stop:
         hush(logger)

@@ -109,7 +109,7 @@ class Sound(NotCopied):
             raise owed
         turn = self._turn = object()
         if self._is_lost:
-            self._make_anew()
+            self._make_again()
         if self._stale:
             self._place(self._player, self._at)
         self._stale = True
@@ -132,7 +132,7 @@ class Sound(NotCopied):
         offset = player.seek(frame, self.name)
         self._rest, self._next, self._ended = NONE, self._opened().start + offset, False
 
-    def _make_anew(self) -> None:
+    def _make_again(self) -> None:
         """Makes the player that was left in another process."""
         player = Player(self._text, self._filter)
         if self._learned(player) != self.info:
@@ -333,7 +333,8 @@ class Sound(NotCopied):
         return f"<dsdarc.Sound {self.name!r}: {'closed' if self.closed else self.info}>"
 
     def _is_forked(self) -> None:
-        """Tells the sound that it is in a new process: no thread of the old one is in it, and may have been amid a call."""
+        """Notes that the sound is in a new process: no thread of the old one is in it, and may have been amid a
+        call."""
         if self._source is not None:
             self._source.forked = True
         if self._lock.acquire(blocking=False):

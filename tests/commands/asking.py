@@ -1,8 +1,8 @@
 """Asks the built program command lines, each case in a fresh folder. A status has to be the one that is written, standard
-output and standard error too, byte by byte, and behind each command line just those files have to stand that were there
-or that it has to make, with their bytes.
+output and standard error too, byte by byte. After each command line the folder has to hold just the files that were
+there and those that it has to make, with their bytes.
 
-DSDARC names another program: the built one itself, for bin/dsdarc answers some words of its own."""
+DSDARC names another program: the built one itself, as bin/dsdarc answers some arguments itself."""
 import os
 import subprocess
 import sys
@@ -23,30 +23,30 @@ NONE: dict[str, bytes] = {}
 EDIT = "edit dsdiff e.toml m.dff c.cert"
 CHECK = "check e.toml m.dff c.cert"
 
-# A command line, its words behind the program's name, or none where there is no name either; the status, the line that is
-# printed, on standard output where the status is 0 or 1 and else on standard error, and the files that are made. Then the
-# line that explains it, on standard error, or nothing; `{folder}` in it is the folder that the command line is run in. Last
-# what is printed on standard output before a fault.
-Step = namedtuple("Step", "words status line made why before", defaults=(NONE, "", ""))
+# A command line: its arguments after the program's name, or none where there is no name either; the status, the line
+# that is printed, on standard output where the status is 0 or 1 and else on standard error, and the files that are
+# made. Then the line that explains it, on standard error, or nothing; `{folder}` in it is the folder that the command
+# line is run in. Last what is printed on standard output before a fault.
+Step = namedtuple("Step", "arguments status line made why before", defaults=(NONE, "", ""))
 
 # The files that are there, and command lines one after the other.
 Case = namedtuple("Case", "files steps")
 
 
-def done(words: str, line: str, made: dict[str, bytes] = NONE) -> Step:
-    return Step(words.split(), 0, line, made)
+def done(arguments: str, line: str, made: dict[str, bytes] = NONE) -> Step:
+    return Step(arguments.split(), 0, line, made)
 
 
-def refused(words: str, line: str, made: dict[str, bytes] = NONE) -> Step:
-    return Step(words.split(), 2, f"fault: {line}", made)
+def refused(arguments: str, line: str, made: dict[str, bytes] = NONE) -> Step:
+    return Step(arguments.split(), 2, f"fault: {line}", made)
 
 
-def rejected(words: str, line: str) -> Step:
-    return Step(words.split(), 1, f"rejected {line}")
+def rejected(arguments: str, line: str) -> Step:
+    return Step(arguments.split(), 1, f"rejected {line}")
 
 
-def unread(words: list[str] | list[str | bytes] | None, line: str) -> Step:
-    return Step(words, 3, f"fault: {line}")
+def unread(arguments: list[str] | list[str | bytes] | None, line: str) -> Step:
+    return Step(arguments, 3, f"fault: {line}")
 
 
 def demand(holds: object, text: str) -> None:
@@ -55,22 +55,22 @@ def demand(holds: object, text: str) -> None:
         sys.exit(f"{os.path.basename(sys.argv[0])}: {text}")
 
 
-def differences(found: dict[str, Any], stands: dict[str, bytes]) -> Iterator[str]:
-    """In what the files of a folder differ from those that have to stand there."""
-    for name in sorted(found.keys() | stands.keys()):
-        if name not in stands:
+def differences(found: dict[str, Any], expected: dict[str, bytes]) -> Iterator[str]:
+    """In what the files of a folder differ from those that have to be there."""
+    for name in sorted(found.keys() | expected.keys()):
+        if name not in expected:
             yield f"{name} was made"
         elif found.get(name) is None:
             yield f"{name} is missing, or no file"
-        elif found[name] != stands[name]:
+        elif found[name] != expected[name]:
             yield f"{name} has other bytes, {found[name][:200].hex()}.. of {len(found[name])}"
 
 
-def wrong_in(step: Step, folder: str, stands: dict[str, bytes]) -> Iterator[str]:
-    """What is wrong where a command line is run in a folder, and these files have to stand behind it."""
-    words = [] if step.words is None else ["dsdarc", *step.words]
+def wrong_in(step: Step, folder: str, expected: dict[str, bytes]) -> Iterator[str]:
+    """What is wrong where a command line is run in a folder, and its folder has to hold these files afterwards."""
+    arguments = [] if step.arguments is None else ["dsdarc", *step.arguments]
     ran = subprocess.run(
-        words, executable=PROGRAM, cwd=folder, stdin=subprocess.DEVNULL, capture_output=True, check=False
+        arguments, executable=PROGRAM, cwd=folder, stdin=subprocess.DEVNULL, capture_output=True, check=False
     )
     line, why = step.line.encode() + b"\n", step.why.replace("{folder}", os.path.realpath(folder))
     out, err = (line, b"") if step.status < 2 else (step.before.encode(), line)
@@ -81,28 +81,28 @@ def wrong_in(step: Step, folder: str, stands: dict[str, bytes]) -> Iterator[str]
         yield f"standard output {ran.stdout}, not {out}"
     if ran.stderr != err:
         yield f"standard error {ran.stderr}, not {err}"
-    yield from differences(files_in(folder), stands)
+    yield from differences(files_in(folder), expected)
 
 
 def try_case(case: Case) -> list[list[str]]:
     """Runs the command lines of a case: what is wrong with each."""
-    found, stands = [], dict(case.files)
+    found, expected = [], dict(case.files)
     with tempfile.TemporaryDirectory() as folder:
-        for name, data in stands.items():
+        for name, data in expected.items():
             with open(os.path.join(folder, name), "wb") as file:
                 file.write(data)
         for step in case.steps:
-            stands.update(step.made)
-            found.append(list(wrong_in(step, folder, stands)))
+            expected.update(step.made)
+            found.append(list(wrong_in(step, folder, expected)))
     return found
 
 
-def tell(case: Case, found: list[list[str]]) -> int:
+def show(case: Case, found: list[list[str]]) -> int:
     """Prints what is wrong with the command lines of a case, and over which files: how many were answered as they must
     be."""
     for step, wrong in zip(case.steps, found):
         for each in wrong:
-            print(f"  FOUND: dsdarc {step.words}: {each}", flush=True)
+            print(f"  FOUND: dsdarc {step.arguments}: {each}", flush=True)
     if any(found):
         over = (f"{ascii(name)} {data if len(data) < 500 else len(data)}" for name, data in case.files.items())
         print(f"  OVER: {'; '.join(over)}", flush=True)
@@ -115,8 +115,8 @@ def ask(title: str, cases: Iterable[Case]) -> int:
         sys.exit(f"{os.path.basename(sys.argv[0])}: run bin/dsdarc first")
     cases = list(cases)
     with ThreadPoolExecutor(os.cpu_count()) as pool:
-        right = sum(map(tell, cases, pool.map(try_case, cases)))
+        right = sum(map(show, cases, pool.map(try_case, cases)))
     number = sum(len(case.steps) for case in cases)
-    told_of = "each answered as it must be" if right == number else f"{number - right} not answered as they must be"
-    print(f"{title}: {number} cases, {told_of}")
+    answers = "each answered as it must be" if right == number else f"{number - right} not answered as they must be"
+    print(f"{title}: {number} cases, {answers}")
     return 0 if right == number else 1

@@ -47,7 +47,7 @@ CHANGED_WIDE = (
 )
 
 # The same of the second version: the row of level 0 has its least value at 18 to 25, its width at 26 and its excesses at 27
-# and 28, that of level 1 its least value at 29 to 36 and its width at 37, and the cost stands at 38 to 45.
+# and 28, that of level 1 its least value at 29 to 36 and its width at 37, and the cost is at 38 to 45.
 CHANGED_CERT = (
     (36, 5, "Cert 0 Step 1 0"),
     (36, 3, "Cert 0 End 0"),
@@ -108,7 +108,7 @@ UNACCEPTED = (
 )
 
 # The bits of the one byte in which the bound of a state that nothing reaches at level 0, 4, exceeds that of the other state,
-# 0: it may as well be more, as long as it isn't 0, for which no byte is needed. That byte stands 15 bytes behind the start
+# 0: it may as well be more, as long as it isn't 0, for which no byte is needed. That byte is 15 bytes after the start
 # of an entry, at 12 or 46.
 OTHER_BITS = (1, 2, 8, 16, 32, 64, 128)
 
@@ -153,7 +153,7 @@ def check_cases() -> Iterator[Case]:
         for master, line in masters:
             yield Case(to_check(master, cert, files), [rejected(CHECK, line)])
     yield Case(to_check(mono(b"\x7f\0"), CERT), [rejected(CHECK, "CuedBit 0 0")])
-    # A certificate that isn't there is told before a wrong master.
+    # A certificate that isn't there is reported before a wrong master.
     yield Case(to_cut(splice([1, 0])) | {"m.dff": b""}, [refused(CHECK, "ReadFailed")])
     for row in FREE_BYTES:
         yield from turned_certs(*row)

@@ -19,7 +19,7 @@ OPEN = ("-", "/dev/stdout", "/dev/fd/1", "/proc/self/fd/1")
 OTHER = {"MASTER": "CERT", "CERT": "MASTER"}
 
 
-def stands() -> dict[str, tuple[int, Any]]:
+def contents() -> dict[str, tuple[int, Any]]:
     """What each name of the current folder is: its inode, where it leads or its bytes."""
     now = {}
     for entry in os.scandir("."):
@@ -47,34 +47,35 @@ def ways(name: str) -> Iterator[tuple[str, str | None]]:
         yield other, None
 
 
-def ran(words: list[str], out: str | None = None, source: Any = None) -> tuple[int | None, bytes, bytes]:
+def ran(arguments: list[str], out: str | None = None, source: Any = None) -> tuple[int | None, bytes, bytes]:
     """A command's status, output and standard error; its output is appended to a file, or captured. A pipe gets a take."""
     with contextlib.ExitStack() as ends:
         given = ends.enter_context(open(source or os.devnull, "rb"))
         to: Any = ends.enter_context(open(out, "ab")) if out else subprocess.PIPE
-        if "p.toml" in words and "edit" in words:
+        if "p.toml" in arguments and "edit" in arguments:
             feeder = ends.enter_context(subprocess.Popen(["sh", "-c", "cat a.dff >pipe"]))
             ends.callback(feeder.kill)
         try:
             done = subprocess.run(
-                [PROGRAM, *words], stdin=given, stdout=to, stderr=subprocess.PIPE, timeout=SECONDS, check=False
+                [PROGRAM, *arguments], stdin=given, stdout=to, stderr=subprocess.PIPE, timeout=SECONDS, check=False
             )
         except subprocess.TimeoutExpired:
             return None, b"", b"it waits"
     return done.returncode, done.stdout or b"", done.stderr
 
 
-def refused(words: list[str], place: str, what: str, out: str | None = None, source: Any = None) -> None:
+def refused(arguments: list[str], place: str, what: str, out: str | None = None, source: Any = None) -> None:
     """A command refuses a file, which it says is this one too, and leaves all as it was."""
-    before, shown = stands(), " ".join(words)
-    name = words[-2 if place == "MASTER" else -1]
+    before, shown = contents(), " ".join(arguments)
+    name = arguments[-2 if place == "MASTER" else -1]
     name = "the standard stream" if name == "-" else name
     for flag in list[str](), ["--explain"]:
-        status, said, err = ran([*flag, *words], out, source)
+        status, said, err = ran([*flag, *arguments], out, source)
         line = "fault: WriteFailed\n" + (f"{name} ({place}): it is {what} too: give another name\n" if flag else "")
         demand((status, said, err) == (2, b"", line.encode()), f"{shown}: {status}, {said!r}, {err!r}, not {line!r}")
         demand(
-            stands() == before, f"{shown}: {sorted(it for it in stands() if stands()[it] != before.get(it))} changed"
+            contents() == before,
+            f"{shown}: {sorted(it for it in contents() if contents()[it] != before.get(it))} changed",
         )
 
 
@@ -122,9 +123,9 @@ def pipes() -> None:
         with ours, theirs:
             ours.sendall(CUT["e.toml"])
             ours.shutdown(socket.SHUT_WR)
-            words = [PROGRAM, "edit", "dsdiff", "-", "-", "c"]
+            arguments = [PROGRAM, "edit", "dsdiff", "-", "-", "c"]
             done = subprocess.run(
-                words, stdin=theirs.fileno(), stdout=theirs.fileno(), stderr=subprocess.PIPE, check=False
+                arguments, stdin=theirs.fileno(), stdout=theirs.fileno(), stderr=subprocess.PIPE, check=False
             )
             theirs.close()
             with ours.makefile("rb") as file:
@@ -132,8 +133,8 @@ def pipes() -> None:
         demand((done.returncode, given) == (0, MASTER), f"a socket: {done}, {given!r}")
     for names in (["/dev/null", "/dev/null"], ["-", "-"], ["-", "/dev/null"]):
         with fresh(**CUT):
-            told = ran(["edit", "dsdiff", "e.toml", *names], os.devnull)
-            demand(told == (0, b"", b""), f"{names}, the null device: {told}")
+            result = ran(["edit", "dsdiff", "e.toml", *names], os.devnull)
+            demand(result == (0, b"", b""), f"{names}, the null device: {result}")
 
 
 def played_projects() -> None:
@@ -160,6 +161,6 @@ def refuse_inputs() -> int:
         played_projects()
     finally:
         os.chdir(here)
-    told = f"{len(found)} found" if found else "each refused, and every file as it was"
-    print(f"outputs that are inputs, or one file: {count} names and {told}")
+    outcome = f"{len(found)} found" if found else "each refused, and every file as it was"
+    print(f"outputs that are inputs, or one file: {count} names and {outcome}")
     return 1 if found else 0

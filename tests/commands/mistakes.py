@@ -1,4 +1,4 @@
-"""Mistakes that are easily made, and the line that explains each behind its fault: what it was, and what would fit.
+"""Mistakes that are easily made, and the line that explains each after its fault: what it was, and what would fit.
 
 Each is asked twice: with `--explain`, and without, where the answer, the status and the files are the same and no line
 follows. What needs more than small files is in tests/try_explained."""
@@ -188,7 +188,7 @@ NO_VALUE = "invalid value, expected a string, number, boolean, date-time, array 
 NO_COMMA = "missing comma between array elements, expected `,` or `]`"
 QUOTES = '; a text is in quotation marks, as in takes = ["one.dff", "two.dff"]'
 
-# What stands in it in place of what, and why.
+# What replaces what in it, and why.
 SLIPS = (
     (b'["a.dff", "b.dff"]', b"[a.dff, b.dff]", "NotToml", f"line 3: {NO_VALUE}{QUOTES}"),
     (b'["a.dff", "b.dff"]', b'["a.dff, "b.dff"]', "NotToml", f"line 3: {NO_COMMA}{QUOTES}"),
@@ -394,7 +394,7 @@ FLAC = b"fLaC".ljust(40, b"\0")
 IS_FLAC = 'it begins with "fLaC": a FLAC file, not a DSDIFF or DSF file'
 SUM_LINE = "a line has to be one that dsdarc sum prints of a file"
 
-# What `sum` has no sums of and can't read as a list: files, words, the fault, why, and what is printed before.
+# What `sum` has no sums of and can't read as a list: files, arguments, the fault, why, and what is printed before.
 SUMS: tuple[Any, ...] = (
     ({}, ["sum", "none"], "ReadFailed  none", "none (FILE): No such file or directory", ""),
     (
@@ -463,8 +463,8 @@ SUM_USAGE = "; usage: dsdarc sum [--check] FILE.."
 FROM_0_TO_59 = "; after a colon come minutes or seconds from 0 to 59"
 A_PLACE = "takes a time (90, 1:30 or 1:02:03.5), a frame (@123456) or a mark of a DSDIFF file (#3)"
 
-# Words that are no command, and why.
-WORDS: tuple[Any, ...] = (
+# Usage errors, and why.
+WRONG_USES: tuple[Any, ...] = (
     ("", f"no command is named: {ALL_COMMANDS}"),
     ("plya p.toml in.dff out", '"plya" is no command; did you mean play?'),
     ("Info in.dff", '"Info" is no command; did you mean info?'),
@@ -514,8 +514,8 @@ FORMS = (
     ("in.dff", ""),
 )
 
-# Words of which one is no text or has what a terminal would act on.
-ODD_WORDS: tuple[Any, ...] = (
+# Arguments of which one isn't UTF-8 or has what a terminal would act on.
+ODD_ARGUMENTS: tuple[Any, ...] = (
     (["info", b"caf\xe9\n.dff"], 3, "WrongWords", "a name has to be UTF-8, and caf\\xe9\\n.dff is not"),
     (
         ["info", "a\nb\x1b[31m\u202ec"],
@@ -624,7 +624,7 @@ REJECTED = (
 )
 
 
-# Words of a command in the wrong places, what it comes to, and why.
+# Arguments in the wrong places, what the command comes to, and why.
 EXCHANGED = (
     (
         "check e.toml c.cert m.dff",
@@ -699,7 +699,7 @@ EMPTY = "352800 Hz, 16 bits, 1 channel, 0:00:00.000; "
 
 def asked(
     files: dict[str, bytes],
-    words: Any,
+    arguments: Any,
     status: int,
     line: str,
     why: str,
@@ -707,14 +707,14 @@ def asked(
     before: str = "",
 ) -> Iterator[Case]:
     """A command line with `--explain` and without."""
-    words = words.split() if isinstance(words, str) else list(words)
+    arguments = arguments.split() if isinstance(arguments, str) else list(arguments)
     made = made or {}
-    yield Case(files, [Step(["--explain", *words], status, line, made, why, before)])
-    yield Case(files, [Step(words, status, line, made, "", before)])
+    yield Case(files, [Step(["--explain", *arguments], status, line, made, why, before)])
+    yield Case(files, [Step(arguments, status, line, made, "", before)])
 
 
 def refusals() -> Iterator[tuple[dict[str, bytes], str, int, str, str, dict[str, bytes] | None]]:
-    """All that comes to a fault: its files, words, status, fault, why, and the files that are made."""
+    """All that comes to a fault: its files, arguments, status, fault, why, and the files that are made."""
     for data, line, why in FILES:
         yield {"in": data}, "info in", 2, f"FileUnread {line}", f"in (FILE): {why}", None
     for data, line, why in FILES:
@@ -727,54 +727,54 @@ def refusals() -> Iterator[tuple[dict[str, bytes], str, int, str, str, dict[str,
     for old, new, line, why in SLIPS:
         text = TEXT[::-1].replace(old[::-1], new[::-1], 1)[::-1] if old in LAST else TEXT.replace(old, new, 1)
         yield to_cut(text), EDIT, 2, f"Project {line}", f"e.toml (PROJECT): {why}", None
-    for files, words, line, why in OTHERS:
-        yield files, words, 2, line, why, None
+    for files, arguments, line, why in OTHERS:
+        yield files, arguments, 2, line, why, None
     why = "p.toml (PROJECT): it is a cue list, for edit and check; the ready filters are in filters/"
     yield {"in": FILE, "p.toml": TEXT}, "play p.toml in out", 2, "NoDecimation", why, {"out": b""}
     why = "in (IN) has 2,822,400 Hz, which the factor 1024 of p.toml does not divide: "
     why += "filters/pick (installed: dsdarc-pick) prints the filter that fits a file"
     yield {"in": FILE, "p.toml": UNDIVIDED}, "play p.toml in out", 2, "RateNotDivided", why, {"out": b""}
-    for data, words, line, why in UNPLAYED:
-        yield {"in": data, "p.toml": DECIMATE}, f"play {words} p.toml in out", 2, line, why, None
+    for data, arguments, line, why in UNPLAYED:
+        yield {"in": data, "p.toml": DECIMATE}, f"play {arguments} p.toml in out", 2, line, why, None
     why = ". (IN): it is a folder; workflows/play_all plays the files of a folder"
     yield TO_PLAY, "play p.toml . out", 2, "ReadFailed", why, {"out": b""}
     yield TO_PLAY, "play --from #1 p.toml . out", 2, "ReadFailed", why, None
     why = "none/c (CERT): No such file or directory; there is no folder none"
     yield to_cut(TEXT), "edit dsdiff e.toml m.dff none/c", 2, "WriteFailed", why, {"m.dff": MASTER}
-    for words, why in WORDS:
-        yield {"in.dff": FILE}, words, 3, "WrongWords", why, None
+    for arguments, why in WRONG_USES:
+        yield {"in.dff": FILE}, arguments, 3, "WrongWords", why, None
     for form, more in FORMS:
         why = f'"{form}" is no form: FORM is dsdiff, dsf or dsf8{more}'
         yield {"in.dff": FILE}, f"convert {form} in.dff out", 3, "UnknownFormName", why, None
         yield {"in.dff": FILE}, f"convert -- {form} in.dff out", 3, "UnknownFormName", why, None
-    for words, status, line, why in ODD_WORDS:
-        yield {"in.dff": FILE}, words, status, line, why, None
+    for arguments, status, line, why in ODD_ARGUMENTS:
+        yield {"in.dff": FILE}, arguments, status, line, why, None
 
 
-# What stands in the last cue of the splice, and is changed there.
+# What is changed in the last cue of the splice.
 LAST = (b"start = 2", b"start = 2\n", b"take = 1", b"stop = 9")
 
 
 def explained_cases() -> Iterator[Case]:
     """All mistakes, each as two command lines; and a command that is done, of which nothing is explained."""
-    for files, words, status, line, why, made in refusals():
-        yield from asked(files, words, status, f"fault: {line}", why, made)
+    for files, arguments, status, line, why, made in refusals():
+        yield from asked(files, arguments, status, f"fault: {line}", why, made)
     for project, master, cert, line, why in REJECTED:
         yield from asked(to_check(master, cert, to_cut(project)), CHECK, 1, f"rejected {line}", why)
-    for files, words, line, why, before in SUMS:
-        yield from asked(files, words, 2, f"fault: {line}", why, None, before)
-    for words, status, line, why in EXCHANGED:
-        yield from asked(to_check(MASTER, CERT), words, status, line, why)
-    for more, words, why in PLAYED:
-        yield from asked(TO_PLAY | more, words, 0, "played 46 bytes", why, {words.split()[-1]: WAVE})
+    for files, arguments, line, why, before in SUMS:
+        yield from asked(files, arguments, 2, f"fault: {line}", why, None, before)
+    for arguments, status, line, why in EXCHANGED:
+        yield from asked(to_check(MASTER, CERT), arguments, status, line, why)
+    for more, arguments, why in PLAYED:
+        yield from asked(TO_PLAY | more, arguments, 0, "played 46 bytes", why, {arguments.split()[-1]: WAVE})
     none = WAVE[:4] + b"\x24" + WAVE[5:40] + bytes(4)
-    for data, words, why in (
+    for data, arguments, why in (
         (FOUR, "--from @2 --to @2 ", "the part is empty: it begins where it ends"),
         (mono(b""), "", "in (IN) has no sound"),
     ):
-        files, words = {"in": data, "p.toml": DECIMATE}, f"play {words}p.toml in out"
-        yield from asked(files, words, 0, "played 44 bytes", EMPTY + why, {"out": none})
-    # The word that asks to explain stands once, before the command.
+        files, arguments = {"in": data, "p.toml": DECIMATE}, f"play {arguments}p.toml in out"
+        yield from asked(files, arguments, 0, "played 44 bytes", EMPTY + why, {"out": none})
+    # The option that asks to explain comes once, before the command.
     why = f'"--explain" is no command: {ALL_COMMANDS}'
     yield Case({"in.dff": FILE}, [Step(["--explain", "--explain", "info", "in.dff"], 3, "fault: WrongWords", {}, why)])
     yield Case({"in.dff": FILE}, [Step(["info", "--explain", "in.dff"], 3, "fault: WrongWords")])

@@ -13,9 +13,9 @@ from tests.fuzz.bases import decimate_text
 
 # Bytes of each channel: they make as many frames by the first filter, each lasting 2.83 microseconds.
 FRAMES = SIZES[0]
-OLD = b"what stood here"
+OLD = b"what was here"
 
-# The words of a part, its first frame, and the first that is behind it.
+# The options of a part, its first frame, and the first frame after it.
 PARTS = (
     ("--from @0", 0, FRAMES),
     ("--to @37", 0, FRAMES),
@@ -67,8 +67,8 @@ def marked(channels: list[bytes]) -> bytes:
     return dsdiff(RATE, len(channels), sound, ids=ids, more=chunk(b"DIIN", inner))
 
 
-def played(words: str, wave: bytes, out: str = "out") -> Step:
-    return done(f"play {words} p.toml in {out}", f"played {len(wave)} bytes", {out: wave})
+def played(options: str, wave: bytes, out: str = "out") -> Step:
+    return done(f"play {options} p.toml in {out}", f"played {len(wave)} bytes", {out: wave})
 
 
 def parts() -> Iterator[Case]:
@@ -80,11 +80,11 @@ def parts() -> Iterator[Case]:
         for form in FORMS:
             files = {"in": file_of(form, channels), "p.toml": text, "out": OLD}
             if decimate is FILTERS[0]:
-                steps = [played(words, part_of(whole, number, decimate, *span)) for words, *span in PARTS]
+                steps = [played(options, part_of(whole, number, decimate, *span)) for options, *span in PARTS]
             else:
                 ends = itertools.combinations_with_replacement(range(frames + 1), 2)
                 spans = ((f"--from @{start} --to @{stop}", start, stop) for start, stop in ends)
-                steps = [played(words, part_of(whole, number, decimate, *span)) for words, *span in spans]
+                steps = [played(options, part_of(whole, number, decimate, *span)) for options, *span in spans]
             yield Case(files, steps)
         # Over the recording itself, which is read to its end before.
         wave = part_of(whole, number, decimate, 1, 2)
@@ -110,18 +110,18 @@ def faults() -> Iterator[Case]:
     """Faults, in their order: none of them makes a file, and an old one stays."""
     channels = sounds("faults", 1, FRAMES)
     files = {"in": marked(channels), "p.toml": DECIMATE, "old": OLD}
-    for (words, line), out in itertools.product(WRONG, ("old", "new")):
-        yield Case(files, [refused(f"play {words} p.toml in {out}", line)])
-    words = "play --from #5 p.toml in old"
+    for (options, line), out in itertools.product(WRONG, ("old", "new")):
+        yield Case(files, [refused(f"play {options} p.toml in {out}", line)])
+    options = "play --from #5 p.toml in old"
     # The project's file comes first, then all of the recording, then what the project says, and then the part.
     for missing in ("in", "p.toml"):
-        yield Case({name: data for name, data in files.items() if name != missing}, [refused(words, "ReadFailed")])
-    yield Case(files | {"in": b"", "p.toml": b"?"}, [refused(words, "FileUnread UnknownForm")])
+        yield Case({name: data for name, data in files.items() if name != missing}, [refused(options, "ReadFailed")])
+    yield Case(files | {"in": b"", "p.toml": b"?"}, [refused(options, "FileUnread UnknownForm")])
     cut = files["in"][:-4]
-    yield Case(files | {"in": cut, "p.toml": b"?"}, [refused(words, "FileUnread Dsdiff FormCut")])
-    yield Case(files | {"p.toml": b"?"}, [refused(words, "Project NotToml")])
-    yield Case(files | {"p.toml": b""}, [refused(words, "NoDecimation")])
-    yield Case(files | {"p.toml": UNDIVIDED}, [refused(words, "RateNotDivided")])
+    yield Case(files | {"in": cut, "p.toml": b"?"}, [refused(options, "FileUnread Dsdiff FormCut")])
+    yield Case(files | {"p.toml": b"?"}, [refused(options, "Project NotToml")])
+    yield Case(files | {"p.toml": b""}, [refused(options, "NoDecimation")])
+    yield Case(files | {"p.toml": UNDIVIDED}, [refused(options, "RateNotDivided")])
     yield Case(files, [refused("play --to @1 p.toml in none/out", "WriteFailed")])
     yield Case({"in": mono(b""), "p.toml": DECIMATE}, [refused("play --to @1 p.toml in out", "PartOutside")])
     yield Case({"in": mono(b""), "p.toml": DECIMATE}, [played("--to @0", waves.head_of(RATE // 8, 1, 16, 0))])

@@ -9,7 +9,7 @@ from typing import Any
 from dsdarc_scripts import waves
 from dsdarc_scripts.dsdiffs import dsdiff, numbered
 from tests.commands.asking import CHECK, Case, demand, done, rejected
-from tests.commands.small_files import RATE, changed, dsf, told
+from tests.commands.small_files import RATE, changed, dsf, info_lines
 from tests.fuzz import bridging, reading
 from tests.fuzz.bases import Cue, decimate_text, splice_text
 
@@ -20,7 +20,7 @@ TAKES = ("a", "b", "c")
 # The bytes of a channel: of part of a block, and of one more than a block.
 SIZES = (37, 4097)
 
-# IDs of loudspeakers: left, right and centre in front, low sound, left and right behind.
+# IDs of loudspeakers: left, right and centre in front, low sound, left and right at the back.
 FIVE = (b"MLFT", b"MRGT", b"C   ", b"LS  ", b"RS  ")
 SIX = (b"MLFT", b"MRGT", b"C   ", b"LFE ", b"LS  ", b"RS  ")
 
@@ -68,26 +68,26 @@ def sound_of(bits: list[int]) -> bytes:
     return bytes(int(text[at : at + 8], 2) for at in range(0, len(text), 8))
 
 
-# What is told of, and converted.
+# What `info` describes, and what is converted.
 
 
 def converted() -> Iterator[Case]:
-    """Each form is told of, and written in each form; it says as much of four channels in another layout."""
+    """Each form is described, and written in each form; it says as much of four channels in another layout."""
     for number, size in itertools.product(CHANNELS, SIZES):
         channels = sounds("converted", number, size)
         files = {form: file_of(form, channels) for form in FORMS}
         for form, data in files.items():
-            steps = [done("info in", told(form, 8 * size, channels=number))]
+            steps = [done("info in", info_lines(form, 8 * size, channels=number))]
             steps += [done(f"convert {it} in {it}", "converted dropped 0", {it: made}) for it, made in files.items()]
             yield Case({"in": data}, steps)
     for ids in (FIVE, SIX):
         data = file_of("dsdiff", sounds("named", len(ids), 9), ids)
-        line = told("dsdiff", 72, channels=len(ids), ids=ids)
+        line = info_lines("dsdiff", 72, channels=len(ids), ids=ids)
         yield Case({"in": data}, [done("info in", line), done("convert dsdiff in in", "converted dropped 0")])
-    # The channel type stands at 48.
+    # The channel type is at 48.
     for number, kind, layout in ((4, 5, 5), (4, 4, 4), (3, 5, 3), (6, 2, 7)):
         data = changed(file_of("dsf", sounds("laid out", number, 9)), 48, kind)
-        yield Case({"in": data}, [done("info in", told("dsf", 72, channels=number, layout=layout))])
+        yield Case({"in": data}, [done("info in", info_lines("dsf", 72, channels=number, layout=layout))])
 
 
 # What is played.

@@ -21,7 +21,7 @@ def stereo(sound: bytes) -> bytes:
 
 
 def dsf(bits: int, count: int, sound: bytes, channels: int = 1, size: int = 4096, tag: bytes = b"") -> bytes:
-    """A DSF file: 1 or 8 bits per sample, so many bits a channel, this sound at the front of so many bytes, and a tag."""
+    """A DSF file: 1 or 8 bits per sample, this many bits a channel, this sound at the start of `size` bytes, and a tag."""
     stop = 92 + size
     head = b"DSD " + struct.pack("<QQQ", 28, stop + len(tag), stop if tag else 0)
     head += b"fmt " + struct.pack("<QIIIIIIQII", 52, 1, 0, LAYOUTS[channels - 1], channels, RATE, bits, count, 4096, 0)
@@ -29,7 +29,7 @@ def dsf(bits: int, count: int, sound: bytes, channels: int = 1, size: int = 4096
 
 
 def sized(size: int, file: bytes) -> bytes:
-    """A file, which has so many bytes."""
+    """A file, which has this many bytes."""
     demand(len(file) == size, f"a file of {len(file)} bytes, not {size}")
     return file
 
@@ -73,11 +73,11 @@ WITH_PARTS = sized(
 )
 
 
-def with_others(kind: bytes, *behind: tuple[bytes, bytes]) -> bytes:
-    """One byte of sound with this compression and two kept chunks in its property, and these chunks of the form behind the
-    sound."""
+def with_others(kind: bytes, *after: tuple[bytes, bytes]) -> bytes:
+    """One byte of sound with this compression and two kept chunks in its property, and these chunks of the form after
+    the sound."""
     parts = [*property_chunks(RATE, 1)[:2], (b"CMPR", kind), (b"LSCO", bytes(2)), (b"ABSS", b"\x01")]
-    form = [VERSION, (b"PROP", b"SND " + b"".join(chunk(*it) for it in parts)), (b"DSD ", b"\xf0"), *behind]
+    form = [VERSION, (b"PROP", b"SND " + b"".join(chunk(*it) for it in parts)), (b"DSD ", b"\xf0"), *after]
     return chunk(b"FRM8", b"DSD " + b"".join(chunk(*it) for it in form))
 
 
@@ -93,7 +93,7 @@ LONG_MOST = dsf(8, 32769, b"\x01", 2, 16384)
 NINE = dsf(1, 9, b"\x0f", 2, 8192)
 NINE_MOST = dsf(8, 9, b"\x0f", 2, 8192)
 
-# The same byte where the property tells its rate twice.
+# The same byte where the property has its rate twice.
 PARTS = property_chunks(RATE, 1)
 TWICE = chunk_bytes((b"FRM8", b"DSD ", [VERSION, (b"PROP", b"SND ", PARTS[:1] + PARTS), (b"DSD ", b"\xf0")]))
 
@@ -109,7 +109,7 @@ MOST_TAPS = decimate_text([1] * 4096, 8, 4095, 0, 16).encode()
 EDGES = struct.pack("<512H", *range(4096, 0, -8))
 EDGES = WAVE[:4] + struct.pack("<I", 36 + 1024) + WAVE[8:40] + struct.pack("<I", 1024) + EDGES
 
-# Takes of 16 ones and of 16 zeros; zeros at twice the rate; and zeros whose chunk tells a sound of 100 bytes.
+# Takes of 16 ones and of 16 zeros; zeros at twice the rate; and zeros whose chunk has 100 bytes by its header.
 ONES = mono(b"\xff\xff")
 ZEROS = mono(b"\0\0")
 FAST = dsdiff(2 * RATE, 1, b"\0\0")
@@ -157,14 +157,15 @@ TWO_BITS = (
 # off one of two places of silence, by the weights 1 and 1: its rows are 16 and 0; 0 and 16.
 BACK = b"DSPC\0\x02\0\x02\0\0\0\x02\0\0\0\0\0\x01" + bytes(26) + b"\0\x01\0\0\0\x01" + bytes(26)
 PLAIN = b"DSPC\0\x02\0\x02\0\0\0\0"
-BEHIND = CERT[:26] + b"\x01\0\x04" + CERT[29:]
+NEXT_PLACE = CERT[:26] + b"\x01\0\x04" + CERT[29:]
 SILENT = CERT[:26] + b"\x01\x10\0" + bytes(8) + b"\x01\0\x10" + bytes(7) + b"\x10"
 
 # Of the bridge of `CERT` in both channels, an entry each, and of that of `FREE`.
 BOTH = sized(80, CERT[:11] + b"\x02" + CERT[12:] + b"\0\0\0\x01" + CERT[16:])
 BOTH_FREE = FREE[:11] + b"\x02" + FREE[12:] + b"\0\0\0\x01" + FREE[16:]
 
-# A cue of the first 8 bits of ones, and one of zeros behind a bridge of one bit; the same with a title; and back to ones.
+# A cue of the first 8 bits of ones, and one of zeros after a bridge of one bit; the same with a title; and back to
+# ones.
 CUES = ((0, 0, 8, 1), (1, 2, 9, 0))
 NAMED_CUES = ((0, 0, 8, 1), (1, 2, 9, None, "one"))
 THERE_AND_BACK = ((0, 0, 8, 1), (1, 2, 3, 1), (0, 2, 7, 0))
@@ -185,7 +186,7 @@ def to_cut_both(weights: list[int]) -> dict[str, bytes]:
 
 
 def to_check(master: bytes, cert: bytes, cut: dict[str, bytes] | None = None) -> dict[str, bytes]:
-    """A folder of what is cut, by the weights 1 and 0 where nothing is told, with a master and a certificate."""
+    """A folder of what is cut, by the weights 1 and 0 where no others are given, with a master and a certificate."""
     return (cut or to_cut(splice([1, 0]))) | {"m.dff": master, "c.cert": cert}
 
 
@@ -195,7 +196,7 @@ TO_PLAY = {"in.dff": FILE, "p.toml": DECIMATE}
 ALL = to_cut(splice([1, 0])) | TO_PLAY | {"m.dff": MASTER, "c.cert": CERT, "a": FILE}
 
 
-def told(
+def info_lines(
     form: str,
     samples: int,
     *marks: str,
@@ -205,8 +206,8 @@ def told(
     ids: Sequence[bytes] | None = None,
     layout: int | None = None,
 ) -> str:
-    """What is told of a file. Its channels have the IDs `SLFT` and `SRGT`, or `C000` and so on, and the usual layout,
-    where no others are given."""
+    """What `info` prints of a file. Its channels have the IDs `SLFT` and `SRGT`, or `C000` and so on, and the usual
+    layout, where no others are given."""
     ids = ids or (IDS[2] if channels == 2 else numbered(channels))
     lines = [f"form {form}", "rate 2822400", f"channels {channels}", f"samples {samples}"]
     lines += f"ids {' '.join(it.hex() for it in ids)}", f"layout {layout or LAYOUTS[channels - 1]}"

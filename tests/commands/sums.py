@@ -1,5 +1,5 @@
-"""Sums of files: the SHA-256 of each channel's bits, as bytes with the earliest bit the highest and zeros behind the last.
-It is taken here by Python of the bytes of which the files are made."""
+"""Sums of files: the SHA-256 of each channel's bits, as bytes with the earliest bit the highest and zeros after the
+last. It is taken here by Python of the bytes of which the files are made."""
 import hashlib
 import itertools
 import os
@@ -80,16 +80,16 @@ def line_of(name: str, bits: int, *channels: bytes, rate: int = RATE) -> str:
     return " ".join([f"{rate} {bits}", *(hashlib.sha256(it).hexdigest() for it in channels)]) + f"  {name}"
 
 
-def said(words: list[str], line: str) -> Step:
-    return Step(words, 0, line)
+def said(arguments: list[str], line: str) -> Step:
+    return Step(arguments, 0, line)
 
 
-def other(words: list[str], line: str) -> Step:
-    return Step(words, 1, line)
+def other(arguments: list[str], line: str) -> Step:
+    return Step(arguments, 1, line)
 
 
-def faulty(words: list[str], line: str, before: str = "") -> Step:
-    return Step(words, 2, f"fault: {line}", before=before)
+def faulty(arguments: list[str], line: str, before: str = "") -> Step:
+    return Step(arguments, 2, f"fault: {line}", before=before)
 
 
 def shaped() -> Iterator[Case]:
@@ -107,8 +107,8 @@ def shaped() -> Iterator[Case]:
             yield Case(files, [other(CHECK, "in: FAILED")])
 
 
-# What ends within a byte: of 1, 7, 8 and 9 bits, of which a stored bit behind the last isn't one; 32,769 bits, of which the
-# last stands in a block of its own; and 9 bits of two channels.
+# What ends within a byte: of 1, 7, 8 and 9 bits, of which a stored bit after the last isn't one; 32,769 bits, of which
+# the last is in a block of its own; and 9 bits of two channels.
 PARTS = (
     (dsf(1, 1, b"\xff"), line_of("in", 1, b"\x80")),
     (dsf(1, 7, b"\xff"), line_of("in", 7, b"\xfe")),
@@ -162,7 +162,8 @@ def several() -> Iterator[Case]:
 
 
 def untexted() -> Iterator[Case]:
-    """A name that isn't UTF-8 is one fault, and all others are summed or judged; as a word, in a list, and of a list."""
+    """A name that isn't UTF-8 is one fault, and all others are summed or judged; as an argument, in a list, and of a
+    list."""
     for bytes_of, shown in NO_TEXTS.items():
         name = os.fsdecode(bytes_of)
         files = {"a": FILE, name: FILE, "b": LEAST}
@@ -180,7 +181,7 @@ def untexted() -> Iterator[Case]:
     for line in (b"\xff", b"\xff  in", f"{ONE} \xff in".encode("latin-1"), f"{ONE}\xff  in".encode("latin-1")):
         text = f"{ONE}  in\n".encode() + line + f"\r\n{ONE}  in".encode()
         yield Case({"in": FILE, "list": text}, [faulty(CHECK, "ListRefused line 2  list", "in: OK\nin: OK\n")])
-    # Each is told of for itself.
+    # Each is reported by itself.
     names = [b"%d\xff" % number for number in range(3)]
     faults = "".join(f"\nfault: ReadFailed  {number}\\xff" for number in range(3))
     yield Case({"a": FILE}, [Step(["sum", *names, "a"], 2, faults[1:], before=f"{ONE}  a\n")])
@@ -228,9 +229,9 @@ def cooked(folder: str, launcher: str) -> Iterator[str]:
     for part, must in RECIPES.items():
         (line,) = (it for it in lines if part in it)
         ran = subprocess.run(["sh", "-c", line], capture_output=True, cwd=f"{folder}/archive", env=env, check=False)
-        told = (ran.returncode, ran.stdout.decode(), ran.stderr.decode())
-        if told != must:
-            yield f"{line}: {told}, not {must}"
+        result = (ran.returncode, ran.stdout.decode(), ran.stderr.decode())
+        if result != must:
+            yield f"{line}: {result}, not {must}"
 
 
 def recipe() -> int:

@@ -13,7 +13,7 @@ from dsdarc_scripts import dsdiffs
 RATES = (2_822_400, 5_644_800, 11_289_600)
 LAYOUTS = (1, 2, 3, 4, 6, 7)
 
-# A file to be mutated: its form's family, its bytes, the tree (DSDIFF alone), and where its sound stands.
+# A file to be mutated: its form's family, its bytes, the tree (DSDIFF alone), and where its sound is.
 Base = namedtuple("Base", "name kind data tree sound")
 
 
@@ -60,7 +60,7 @@ def dsdiff_of(channels: int, sound: bytes) -> bytes:
 
 
 def find_sound(tree: tuple[bytes, bytes, list[tuple[Any, ...]]]) -> tuple[int, int]:
-    """The first place of a DSDIFF file's sound and the one behind it."""
+    """The first place of a DSDIFF file's sound and the one after it."""
     at = 16
     for node in tree[2]:
         data = chunk_bytes(node)
@@ -132,7 +132,7 @@ def filters() -> list[str]:
     ]
 
 
-# A cue. What is None isn't told, so the target is a fade, or the line that has these ends.
+# A cue. What is None isn't given, so the target is a fade, or the line that has these ends.
 Cue = namedtuple("Cue", "take start stop bridge title line", defaults=(None, None, None))
 
 

@@ -1,7 +1,7 @@
 """Masters and certificates of small projects by docs/SPLICING.md and docs/CERTIFICATES.md: each bridge is found by trying
-all lists of so many bits, and each bound of its certificate too. Of longer bridges it tells what their bits cost, what
-may bound them, and what a certificate shows of them. Takes are lists of channels, which are lists of bits, and cues
-those of bases.py."""
+all lists of that many bits, and each bound of its certificate too. Of longer bridges it computes what their bits cost,
+what may bound them, and what a certificate shows of them. Takes are lists of channels, which are lists of bits, and
+cues those of bases.py."""
 import itertools
 from collections.abc import Iterator, Sequence
 from functools import cached_property
@@ -80,12 +80,12 @@ class Bridge:
 
     @cached_property
     def sums(self) -> list[int]:
-        """The weighted sum of each state with a bit behind it, as one number."""
+        """The weighted sum of each state with a bit after it, as one number."""
         codes = range(2 ** len(self.weights))
         return [sum(weight if code >> k & 1 else -weight for k, weight in enumerate(self.weights)) for code in codes]
 
     def step(self, place: int, code: int) -> int:
-        """What a bit costs at a place, behind a state."""
+        """What a bit costs at a place, after a state."""
         return ((self.length + 1) * self.sums[code] - self.targets[place - 1]) ** 2
 
     def ways(self, level: int, bounds: list[int]) -> list[int]:
@@ -143,7 +143,7 @@ def written(weights: list[int], entries: list[certificates.Entry]) -> bytes:
 
 
 def bridge_places(cues: Sequence[Cue]) -> Iterator[tuple[int, int]]:
-    """The first place of the bridge behind each cue in the master, and the one behind its last."""
+    """The first place of the bridge after each cue in the master, and the one after its last."""
     place = 0
     for cue in cues:
         first = place + cue.stop - cue.start

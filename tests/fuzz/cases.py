@@ -12,30 +12,30 @@ from typing import Any
 from dsdarc_scripts import waves
 from dsdarc_scripts.channels import read as sums_of
 from tests.fuzz import bases, bridging, certificates, mutating, projects, reading
-from tests.fuzz.judging import Failure, cert_sizes, converted, demand, fault_of, judge_run, told, wave_head
+from tests.fuzz.judging import Failure, cert_sizes, converted, demand, fault_of, judge_run, info_of, wave_head
 from tests.fuzz.running import MEGABYTE, Program, Run
 
-# How much memory a run may take: so many times the bytes that it reads and writes, and so much more.
+# How much memory a run may take: TIMES times the bytes that it reads and writes, and MORE bytes.
 TIMES = 4
 MORE = 1 * MEGABYTE
 # The tables of a filter of 4096 taps, for six channels: some 1.1 MB each.
 TABLES = 7 * MEGABYTE // TIMES
-# So many bounds of a certificate are found here.
+# At most this many bounds of a certificate are found here.
 MOST_BOUNDS = 20_000
-# No run may take more than this; where it should, it may say that memory was wanting.
+# No run may take more than this; where it should, it may say that it is out of memory.
 MOST = 1024 * MEGABYTE
-# A long file has at least so many bytes of sound.
+# A long file has at least this many bytes of sound.
 LONG = 2 * MEGABYTE
 FORMS = ("dsdiff", "dsf", "dsf8")
 MEMORY = b"fault: Memory\n"
-OLD = b"what stood here before"
+OLD = b"what was here before"
 
 
 class Case:
     """One case: its files, its runs and what was done to the files."""
 
-    def __init__(self, program: Program, rng: random.Random, tell: Callable[[Run], None]) -> None:
-        self.program, self.rng, self.tell = program, rng, tell
+    def __init__(self, program: Program, rng: random.Random, note: Callable[[Run], None]) -> None:
+        self.program, self.rng, self.note = program, rng, note
         self.changes: list[object] = []
         self.files: dict[str, bytes] = {}
         self.made: set[str] = set()
@@ -63,14 +63,14 @@ class Case:
         """A file that the program wrote: it is one of the case's files from now on."""
         self.files[name] = self.get(name)
 
-    def run(self, words: list[str], made: Iterable[str] = (), more: int = 0, source: str | None = None) -> Run:
+    def run(self, arguments: list[str], made: Iterable[str] = (), more: int = 0, source: str | None = None) -> Run:
         """Runs the program, and demands what holds of every run. `made` are the files that it may make or write, `more`
-        bytes of memory that the files' sizes don't tell."""
+        bytes of memory that the files' sizes don't show."""
         read = sum(map(len, self.files.values()))
         need = TIMES * (read + more) + MORE
         limit = self.program.start + int(min(need, MOST) * (1.0 if self.limit_part is None else self.limit_part))
-        run = self.program.run(words, limit, source and self.path(source))
-        self.tell(run)
+        run = self.program.run(arguments, limit, source and self.path(source))
+        self.note(run)
         judge_run(run, self.limit_part is not None or need > MOST)
         for name, data in self.files.items():
             if name not in made:
@@ -94,7 +94,7 @@ class Case:
 
 
 def name_now_and_then(case: Case, name: str) -> str:
-    """Something stands under an output's name before, now and then."""
+    """An output's name is that of a file before, now and then."""
     if case.rng.random() < 0.1:
         case.put(name, OLD)
     return name
@@ -123,8 +123,8 @@ def convert(case: Case, info: dict[str, Any], form: str, source: str, out: str) 
     expected, dropped = converted(info, form)
     demand(run.out == b"converted dropped %d\n" % dropped, f"{dropped} parts have no place there")
     case.demand_made(out)
-    there = told(case.run(["info", out]))
-    demand(there == expected, f"the written file tells {there}, not {expected}")
+    there = info_of(case.run(["info", out]))
+    demand(there == expected, f"the written file has {there}, not {expected}")
     return there
 
 
@@ -141,10 +141,10 @@ def convert_and_back(case: Case, info: dict[str, Any], source: str) -> dict[str,
 
 
 def play(case: Case, info: dict[str, Any], source: str, out: str, decimate: dict[str, Any]) -> bytes | None:
-    """Plays a file that is read as `info` by a project that stands."""
+    """Plays a file that is read as `info` by a valid project."""
     through = case.rng.random() < 0.1
-    words = ["play", "project", "/dev/stdin" if through else source, out]
-    run = case.run(words, made=[out], source=source if through else None)
+    arguments = ["play", "project", "/dev/stdin" if through else source, out]
+    run = case.run(arguments, made=[out], source=source if through else None)
     if info["rate"] % decimate["factor"]:
         demand(run.err == b"fault: RateNotDivided\n", "the factor doesn't divide the rate")
         demand(case.get(out) == b"", "written before the rate was looked at")
@@ -157,16 +157,16 @@ def play(case: Case, info: dict[str, Any], source: str, out: str, decimate: dict
 
 
 def refuse_to_play(case: Case, run: Run, out: str) -> None:
-    """What is left of a WAVE file after a fault: nothing where it comes before the first write, else a front."""
+    """What is left of a WAVE file after a fault: nothing where it comes before the first write, else a prefix."""
     demand(run.status == 2, "played, but not read")
     left = case.get(out)
     if run.err != b"fault: FileRefused\n":
         demand(left == b"", "written before the first fault was looked for")
-    demand(left[:4] == b"RIFF"[: len(left)], "what is left is no front of a WAVE file")
+    demand(left[:4] == b"RIFF"[: len(left)], "what is left is no prefix of a WAVE file")
 
 
-def told_of(case: Case, name: str, data: bytes, is_sound: bool) -> tuple[Run, dict[str, Any] | None, Any]:
-    """What `info` tells of a file, or None: as a plain reading of it has it, the refusal too."""
+def described(case: Case, name: str, data: bytes, is_sound: bool) -> tuple[Run, dict[str, Any] | None, Any]:
+    """What `info` prints of a file, or None: as a plain reading of it has it, the refusal too."""
     run = case.run(["info", name])
     try:
         expected, bit_at = reading.read(data)
@@ -175,7 +175,7 @@ def told_of(case: Case, name: str, data: bytes, is_sound: bool) -> tuple[Run, di
         demand(run.err.decode() == f"fault: FileUnread {refused}\n", f"not refused as {refused}")
         return run, None, None
     demand(run.status == 0, f"refused, but it holds {expected}")
-    demand(told(run) == expected, f"it holds {expected}")
+    demand(info_of(run) == expected, f"it holds {expected}")
     return run, expected, bit_at
 
 
@@ -212,13 +212,13 @@ def refuse_to_convert(case: Case, seen: Run) -> None:
 
 
 def recording_case(case: Case) -> None:
-    """A recording's file: told of, converted, back, and played."""
+    """A recording's file: described, converted, back, and played."""
     base, data, is_sound = a_recording(case)
     case.put("in", data)
     text = case.rng.choice(bases.filters())
     decimate = tomllib.loads(text)["decimate"]
     case.put("project", text.encode())
-    seen, info, bit_at = told_of(case, "in", data, is_sound)
+    seen, info, bit_at = described(case, "in", data, is_sound)
     if info is None:
         refuse_to_convert(case, seen)
         run = case.run(["play", "project", "in", "wave"], made=["wave"])
@@ -226,7 +226,7 @@ def recording_case(case: Case) -> None:
         demand(fault_of(run) in ("FileRefused", "RateNotDivided", "TooLarge"), "refused for another cause")
         return
     if is_sound:
-        demand(info == reading.read(base.data)[0], "other sound, and something else is told")
+        demand(info == reading.read(base.data)[0], "other sound, and something else is printed")
     there = convert_and_back(case, info, "in")
     wave = play(case, info, "in", "wave", decimate)
     if wave is not None:
@@ -249,14 +249,15 @@ def a_long_recording(case: Case) -> bases.Base:
 
 
 def long_case(case: Case) -> None:
-    """A file that is converted as a stream: told of, and converted, back and once more, each channel with all its bits."""
+    """A file that is converted as a stream: described, and converted, back and once more, each channel with all its
+    bits."""
     base, names = a_long_recording(case), list[str]()
     data = base.data
     if case.rng.random() < 0.5:
         data, names = mutating.mutate_recording(case.rng, base)
     case.changes = [base.kind, *names]
     case.put("in", data)
-    seen, info, _ = told_of(case, "in", data, not names)
+    seen, info, _ = described(case, "in", data, not names)
     if info is None:
         refuse_to_convert(case, seen)
     elif convert_and_back(case, info, "in"):
@@ -298,7 +299,7 @@ def judge_refusal(run: Run, expected: object) -> None:
 
 
 def filter_case(case: Case) -> None:
-    """A project that plays, changed, and a file that stands."""
+    """A project that plays, changed, and a valid file."""
     data, names = mutating.mutate_project(case.rng, case.rng.choice(bases.filters()).encode())
     base = case.rng.choice(bases.recordings(case.rng))
     case.changes = [base.name, *names]
@@ -342,8 +343,8 @@ def plan_of(data: bytes) -> Plan | None:
 
 
 def room_of(case: Case, name: str) -> int:
-    """How much a master and its certificate may take beyond what the files tell. No cue that is longer than a take comes
-    so far, and no bridge of more than 4096 bits."""
+    """How much a master and its certificate may take beyond what the files show. No cue that is longer than a take
+    comes so far, and no bridge of more than 4096 bits."""
     plan = plan_of(case.files[name])
     if plan is None:
         return 8 * MEGABYTE
@@ -388,8 +389,8 @@ def cut_case(case: Case) -> None:
 
 
 def judge_cut(case: Case, data: bytes, form: str, run: Run, room: int) -> None:
-    """A master that was cut: what is told of it, that it is accepted, and that it is cut again."""
-    info = told(case.run(["info", "master"], more=room))
+    """A master that was cut: what `info` prints of it, that it is accepted, and that it is cut again."""
+    info = info_of(case.run(["info", "master"], more=room))
     demand(info["form"] == form and info["others"] == 0 and info["tag"] == 0, "another master")
     plan = plan_of(data)
     if plan:
@@ -418,7 +419,7 @@ def splice_of(case: Case, data: bytes) -> tuple[list[int], list[list[list[int]]]
 
 
 def judge_bridges(case: Case, data: bytes, total: str) -> None:
-    """Whether the bits of a master are those of the cues, its bridges cost what is told, and its certificate has the
+    """Whether the bits of a master are those of the cues, its bridges cost what is printed, and its certificate has the
     bounds that come of them, where these aren't too many to be found here."""
     try:
         splice = splice_of(case, data)
@@ -442,14 +443,14 @@ def check_case(case: Case) -> None:
     case.put("project", cut.project.encode())
     room = room_of(case, "project")
     run = case.run(["edit", form, "project", "master", "cert"], made=["master", "cert"], more=room)
-    demand(run.status == 0, "a project that stands isn't cut")
+    demand(run.status == 0, "a valid project isn't cut")
     case.demand_made("master", "cert")
     total = run.out.decode().split()[-1]
     case.changes = [cut.name, form]
     change = case.rng.choice(CHECK_CHANGES)
     expected = change(case, cut, form)
     run = case.run(["check", "project", "master", "cert"], more=room)
-    demand(run.status in (0, 1), "a fault, though project and takes stand")
+    demand(run.status in (0, 1), "a fault, though project and takes are valid")
     if run.status == 0:
         # No other bits cost less than those of a least master, so every master that is accepted costs the same.
         demand(run.out.decode() == f"accepted total {total}\n", "accepted at another total")
@@ -458,7 +459,7 @@ def check_case(case: Case) -> None:
 
 
 def cut_certificate(case: Case, cut: bases.Cut, form: str) -> str:
-    """The front of a certificate of either version: which entry is cut is known."""
+    """The prefix of a certificate of either version: which entry is cut is known."""
     version = case.rng.choice((1, 2))
     weights, entries = certificates.read(case.files["cert"])
     data = certificates.spelled(version, weights, entries)
@@ -491,7 +492,7 @@ def changed_certificate(case: Case, cut: bases.Cut, form: str) -> str:
 
 
 def master_base(case: Case, form: str) -> bases.Base:
-    """The master as a file to be mutated: as written, the sound of a DSDIFF master stands behind `DSD ` and its size."""
+    """The master as a file to be mutated: as written, the sound of a DSDIFF master comes after `DSD ` and its size."""
     data = case.files["master"]
     if form != "dsdiff":
         return bases.Base("master", "dsf", data, None, (92, len(data)))
@@ -515,8 +516,8 @@ def channels_of(cut: bases.Cut) -> int:
 
 
 def bit_of_master(case: Case, cut: bases.Cut, form: str) -> str:
-    """One bit of a master turned: in a cue its place is told, in a bridge the certificate doesn't show it to be least,
-    unless it costs as little."""
+    """One bit of a master turned: in a cue its place is reported, in a bridge the certificate doesn't show it to be
+    least, unless it costs as little."""
     base = master_base(case, form)
     plan, channels = plan_of(case.files["project"]), channels_of(cut)
     assert plan
@@ -540,7 +541,7 @@ def is_in_cue(plan: Plan, place: int) -> bool:
         if place < cue + bridge:
             return place < cue
         place -= cue + bridge
-    raise Failure("a place behind the master's end")
+    raise Failure("a place after the master's end")
 
 
 def small_takes(rng: random.Random, channels: int) -> list[tuple[bytes, list[list[int]]]]:
@@ -548,9 +549,9 @@ def small_takes(rng: random.Random, channels: int) -> list[tuple[bytes, list[lis
     kind = rng.randrange(3)
     takes = []
     for _ in range(2):
-        words = [rng.randbytes(16) if kind == 0 else bytes([rng.choice((0, 255, 85))] * 16) for _ in range(channels)]
-        bits = [[byte >> (7 - k) & 1 for byte in word for k in range(8)] for word in words]
-        takes.append((bytes(itertools.chain.from_iterable(zip(*words))), bits))
+        sounds = [rng.randbytes(16) if kind == 0 else bytes([rng.choice((0, 255, 85))] * 16) for _ in range(channels)]
+        bits = [[byte >> (7 - k) & 1 for byte in sound for k in range(8)] for sound in sounds]
+        takes.append((bytes(itertools.chain.from_iterable(zip(*sounds))), bits))
     return takes
 
 
@@ -575,7 +576,7 @@ def small_cues(rng: random.Random, weights: int) -> list[bases.Cue]:
 
 
 def bridge_case(case: Case) -> None:
-    """A small project that stands: its master, certificate and total are those that trying all lists of bits finds."""
+    """A small valid project: its master, certificate and total are those that trying all lists of bits finds."""
     rng = case.rng
     weights = [rng.choice((0, 1, -1, 2, rng.randint(-800, 800))) for _ in range(rng.randint(2, 5))]
     takes, cues, form = small_takes(rng, rng.randint(1, 3)), small_cues(rng, len(weights)), rng.choice(FORMS)
@@ -603,21 +604,23 @@ def bridge_case(case: Case) -> None:
 CHECK_CHANGES = (cut_certificate, lengthened_certificate, *[changed_certificate] * 3, changed_master, bit_of_master)
 
 
-# Words and devices.
+# Arguments and devices.
 
 
-def words_case(case: Case) -> None:
-    """Words that are no command, and files that can't be read or written."""
+def arguments_case(case: Case) -> None:
+    """Usage errors, and files that can't be read or written."""
     base = case.rng.choice(bases.recordings(case.rng))
     cut = case.rng.choice(bases.cuts(case.rng)[:2])
     put_takes(case, cut, False)
     case.put("in", base.data)
     case.put("project", bases.filters()[0].encode())
     case.put("cutting", cut.project.encode())
-    words, status, err = case.rng.choice(WORDS)
-    case.changes = [base.name, "words"]
-    kept = ["master"] if words[-2:] == ["master", "/dev/full"] else ["wave"] if words[:2] == ["play", "in"] else []
-    run = case.run(words, made=kept, more=room_of(case, "cutting"))
+    arguments, status, err = case.rng.choice(ARGUMENTS)
+    case.changes = [base.name, "arguments"]
+    kept = (
+        ["master"] if arguments[-2:] == ["master", "/dev/full"] else ["wave"] if arguments[:2] == ["play", "in"] else []
+    )
+    run = case.run(arguments, made=kept, more=room_of(case, "cutting"))
     demand(run.status == status, f"the status isn't {status}")
     if err:
         demand(run.err.decode() == f"fault: {err}\n", f"the fault isn't {err}")
@@ -625,7 +628,7 @@ def words_case(case: Case) -> None:
         demand(case.has(name), f"{name} isn't there")
 
 
-WORDS: list[tuple[Any, ...]] = [
+ARGUMENTS: list[tuple[Any, ...]] = [
     ([], 3, "WrongWords"),
     (["inform", "in"], 3, "WrongWords"),
     (["info"], 3, "WrongWords"),
@@ -666,8 +669,8 @@ WORDS: list[tuple[Any, ...]] = [
 
 
 def scarce_case(case: Case) -> None:
-    """Larger files under less memory than they take: a run may say that memory was wanting, or nothing at all, but it ends
-    by itself and makes no file then. `play` leaves a front."""
+    """Larger files under less memory than they take: a run may say that it is out of memory, or nothing at all, but it
+    ends by itself and makes no file then. `play` leaves a prefix."""
     frames = case.rng.randrange(1000, 200_000)
     for name in ("a.dff", "b.dff"):
         case.put(name, bases.dsdiff(case.rng, name, 1, frames, is_rich=True).data)
@@ -679,7 +682,7 @@ def scarce_case(case: Case) -> None:
     lines = [(0, 0, 16, 4096, None, (12, -12))] * 255 + [(1, 0, 16)]
     case.put("lines", bases.splice_text([1] * 12, ("a.dff", "b.dff"), lines).encode())
     source, form = case.rng.choice(("a.dff", "c.dsf")), case.rng.choice(FORMS)
-    words = case.rng.choice(
+    arguments = case.rng.choice(
         (
             ["info", source],
             ["convert", form, source, "out"],
@@ -690,41 +693,41 @@ def scarce_case(case: Case) -> None:
         )
     )
     case.limit_part = case.rng.random()
-    run = case.run(words, made=["out", "wave", "master", "cert"])
-    demand("lines" not in words or run.err == MEMORY, "10 GB within a few megabytes")
-    if words[0] != "play":
+    run = case.run(arguments, made=["out", "wave", "master", "cert"])
+    demand("lines" not in arguments or run.err == MEMORY, "10 GB within a few megabytes")
+    if arguments[0] != "play":
         if run.status == 2:
             case.demand_unmade(run, "out", "master", "cert")
     elif case.has("wave"):
         left = case.get("wave")
-        demand(left[:4] == b"RIFF"[: len(left)], "what is left is no front of a WAVE file")
+        demand(left[:4] == b"RIFF"[: len(left)], "what is left is no prefix of a WAVE file")
 
 
 LARGE = 2**31
 
 
 def large_file(case: Case) -> dict[str, Any]:
-    """Puts a file of two gigabytes that holds only its front, the rest being zeros that stand nowhere. Answers what is read
+    """Puts a file of two gigabytes that holds only its header, the rest being a hole of zeros. Answers what is read
     of it."""
     if case.rng.random() < 0.5:
-        front = bases.dsdiff(case.rng, "large", 1, 0).data
-        sizes = ((4, len(front) - 12 + LARGE, "big"), (len(front) - 8, LARGE, "big"))
+        header = bases.dsdiff(case.rng, "large", 1, 0).data
+        sizes = ((4, len(header) - 12 + LARGE, "big"), (len(header) - 8, LARGE, "big"))
     else:
-        front = bases.dsf(case.rng, "large", 1, 0).data
+        header = bases.dsf(case.rng, "large", 1, 0).data
         sizes = ((64, 8 * LARGE, "little"), (84, 12 + LARGE, "little"))
-    info = reading.read(front)[0]
+    info = reading.read(header)[0]
     for at, size, order in sizes:
-        front = mutating.put_number(front, at, 8, size, order)
+        header = mutating.put_number(header, at, 8, size, order)
     with open(case.path("large"), "wb") as file:
-        file.write(front)
-        file.truncate(len(front) + LARGE)
+        file.write(header)
+        file.truncate(len(header) + LARGE)
     case.made.add("large")
     return {**info, "samples": 8 * LARGE}
 
 
 def large_case(case: Case) -> None:
-    """A file of two gigabytes, within a few megabytes: it is told of and converted, but not played, as its WAVE file would be
-    too large; as a project, which is read whole, memory is wanting."""
+    """A file of two gigabytes, within a few megabytes: it is described and converted, but not played, as its WAVE file
+    would be too large; as a project, which is read whole, it is out of memory."""
     info = large_file(case)
     try:
         case.put("project", bases.filters()[0].encode())
@@ -733,7 +736,7 @@ def large_case(case: Case) -> None:
         case.limit_part = 1.0
         kind = case.rng.choice(("info", "convert", "project"))
         if kind == "info":
-            demand(told(case.run(["info", "large"])) == info, f"the large file isn't told of as {info}")
+            demand(info_of(case.run(["info", "large"])) == info, f"the large file isn't described as {info}")
         elif kind == "convert":
             form = case.rng.choice(FORMS)
             run = case.run(["convert", form, "large", "/dev/null"])
@@ -746,5 +749,12 @@ def large_case(case: Case) -> None:
 
 
 # How often each case comes.
-KINDS = [(recording_case, 40), (filter_case, 12), (cut_case, 20), (check_case, 20), (words_case, 2), (scarce_case, 5)]
+KINDS = [
+    (recording_case, 40),
+    (filter_case, 12),
+    (cut_case, 20),
+    (check_case, 20),
+    (arguments_case, 2),
+    (scarce_case, 5),
+]
 KINDS += [(bridge_case, 3), (long_case, 2), (large_case, 1)]

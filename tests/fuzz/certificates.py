@@ -14,8 +14,8 @@ class Refused(Exception):
     """The reason's text."""
 
 
-def refuse(stands: object, text: str) -> None:
-    if stands:
+def refuse(is_wrong: object, text: str) -> None:
+    if is_wrong:
         raise Refused(text)
 
 
@@ -88,7 +88,7 @@ class Reader:
         return self.data[self.at - size : self.at]
 
     def numbers(self, count: int, size: int) -> list[int]:
-        """So many numbers of so many bytes each, which are 0 where there are none."""
+        """`count` numbers of `size` bytes each, which are 0 where there are none."""
         data = self.take(count * size)
         return [int.from_bytes(data[k * size : (k + 1) * size], "big") for k in range(count)]
 

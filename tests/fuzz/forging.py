@@ -86,7 +86,7 @@ WRONG_ROWS = {
 
 
 def row_places(entries: list[certificates.Entry]) -> Iterator[tuple[int, list[int]]]:
-    """Where the rows stand among the parts of a certificate, and their bounds."""
+    """Where the rows are among the parts of a certificate, and their bounds."""
     at = 2
     for entry in entries:
         yield from enumerate(entry.rows, at)

@@ -24,7 +24,7 @@ DSF = r"Dsf (HeadCut|BadFormat|BadVersion|BadChannelNumber|BadRate|BadBits|BadBl
 UNREAD = rf" (UnknownForm|{DSDIFF}|{DSF})"
 KEY = " (decimate|splice|taps|factor|delay|shift|width|weights|takes|cue|take|start|stop|bridge|target|line|title)"
 PROJECT = rf" (NotToml|UnknownKey|(WrongKind|MissingKey|OutOfLimit){KEY}|(NoTake|ShortCue) \d+|LastBridge)"
-# What stands behind a fault's name.
+# What follows a fault's name.
 PARTS = {"FileUnread": UNREAD, "TakeUnread": PLACED + UNREAD, "Project": PROJECT}
 PARTS |= dict.fromkeys(("TakeMismatch", "CueOutside", "NoRoomBefore", "NoRoomAfter"), PLACED)
 
@@ -70,7 +70,7 @@ def judge_run(run: Run, is_scarce: bool = False) -> None:
     demand(run.signal == 0, f"ended by signal {run.signal}")
     demand(run.status in (0, 1, 2, 3), f"status {run.status}")
     out, err = run.out.decode(), run.err.decode()
-    command = run.words[0] if run.words else ""
+    command = run.arguments[0] if run.arguments else ""
     if run.status == 0:
         demand(
             command in DONE and re.fullmatch(DONE[command], out) and not err, "done, but the lines aren't those of it"
@@ -93,13 +93,13 @@ def judge_fault(command: str, status: int, err: str, is_scarce: bool) -> None:
         demand(name in ("WrongWords", "UnknownFormName") and not parts, "status 3, but another fault")
         return
     if name == "Memory":
-        demand(is_scarce and not parts, "want of memory, though the limit is above what the files need")
+        demand(is_scarce and not parts, "out of memory, though the limit is above what the files need")
         return
     demand(name in FAULTS.get(command, ()), "a fault that the command doesn't have")
     demand(re.fullmatch(PARTS.get(name, ""), parts), "a fault's parts aren't those of it")
 
 
-def told(run: Run) -> dict[str, Any]:
+def info_of(run: Run) -> dict[str, Any]:
     """The lines of `info`: what the file holds."""
     found: dict[str, Any] = {"mark": []}
     for line in run.out.decode().splitlines():
@@ -108,13 +108,13 @@ def told(run: Run) -> dict[str, Any]:
             found["mark"].append(rest)
         else:
             found[name] = int(rest) if name not in ("form", "ids") else rest
-    demand(len(found["mark"]) == found["marks"], "as many lines of marks as are told")
+    demand(len(found["mark"]) == found["marks"], "as many lines of marks as are counted")
     demand(len(found["ids"].split()) == found["channels"], "as many IDs as channels")
     return found
 
 
 def converted(info: dict[str, Any], form: str) -> tuple[dict[str, Any], int]:
-    """What `info` has to tell of the file that is written for a recording, and how much of that has no place there."""
+    """What `info` has to print of the file that is written for a recording, and how much of that has no place there."""
     channels = info["channels"]
     there = dict(info, form=form)
     if form == "dsdiff":

@@ -1,4 +1,4 @@
-"""How much memory each command takes of large files that stand: as a multiple of the files that it reads and writes."""
+"""How much memory each command takes of large valid files: as a multiple of the files that it reads and writes."""
 import os
 import random
 from collections.abc import Iterator
@@ -26,7 +26,7 @@ def make_files(folder: str) -> None:
     put(folder, "project", bases.filters()[0].encode())
 
 
-# The words of each command, and the files that are read and written.
+# The arguments of each command, and the files that are read and written.
 COMMANDS = (
     (["info", "a.dff"], ("a.dff",)),
     (["info", "c.dsf"], ("c.dsf",)),
@@ -39,12 +39,13 @@ COMMANDS = (
 
 
 def multiples(program: Program) -> Iterator[tuple[list[str], float | None]]:
-    """For each command its words and the multiple, with what it needs to start not counted: None where it isn't done."""
+    """For each command its arguments and the multiple, with what it needs to start not counted: None where it isn't
+    done."""
     make_files(program.folder)
-    for words, names in COMMANDS:
-        if program.run(words).status != 0:
-            yield words, None
+    for arguments, names in COMMANDS:
+        if program.run(arguments).status != 0:
+            yield arguments, None
             continue
-        least = program.find_least(words)
+        least = program.find_least(arguments)
         size = sum(os.path.getsize(os.path.join(program.folder, name)) for name in names)
-        yield words, (least - program.start) / size
+        yield arguments, (least - program.start) / size

@@ -1,5 +1,5 @@
 """What is done to files: each change is a function of a random source and what is changed, and answers the changed
-thing. `mutate_*` make some changes in turn and tell their names."""
+thing. `mutate_*` make some changes in turn and return their names."""
 import random
 import re
 from collections.abc import Callable, Iterator
@@ -214,7 +214,7 @@ def set_dsf_field(rng: random.Random, data: bytes) -> bytes:
 
 
 def longer_format(rng: random.Random, data: bytes) -> bytes:
-    """Bytes behind the fields of the format chunk, its size mended, and the tag's place now and then."""
+    """Bytes after the fields of the format chunk, its size mended, and the tag's place now and then."""
     more = rng.choice((1, 4, 12, 100))
     data = data[:80] + bytes(more) + data[80:]
     if len(data) > 80:
@@ -419,7 +419,7 @@ def swap_lines(rng: random.Random, lines: list[bytes]) -> None:
 
 @change_line
 def replace_line(rng: random.Random, lines: list[bytes]) -> None:
-    """A line of the same key with another value: of the odd lines those whose key stands in the text."""
+    """A line of the same key with another value: of the odd lines those whose key is in the text."""
     keyed = [k for k, line in enumerate(lines) if b" = " in line]
     if keyed:
         k = rng.choice(keyed)

@@ -1,5 +1,5 @@
-"""A plain reading of files by docs/DSDIFF.md and docs/DSF.md: what `info` has to tell, and the bits; or the first refusal.
-Samples of them by docs/PROJECTS.md. It shares nothing with the program."""
+"""A plain reading of files by docs/DSDIFF.md and docs/DSF.md: what `info` has to print, and the bits; or the first
+refusal. Samples of them by docs/PROJECTS.md. It shares nothing with the program."""
 import struct
 from collections.abc import Callable, Iterator
 from typing import Any
@@ -15,13 +15,14 @@ class Refused(Exception):
     """The refusal's text."""
 
 
-def refuse(stands: int, text: str) -> None:
-    if stands:
+def refuse(is_wrong: int, text: str) -> None:
+    if is_wrong:
         raise Refused(text)
 
 
 def read(data: bytes) -> tuple[dict[str, Any], Callable[..., Any]]:
-    """What is told of a file, and a function that answers the bit of a channel at a place. Refused where it isn't read."""
+    """What is printed of a file, and a function that answers the bit of a channel at a place. Refused where it isn't
+    read."""
     if len(data) >= 16 and data[:4] == b"FRM8" and data[12:16] == b"DSD ":
         return read_dsdiff(data)
     refuse(data[:4] != b"DSD ", "UnknownForm")
@@ -32,7 +33,7 @@ def read(data: bytes) -> tuple[dict[str, Any], Callable[..., Any]]:
 
 
 def walk(data: bytes, start: int, stop: int) -> Iterator[tuple[bytes, int, bytes]]:
-    """The chunks of a range: ID, where its head stands, its data."""
+    """The chunks of a range: ID, where its head is, its data."""
     at = start
     while at < stop:
         refuse(stop - at < 12, f"Dsdiff Chunk HeadCut {at}")
@@ -98,7 +99,7 @@ def read_property(chunks: list[tuple[bytes, int, bytes]]) -> dict[str, Any]:
 
 
 def read_masters(data: bytes, top: list[tuple[bytes, int, bytes]], rate: int) -> tuple[list[str], int]:
-    """The lines of the marks of all `DIIN`, and how many other chunks stand there."""
+    """The lines of the marks of all `DIIN`, and how many other chunks are there."""
     marks, others = [], 0
     for name, at, inner in top:
         if name != b"DIIN":
@@ -124,24 +125,24 @@ def read_dsf(data: bytes) -> tuple[dict[str, Any], Callable[..., Any]]:
     first, _, pointer = struct.unpack("<QQQ", data[4:28])
     size = int.from_bytes(data[32:40], "little")
     refuse(first != 28 or data[28:32] != b"fmt " or size < 52, "Dsf BadFormat")
-    behind = 28 + size
-    refuse(len(data) < behind + 12, "Dsf HeadCut")
+    at = 28 + size
+    refuse(len(data) < at + 12, "Dsf HeadCut")
     version, form, layout, channels, rate, per_sample, count, block = struct.unpack("<IIIIIIQI", data[40:76])
-    room = int.from_bytes(data[behind + 4 : behind + 12], "little")
-    refuse(data[behind : behind + 4] != b"data" or room < 12 or form != 0, "Dsf BadFormat")
+    room = int.from_bytes(data[at + 4 : at + 12], "little")
+    refuse(data[at : at + 4] != b"data" or room < 12 or form != 0, "Dsf BadFormat")
     refuse(version != 1, "Dsf BadVersion")
     refuse(not 1 <= channels <= 6, "Dsf BadChannelNumber")
     refuse(rate not in RATE, "Dsf BadRate")
     refuse(per_sample not in (1, 8), "Dsf BadBits")
     refuse(block != 4096, "Dsf BadBlock")
     refuse(count > MOST, "Dsf TooLong")
-    stop = behind + 12 + -(-count // 32768) * channels * 4096
-    refuse(stop - behind > room or stop > len(data), "Dsf DataCut")
+    stop = at + 12 + -(-count // 32768) * channels * 4096
+    refuse(stop - at > room or stop > len(data), "Dsf DataCut")
     refuse(pointer and not stop <= pointer <= len(data), "Dsf BadPointer")
     ids = [b"SLFT", b"SRGT"] if channels == 2 else [b"C%03d" % c for c in range(channels)]
 
     def bit_at(channel: int, place: int) -> int:
-        byte = data[behind + 12 + (place // 32768 * channels + channel) * 4096 + place % 32768 // 8]
+        byte = data[at + 12 + (place // 32768 * channels + channel) * 4096 + place % 32768 // 8]
         return byte >> (place % 8 if per_sample == 1 else 7 - place % 8) & 1
 
     info = {

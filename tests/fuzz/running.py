@@ -10,8 +10,9 @@ from collections import namedtuple
 MEGABYTE = 1 << 20
 SECONDS = 60
 
-# What a run came to: the words, the status, the signal that ended it (or 0), its two outputs, and its limit of memory.
-Run = namedtuple("Run", "words status signal out err limit")
+# What a run came to: the arguments, the status, the signal that ended it (or 0), its two outputs, and its limit of
+# memory.
+Run = namedtuple("Run", "arguments status signal out err limit")
 
 
 def memory_folder() -> str:
@@ -32,21 +33,21 @@ class Program:
     def close(self) -> None:
         shutil.rmtree(self.own)
 
-    def run(self, words: list[str], limit: int | None = None, source: str | None = None) -> Run:
-        """Runs it with these words, under a limit of memory in bytes, with a file of the folder to read from."""
+    def run(self, arguments: list[str], limit: int | None = None, source: str | None = None) -> Run:
+        """Runs it with these arguments, under a limit of memory in bytes, with a file of the folder to read from."""
         for file in (self.out, self.err):
             os.ftruncate(file, 0)
             os.lseek(file, 0, os.SEEK_SET)
         sys.stdout.flush()
         process = os.fork()
         if process == 0:
-            self.become(words, limit, source)
+            self.become(arguments, limit, source)
         _, ended = os.waitpid(process, 0)
         status = os.WEXITSTATUS(ended) if os.WIFEXITED(ended) else None
         killed = os.WTERMSIG(ended) if os.WIFSIGNALED(ended) else 0
-        return Run(words, status, killed, self.read(self.out), self.read(self.err), limit)
+        return Run(arguments, status, killed, self.read(self.out), self.read(self.err), limit)
 
-    def become(self, words: list[str], limit: int | None, source: str | None) -> None:
+    def become(self, arguments: list[str], limit: int | None, source: str | None) -> None:
         """In the child: becomes the program."""
         try:
             os.chdir(self.folder)
@@ -58,7 +59,7 @@ class Program:
             resource.setrlimit(resource.RLIMIT_CPU, (SECONDS, SECONDS))
             if limit:
                 resource.setrlimit(resource.RLIMIT_AS, (limit, limit))
-            os.execv(self.path, [self.path, *words])
+            os.execv(self.path, [self.path, *arguments])
         finally:
             os._exit(127)
 
@@ -66,12 +67,12 @@ class Program:
     def read(file: int) -> bytes:
         return os.pread(file, os.fstat(file).st_size, 0)
 
-    def find_least(self, words: list[str]) -> int:
-        """The least limit of memory, to 64 KB, under which these words are done."""
+    def find_least(self, arguments: list[str]) -> int:
+        """The least limit of memory, to 64 KB, under which the command is done."""
         low, high = 0, 1 << 34
         while high - low > 1 << 16:
             middle = (low + high) // 2
-            if self.run(words, middle).status == 0:
+            if self.run(arguments, middle).status == 0:
                 high = middle
             else:
                 low = middle

@@ -1,6 +1,6 @@
-/* Preloaded into a program, it refuses growths: the one whose number, counted from 1, stands in GROWTH, and with
-   GROWTH_ON all later ones too. To the file of number GROWTH_TOLD it writes the size that it refused first, and that of
-   the growth behind it, eight bytes each. */
+/* Preloaded into a program, it refuses growths: the one whose number, counted from 1, is in GROWTH, and with
+   GROWTH_ON all later ones too. To the file of number GROWTH_LOG it writes the size that it refused first, and that of
+   the next growth, eight bytes each. */
 #include <errno.h>
 #include <stdint.h>
 #include <stdlib.h>
@@ -19,9 +19,9 @@ static long number(const char *name)
     return text ? strtol(text, NULL, 10) : 0;
 }
 
-static void tell(uint64_t size)
+static void note(uint64_t size)
 {
-    if (write((int)number("GROWTH_TOLD"), &size, sizeof size) != sizeof size)
+    if (write((int)number("GROWTH_LOG"), &size, sizeof size) != sizeof size)
         _exit(125);
 }
 
@@ -33,7 +33,7 @@ static int is_refused(size_t size)
     if (growths < refused_growth || refused_growth == 0)
         return 0;
     if (growths <= refused_growth + 1)
-        tell(size);
+        note(size);
     if (growths > refused_growth && !number("GROWTH_ON"))
         return 0;
     errno = ENOMEM;

@@ -13,14 +13,14 @@ SNAKEMAKE = ["snakemake", "--snakefile", os.path.join(ROOT, "workflows", "Snakef
 PLAY_ALL, RESTORE = (os.path.join(ROOT, "workflows", it) for it in ("play_all", "restore.py"))
 
 
-def run(*words: str, **more: str) -> tuple[int, str, str]:
+def run(*arguments: str, **more: str) -> tuple[int, str, str]:
     """Status of a command, and what it prints on both outputs."""
-    done = subprocess.run(words, stdin=subprocess.DEVNULL, capture_output=True, env=ENVIRONMENT | more, check=False)
+    done = subprocess.run(arguments, stdin=subprocess.DEVNULL, capture_output=True, env=ENVIRONMENT | more, check=False)
     return done.returncode, done.stdout.decode(errors="replace"), done.stderr.decode(errors="replace")
 
 
-def dsdarc(*words: str) -> None:
-    subprocess.run([PROGRAM, *words], stdout=subprocess.DEVNULL, check=True)
+def dsdarc(*arguments: str) -> None:
+    subprocess.run([PROGRAM, *arguments], stdout=subprocess.DEVNULL, check=True)
 
 
 def is_plain(path: str) -> bool:
@@ -41,13 +41,13 @@ def wave_of(archive: str, name: str, filter_name: str) -> bytes:
 
 
 def workflow(
-    archive: str, form: str, *words: str, out: str | None = None, more: Iterable[str] = ()
+    archive: str, form: str, *arguments: str, out: str | None = None, more: Iterable[str] = ()
 ) -> tuple[dict[str, bytes], dict[str, dict[str, Any]], str]:
     """A run of the workflow: what it made, its results, and the folder."""
     out = out or f"workflow {form}"
     os.makedirs(out, exist_ok=True)
     names.link(os.path.abspath(archive), f"{out}/archive")
-    asked = ["--directory", out, *more, "--config", f"form={form}", *words, "--cores", "4"]
-    status, told, err = run(*SNAKEMAKE, *asked)
-    demand(status == 0, f"the workflow to {form}: {status} {told[-500:]} {err[-500:]}")
+    asked = ["--directory", out, *more, "--config", f"form={form}", *arguments, "--cores", "4"]
+    status, printed, err = run(*SNAKEMAKE, *asked)
+    demand(status == 0, f"the workflow to {form}: {status} {printed[-500:]} {err[-500:]}")
     return files_in(out), names.load(f"{out}/results.json"), out

@@ -24,13 +24,13 @@ STOPS = (signal.SIGINT, signal.SIGTERM, signal.SIGHUP)
 LIMIT = 120  # seconds that a script may take
 
 
-def child(words: tuple[str | Path, ...]) -> None:
+def child(arguments: tuple[str | Path, ...]) -> None:
     """Runs a script in this process, and ends it."""
     status = 1
     try:
         usual_signals.begin_child()
         signal.pthread_sigmask(signal.SIG_UNBLOCK, STOPS)
-        sys.argv = [os.path.join(ROOT, words[0]), *map(str, words[1:])]
+        sys.argv = [os.path.join(ROOT, arguments[0]), *map(str, arguments[1:])]
         runpy.run_path(sys.argv[0], run_name="__main__")
         status = 0
     except SystemExit as error:
@@ -45,7 +45,7 @@ def child(words: tuple[str | Path, ...]) -> None:
         os._exit(status)
 
 
-def start(words: tuple[str | Path, ...], out: IO[bytes], err: IO[bytes]) -> int:
+def start(arguments: tuple[str | Path, ...], out: IO[bytes], err: IO[bytes]) -> int:
     """A process that runs a script."""
     sys.stdout.flush()
     signal.pthread_sigmask(signal.SIG_BLOCK, STOPS)
@@ -55,7 +55,7 @@ def start(words: tuple[str | Path, ...], out: IO[bytes], err: IO[bytes]) -> int:
         os.dup2(out.fileno(), 1)
         os.dup2(err.fileno(), 2)
         signal.alarm(LIMIT)
-        child(words)
+        child(arguments)
     signal.pthread_sigmask(signal.SIG_UNBLOCK, STOPS)
     return number
 
@@ -65,10 +65,10 @@ def ended(number: int) -> int:
     return os.waitstatus_to_exitcode(os.waitpid(number, 0)[1])
 
 
-def told(*words: str | Path, out: IO[bytes] | None = None) -> tuple[int, str, str]:
+def run_script(*arguments: str | Path, out: IO[bytes] | None = None) -> tuple[int, str, str]:
     """Status, standard output and standard error of a script; the output of one that writes to a file is empty."""
     with tempfile.TemporaryFile() as err, tempfile.TemporaryFile() as usual:
-        status = ended(start(words, out or usual, err))
+        status = ended(start(arguments, out or usual, err))
         texts = []
         for file in (usual, err):
             file.seek(0)

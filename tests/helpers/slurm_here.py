@@ -54,11 +54,11 @@ class Slurm:
         self.folder, self.started = os.path.abspath(folder), list[subprocess.Popen[bytes]]()
         self.environment = {"SLURM_CONF": f"{self.folder}/slurm.conf", "USER": os.environ.get("USER", "root")}
 
-    def start(self, *words: Any) -> None:
-        with open(f"{self.folder}/{words[0]}.said", "wb") as said:
+    def start(self, *arguments: Any) -> None:
+        with open(f"{self.folder}/{arguments[0]}.said", "wb") as said:
             self.started.append(
                 subprocess.Popen(
-                    [shutil.which(words[0], path=SEARCHED), *words[1:]],
+                    [shutil.which(arguments[0], path=SEARCHED), *arguments[1:]],
                     stdin=subprocess.DEVNULL,
                     stdout=said,
                     stderr=said,
@@ -78,8 +78,8 @@ class Slurm:
 
     def wait_until_ready(self) -> None:
         for _ in range(60):
-            words = ["srun", "--immediate=5", "true"]
-            done = subprocess.run(words, env=os.environ | self.environment, capture_output=True, text=True)
+            arguments = ["srun", "--immediate=5", "true"]
+            done = subprocess.run(arguments, env=os.environ | self.environment, capture_output=True, text=True)
             if done.returncode == 0:
                 return
             time.sleep(1)

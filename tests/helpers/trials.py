@@ -70,15 +70,15 @@ def fresh(**files: bytes | str) -> Iterator[str]:
                 os.chmod(each, 0o755)
 
 
-def run(*words: str, **how: Any) -> subprocess.CompletedProcess[bytes]:
+def run(*arguments: str, **how: Any) -> subprocess.CompletedProcess[bytes]:
     """Runs a command, without input and with what it prints kept, where nothing else is said."""
     how = {"stdin": subprocess.DEVNULL, "stdout": subprocess.PIPE, "stderr": subprocess.PIPE} | how
-    return subprocess.run(words, check=False, **how)
+    return subprocess.run(arguments, check=False, **how)
 
 
-def said(*words: str, **how: Any) -> tuple[int, str]:
+def said(*arguments: str, **how: Any) -> tuple[int, str]:
     """Status of a command, and all that it says."""
-    done = run(*words, stderr=subprocess.STDOUT, **how)
+    done = run(*arguments, stderr=subprocess.STDOUT, **how)
     return done.returncode, done.stdout.decode(errors="replace")
 
 

@@ -2,7 +2,7 @@
 
 Where a shell ignores SIGINT, as for a command in the background, or SIGHUP, as by `nohup`, so does all that it starts.
 What a test means to stop would go on then. Each test calls `begin` before it starts anything. The test itself goes on
-ignoring what it was told to ignore: it catches these signals and does nothing, and what it starts doesn't inherit that."""
+ignoring what its caller ignores: it catches these signals and does nothing, and what it starts doesn't inherit that."""
 import signal
 
 # What a shell lets the commands ignore that it starts in the background, or that have to outlive it.

@@ -93,7 +93,7 @@ def wave() -> bytes:
     return b"RIFF" + struct.pack("<I", len(body)) + body
 
 
-def furnish(words: tuple[str, ...]) -> None:
+def furnish(arguments: tuple[str, ...]) -> None:
     """Puts what a row reads into this folder, beside two takes and a project."""
     marks = b"".join(chunk(b"MARK", mark_data(text, offset=at)) for at, text in ((0, b"A"), (16_000, b"B")))
     put("album.dff", dsdiff(RATE, 1, bytes(BITS // 8), more=chunk(b"DIIN", marks)))
@@ -119,12 +119,12 @@ def furnish(words: tuple[str, ...]) -> None:
     put("flow/results.json", json.dumps({"a.dff": found}))
     put("flow/SHA256SUMS", "")
     put("flow/refused.tsv", "")
-    for folder in ("workflows", "dsdarc_scripts", "cuts") if words[0].startswith("clone/") else ():
+    for folder in ("workflows", "dsdarc_scripts", "cuts") if arguments[0].startswith("clone/") else ():
         shutil.copytree(ROOT / folder, Path("clone", folder), ignore=shutil.ignore_patterns("pictures", "__pycache__"))
     put("filters/dsd64-to-352800-24.toml", (ROOT / "filters/dsd64-to-352800-24.toml").read_bytes())
     put("filter.toml", (ROOT / "filters/dsd64-to-352800-24.toml").read_bytes())
     put("jobs", "2")
     put("played/.played", "")
-    put("old", "what stood here")
+    put("old", "what was here")
     os.mkdir("folder")
     os.symlink("folder/x", "lost")

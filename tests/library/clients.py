@@ -19,9 +19,9 @@ def try_clients(folder: str, *last: Any) -> None:
         try_player(folder, *last)
     else:
         print("left out: dsdarcplay, as libasound2-dev isn't installed")
-    status, words = run("pkg-config", "--cflags", "--libs", "gobject-2.0")
+    status, flags = run("pkg-config", "--cflags", "--libs", "gobject-2.0")
     if status == 0 and os.path.exists("/usr/include/gstreamer-1.0/gst/gst.h"):
-        try_element(folder, ["-I/usr/include/gstreamer-1.0", *words.split(), "-lgstreamer-1.0"], *last)
+        try_element(folder, ["-I/usr/include/gstreamer-1.0", *flags.split(), "-lgstreamer-1.0"], *last)
     else:
         print("left out: dsdarcdec, as libgstreamer1.0-dev isn't installed")
 
@@ -44,23 +44,23 @@ def try_player(folder: str, dff: str, dsf: str, filter: str, frames: bytes, alig
         status, said = run(player, "-D", "raw", other, dff)
         is_right = status == 0 and is_warned == ("is for files of 5644800 Hz, and this one has 2822400 Hz" in said)
         demand(is_right, f"dsdarcplay: the warning of {other}: status {status}, {said}")
-    words = [player, "-D", "raw", "-s", second, filter, "/dev/stdin"]
-    done = subprocess.run(words, input=get(dff), capture_output=True, check=False)
-    is_told = done.returncode == 1 and b"/dev/stdin: Illegal seek" in done.stderr
-    demand(is_told, f"dsdarcplay: a pipe from {second} s: {done}")
-    for word in ("1:30", "abc", "", "-1", "nan", "inf", "1e300"):
-        status, said = run(player, "-D", "raw", "-s", word, filter, dff)
+    command = [player, "-D", "raw", "-s", second, filter, "/dev/stdin"]
+    done = subprocess.run(command, input=get(dff), capture_output=True, check=False)
+    is_reported = done.returncode == 1 and b"/dev/stdin: Illegal seek" in done.stderr
+    demand(is_reported, f"dsdarcplay: a pipe from {second} s: {done}")
+    for start in ("1:30", "abc", "", "-1", "nan", "inf", "1e300"):
+        status, said = run(player, "-D", "raw", "-s", start, filter, dff)
         is_right = status == 2 and said == "dsdarcplay [-D DEVICE] [-s SECONDS] FILTER FILE..\n"
-        demand(is_right, f"dsdarcplay: from {word!r}: status {status}, {said}")
-    for given, told in (((filter, folder), "Is a directory"), ((folder, dff), "it can't be read")):
+        demand(is_right, f"dsdarcplay: from {start!r}: status {status}, {said}")
+    for given, why in (((filter, folder), "Is a directory"), ((folder, dff), "it can't be read")):
         status, said = run(player, "-D", "raw", *given)
-        demand(status == 1 and said == f"dsdarcplay: {folder}: {told}\n", f"dsdarcplay: a folder: {status}, {said}")
+        demand(status == 1 and said == f"dsdarcplay: {folder}: {why}\n", f"dsdarcplay: a folder: {status}, {said}")
 
 
-def try_element(folder: str, words: list[str], dff: str, dsf: str, filter: str, frames: bytes, align: int) -> None:
+def try_element(folder: str, flags: list[str], dff: str, dsf: str, filter: str, frames: bytes, align: int) -> None:
     """The element plays all, goes to any frame, also while it plays, and is found by what plays files."""
     out, made = os.path.join(folder, "client.pcm"), os.path.join(folder, "libgstdsdarc.so")
-    compiled("clients/gstdsdarcdec.c", "-shared", "-fPIC", os.path.join(BUILT, "libdsdarc.a"), *words, "-o", made)
+    compiled("clients/gstdsdarcdec.c", "-shared", "-fPIC", os.path.join(BUILT, "libdsdarc.a"), *flags, "-o", made)
     os.environ |= {"GST_PLUGIN_PATH": folder, "GST_REGISTRY": os.path.join(folder, "registry")}
     os.environ["DSDARC_FILTERS"] = os.path.join(ROOT, "filters")
     for name in (dff, dsf):
@@ -85,7 +85,7 @@ def try_element(folder: str, words: list[str], dff: str, dsf: str, filter: str, 
     status, said = run("gst-launch-1.0", "-q", *ways)
     demand(status == 0, f"dsdarcdec: six channels aren't mixed to two: {said}")
     seek = os.path.join(folder, "seek")
-    compiled("tests/library/seek.c", *words, "-o", seek)
+    compiled("tests/library/seek.c", *flags, "-o", seek)
     chance, long = random.Random(3), os.path.join(folder, "long.dff")
     with open(long, "wb") as file:
         file.write(dsdiff(2822400, 2, chance.randbytes(2 * 352_800 * 6)))
@@ -100,12 +100,12 @@ def try_element(folder: str, words: list[str], dff: str, dsf: str, filter: str, 
         status, said = run(seek, "88200/24", name, out, pause, *places)
         part = whole[6 * int(places[-1]) :]
         demand(status == 0 and get(out) == part, f"dsdarcdec: other frames from {places} on, {pause} us: {said}")
-    try_stopped(folder, words, long, out, whole)
+    try_stopped(folder, flags, long, out, whole)
     try_keys(folder, long, out, whole)
 
 
 def try_keys(folder: str, name: str, out: str, whole: bytes) -> None:
-    """gst-play finds the element by itself, and its keys go on and back: filesink begins anew behind each."""
+    """gst-play finds the element by itself, and its keys go on and back: filesink starts again after each."""
     import pty
     import shutil
     import time
@@ -115,8 +115,8 @@ def try_keys(folder: str, name: str, out: str, whole: bytes) -> None:
         return
     for keys in ([b"\x1b[C"], [b"\x1b[C", b"\x1b[C", b"\x1b[D"]):
         keyboard, terminal = pty.openpty()
-        words = ["gst-play-1.0", f"--audiosink=filesink sync=true location={out}", name]
-        child = subprocess.Popen(words, stdin=terminal, stdout=terminal, stderr=terminal, start_new_session=True)
+        command = ["gst-play-1.0", f"--audiosink=filesink sync=true location={out}", name]
+        child = subprocess.Popen(command, stdin=terminal, stdout=terminal, stderr=terminal, start_new_session=True)
         os.close(terminal)
         time.sleep(1.5)
         for key in keys:

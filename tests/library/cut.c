@@ -31,30 +31,30 @@ static int refused(const char *call, dsdarc_status status) {
     return status != DSDARC_OK;
 }
 
-int main(int count, char **words) {
+int main(int count, char **arguments) {
     size_t text_size, size, at = 0, taken, given, step, most;
     unsigned char *text, *bytes, *pcm;
     dsdarc_player *player;
     dsdarc_info info = {0};
     uint64_t left = UINT64_MAX, offset, first = 0;
     FILE *out;
-    int told = 0, random;
+    int is_known = 0, random;
     if (count != 5 && count != 7) return 3;
-    text = whole(words[1], &text_size);
-    bytes = whole(words[2], &size);
-    state = strtoull(words[4], NULL, 10);
+    text = whole(arguments[1], &text_size);
+    bytes = whole(arguments[2], &size);
+    state = strtoull(arguments[4], NULL, 10);
     random = state != 0;
-    if (!(out = fopen(words[3], "wb"))) return 3;
+    if (!(out = fopen(arguments[3], "wb"))) return 3;
     if (refused("new", dsdarc_player_new(text, text_size, &player))) return 1;
     most = random ? 1 + below(below(3) ? 70000 : 50) : 65536;
     pcm = malloc(most * 6 * 3);
     for (;;) {
-        if (!told && dsdarc_player_info(player, &info) == DSDARC_OK) {
-            told = 1;
+        if (!is_known && dsdarc_player_info(player, &info) == DSDARC_OK) {
+            is_known = 1;
             printf("%u %u %u %u %llu\n", info.rate_in, info.rate, info.channels, info.width,
                    (unsigned long long)info.frames);
             if (count == 7) {
-                first = strtoull(words[5], NULL, 10), left = strtoull(words[6], NULL, 10) - first;
+                first = strtoull(arguments[5], NULL, 10), left = strtoull(arguments[6], NULL, 10) - first;
                 while (random && below(3)) /* anywhere, and on from there for a while */ {
                     if (refused("seek", dsdarc_player_seek(player, below(info.frames + 1), &offset))) return 1;
                     step = below(size - offset + 1);

@@ -2,11 +2,11 @@
  *
  * Each run plays a file twice: once as it comes, and once in random pushes, pulls, seeks, calls with null pointers and
  * sizes that can't be. What the second pulls from a frame on has to be what the first pulled there, and without a seek
- * the verdict at the end has to be the same. A push has to take something where nothing waits. AddressSanitizer sees what
- * is freed twice or never. The library's own code isn't made for it, so every buffer of a call has just the size that is
- * told, and ends before a page that nothing may touch. The pages are mapped once for all runs. After a call its bytes are
- * filled, so that what reads them later gets others; at the next call they have to be as they were left. After one call
- * in sixteen nothing may touch them. */
+ * the verdict at the end has to be the same. A push has to take something where nothing waits. AddressSanitizer sees
+ * what is freed twice or never. The library's own code isn't made for it, so every buffer of a call has just the size
+ * that is reported, and ends before a page that nothing may touch. The pages are mapped once for all runs. After a call
+ * its bytes are filled, so that what reads them later gets others; at the next call they have to be as they were left.
+ * After one call in sixteen nothing may touch them. */
 #include <dsdarc.h>
 #include <stdio.h>
 #include <stdlib.h>
@@ -121,7 +121,7 @@ static void at_random(unsigned long run, const unsigned char *text, size_t text_
     dsdarc_info info = {0};
     size_t at = 0, taken, given, place = 0, frame = 0, most = 1 + below(below(2) ? 70000 : 300);
     uint64_t offset;
-    int sought = 0, told = 0, none_wait = 1;
+    int sought = 0, is_known = 0, none_wait = 1;
     dsdarc_status status = dsdarc_player_new(text, text_size, &player);
     if (status != DSDARC_OK) {
         if (status != verdict || player) fail("another status of new", run);
@@ -146,7 +146,7 @@ static void at_random(unsigned long run, const unsigned char *text, size_t text_
             if (taken == 0 && step > 0 && none_wait) fail("nothing is taken where nothing waits", run);
             if (taken > 0) none_wait = dsdarc_player_info(player, &info) == DSDARC_NOT_YET;
             at += taken;
-        } else if (kind < 17 && told) {
+        } else if (kind < 17 && is_known) {
             size_t frames = below(most);
             int as_numbers = below(3) == 0;
             size_t size_of = frames * info.channels * (as_numbers ? 4 : info.width / 8);
@@ -166,12 +166,12 @@ static void at_random(unsigned long run, const unsigned char *text, size_t text_
             place += given * frame;
             none_wait = none_wait || given < frames;
             forget(&for_pulls, run);
-        } else if (kind == 17 && told && below(4) == 0) {
+        } else if (kind == 17 && is_known && below(4) == 0) {
             uint64_t to = below(info.frames + 3);
             status = dsdarc_player_seek(player, to, &offset);
             if (to > info.frames ? status != DSDARC_PAST_END : status != DSDARC_OK) fail("a seek", run);
             if (status == DSDARC_OK) {
-                if (to * frame > have) break; /* behind a fault: nothing to compare with */
+                if (to * frame > have) break; /* after a fault: nothing to compare with */
                 place = to * frame, at = offset < size ? (size_t)offset : size, sought = 1, none_wait = 0;
             }
         } else if (kind == 18) {
@@ -186,12 +186,12 @@ static void at_random(unsigned long run, const unsigned char *text, size_t text_
                 none || dsdarc_player_new(text, text_size, NULL) != DSDARC_NULL)
                 fail("a null pointer or a size", run);
             dsdarc_player_drop(none);
-        } else if (!told) {
-            told = dsdarc_player_info(player, &info) == DSDARC_OK;
+        } else if (!is_known) {
+            is_known = dsdarc_player_info(player, &info) == DSDARC_OK;
             frame = (size_t)info.width / 8 * info.channels;
         }
         if (at == size && place == have && below(8) == 0) {
-            /* Bytes behind the sound may still be taken. */
+            /* Bytes after the sound may still be taken. */
             status = dsdarc_player_end(player);
             if (!sought && status != verdict) fail("another verdict", run);
             break;
@@ -200,17 +200,17 @@ static void at_random(unsigned long run, const unsigned char *text, size_t text_
     dsdarc_player_drop(player);
 }
 
-int main(int count, char **words) {
-    unsigned long runs = count > 2 ? strtoul(words[2], NULL, 10) : 0, played = 0;
+int main(int count, char **arguments) {
+    unsigned long runs = count > 2 ? strtoul(arguments[2], NULL, 10) : 0, played = 0;
     size_t text_size;
     unsigned char *text;
     if (count < 5) return 3;
-    state = strtoull(words[1], NULL, 10) * 0x9E3779B97F4A7C15u + 1;
-    text = whole(words[3], &text_size);
+    state = strtoull(arguments[1], NULL, 10) * 0x9E3779B97F4A7C15u + 1;
+    text = whole(arguments[3], &text_size);
     for (unsigned long run = 0; run < runs; run++) {
         size_t size, have;
         dsdarc_status verdict;
-        unsigned char *made = whole(words[4 + below((size_t)count - 4)], &size), *bytes, *pcm, *own;
+        unsigned char *made = whole(arguments[4 + below((size_t)count - 4)], &size), *bytes, *pcm, *own;
         size_t text_now = text_size;
         for (size_t change = below(2) ? 1 + below(3) : 0; change > 0 && size > 0; change--)
             made[below(below(2) && size > 160 ? 160 : size)] = (unsigned char)below(256);

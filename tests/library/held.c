@@ -52,7 +52,7 @@ static dsdarc_status push(dsdarc_player *player, const unsigned char *bytes, siz
     return DSDARC_OK;
 }
 
-int main(int count, char **words) {
+int main(int count, char **arguments) {
     static const unsigned char zeros[MOST];
     size_t text_size, size, piece, left, step;
     unsigned char *text, *bytes;
@@ -60,8 +60,8 @@ int main(int count, char **words) {
     dsdarc_status status = DSDARC_OK;
     long least = -1;
     if (count != 5) return 3;
-    text = whole(words[1], &text_size), bytes = whole(words[2], &size);
-    piece = strtoull(words[3], NULL, 10), left = strtoull(words[4], NULL, 10);
+    text = whole(arguments[1], &text_size), bytes = whole(arguments[2], &size);
+    piece = strtoull(arguments[3], NULL, 10), left = strtoull(arguments[4], NULL, 10);
     if (dsdarc_player_new(text, text_size, &player)) return 3;
     for (size_t at = 0; at < size && status == DSDARC_OK; at += step) {
         int last = size - at <= 8 * piece;

@@ -10,7 +10,7 @@ from tests.helpers.trials import ROOT, demand, get
 from tests.library.playing import BUILT, PROGRAM
 
 PYTHON = "lib/python3/dist-packages"
-# What tells Python and others where the library is, which nothing may need here.
+# What shows Python and others where the library is, which nothing may need here.
 NAMED = ("DSDARC", "DSDARC_LIBRARY", "DSDARC_FILTERS", "DSDARC_FILTER", "PYTHONPATH", "PKG_CONFIG_PATH")
 # What a package of those that programs in C need has, and the other has of the library.
 DEVELOPMENT = ("include/dsdarc.h", "lib/libdsdarc.a", "lib/libdsdarc.so", "lib/pkgconfig/dsdarc.pc")
@@ -44,7 +44,7 @@ class Users:
         with open(path, "w", encoding="utf-8") as file:
             file.write(text)
 
-    def run(self, *words: str, **more: str) -> tuple[int, bytes]:
+    def run(self, *arguments: str, **more: str) -> tuple[int, bytes]:
         """Status of a command and what it prints; it knows nothing of the clone."""
         given = {name: value for name, value in os.environ.items() if name not in NAMED}
         given |= {
@@ -55,7 +55,7 @@ class Users:
             "GST_REGISTRY": f"{self.folder}/registry",
             "PYTHONDONTWRITEBYTECODE": "1",
         }
-        done = subprocess.run(words, cwd=self.folder, env=given | more, capture_output=True, check=False)
+        done = subprocess.run(arguments, cwd=self.folder, env=given | more, capture_output=True, check=False)
         return done.returncode, done.stdout + done.stderr
 
     def follow(self, what: str, lines: list[str], count: int, made: str) -> None:
@@ -89,8 +89,8 @@ class Users:
         status, said = self.run(python, "script.py", **more)
         is_right = status == 0 and said.startswith(b"Info(samplerate=88200, channels=")
         demand(is_right, f"{what}: status {status}, {said[-300:]}")
-        words = "import dsdarc; print(dsdarc.__file__, dsdarc.version(), dsdarc.__version__)"
-        status, said = self.run(python, "-c", words, **more)
+        code = "import dsdarc; print(dsdarc.__file__, dsdarc.version(), dsdarc.__version__)"
+        status, said = self.run(python, "-c", code, **more)
         version = get(os.path.join(ROOT, "VERSION")).decode().strip()
         is_own = not said.startswith(ROOT.encode()) and said.endswith(f" {version} {version}\n".encode())
         demand(status == 0 and is_own, f"{what}: {said[-300:]}")
@@ -112,8 +112,8 @@ def files_below(folder: str) -> set[str]:
 
 def below_local(folder: str, users: Users, given: dict[str, str]) -> None:
     """Below /usr/local the Python package is where Debian's Python looks for it, and finds the library and filters."""
-    words = 'import site; print(*[it for it in site.getsitepackages() if it.startswith("/usr/local/")][:1])'
-    status, said = users.run("/usr/bin/python3", "-I", "-c", words)
+    code = 'import site; print(*[it for it in site.getsitepackages() if it.startswith("/usr/local/")][:1])'
+    status, said = users.run("/usr/bin/python3", "-I", "-c", code)
     if status != 0 or not said.strip():
         print("left out: the Python package below /usr/local, as no /usr/bin/python3 looks there")
         return
@@ -189,8 +189,8 @@ def by_pip(folder: str, users: Users) -> None:
         shutil.copy(os.path.join(ROOT, name), clone)
     os.makedirs(f"{clone}/crates/dsdarc/out")
     shutil.copy(os.path.join(BUILT, "libdsdarc.so.0"), f"{clone}/crates/dsdarc/out")
-    words = ["-m", "pip", "install", "--quiet", "--no-build-isolation", "--no-index", clone]
-    status, said = users.run(python, *words)
+    arguments = ["-m", "pip", "install", "--quiet", "--no-build-isolation", "--no-index", clone]
+    status, said = users.run(python, *arguments)
     demand(status == 0, f"pip install: status {status}, {said[-500:]}")
     shutil.rmtree(clone)
     users.runs_script("Python, by pip", python, LD_LIBRARY_PATH="")

@@ -30,7 +30,7 @@ class Stop(KeyboardInterrupt):
 
 
 class Failing(io.BytesIO):
-    """A file whose n-th call fails; a count tells how many there were."""
+    """A file whose n-th call fails; a count says how many there were."""
 
     def __init__(self, data: bytes, at: int) -> None:
         super().__init__(data)
@@ -41,13 +41,13 @@ class Failing(io.BytesIO):
         if self.left == 0:
             raise OSError(5, "a call that fails")
 
-    def read(self, *words: int | None) -> bytes:
+    def read(self, *arguments: int | None) -> bytes:
         self._called()
-        return super().read(*words)
+        return super().read(*arguments)
 
-    def seek(self, *words: int) -> int:
+    def seek(self, *arguments: int) -> int:
         self._called()
-        return super().seek(*words)
+        return super().seek(*arguments)
 
     def tell(self) -> int:
         self._called()
@@ -327,7 +327,7 @@ def grows(name: str, filter: str, whole: "ndarray") -> None:
     try:
         with dsdarc.open(Growing(get(name)), filter) as sound:
             demand(is_next(sound, whole, len(whole)), "Python: other frames of a file that grows")
-            demand(len(sound.read()) == 0, "Python: frames behind the last")
+            demand(len(sound.read()) == 0, "Python: frames after the last")
     except Stop:
         demand(False, "Python: a file that grows doesn't end")
     finally:

@@ -21,8 +21,8 @@ def frames_of(wave: bytes) -> tuple[bytes, int]:
 
 
 def played(folder: str, name: str, size: int) -> tuple[str, str, str, bytes, int]:
-    """Files of two channels of random sound, of which each has so many bytes, with a filter, the frames that `play` makes
-    of them, and how many bytes one has."""
+    """Files of two channels of random sound, of which each has this many bytes, with a filter, the frames that `play`
+    makes of them, and how many bytes one has."""
     dff, dsf, wave = (os.path.join(folder, f"{name}.{it}") for it in ("dff", "dsf", "wav"))
     filter = os.path.join(ROOT, "filters", "dsd64-to-88200-24.toml")
     with open(dff, "wb") as file:
@@ -32,8 +32,8 @@ def played(folder: str, name: str, size: int) -> tuple[str, str, str, bytes, int
     return dff, dsf, filter, *frames_of(get(wave))
 
 
-def compiled(source: str, *words: str) -> None:
+def compiled(source: str, *flags: str) -> None:
     status, said = run(
-        os.environ.get("CC", "cc"), "-I", os.path.join(ROOT, "library"), os.path.join(ROOT, source), *words
+        os.environ.get("CC", "cc"), "-I", os.path.join(ROOT, "library"), os.path.join(ROOT, source), *flags
     )
     demand(status == 0, f"{source} isn't compiled: {said}")

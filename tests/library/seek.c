@@ -2,7 +2,7 @@
  *
  * While FILE is played to OUT it goes to each frame in turn, PAUSE microseconds after it began or went to the last one,
  * as players do: by a seek that flushes. OUT then holds the frames from the last one on, as GStreamer's filesink begins
- * anew behind each. The status is 1 where a seek or the playing fails. */
+ * again after each. The status is 1 where a seek or the playing fails. */
 #include <gst/gst.h>
 #include <stdlib.h>
 
@@ -31,7 +31,7 @@ static int ended(GstBus *bus, guint32 number) {
     }
 }
 
-int main(int count, char **words) {
+int main(int count, char **arguments) {
     GstElement *pipeline, *source, *dec, *sink;
     GstQuery *query;
     GstBus *bus;
@@ -40,9 +40,9 @@ int main(int count, char **words) {
     gst_init(NULL, NULL);
     if (count < 5) return 3;
     pipeline = gst_pipeline_new(NULL);
-    source = part(pipeline, "filesrc", "location", words[2]);
-    dec = part(pipeline, "dsdarcdec", "filter", words[1]);
-    sink = part(pipeline, "filesink", "location", words[3]);
+    source = part(pipeline, "filesrc", "location", arguments[2]);
+    dec = part(pipeline, "dsdarcdec", "filter", arguments[1]);
+    sink = part(pipeline, "filesink", "location", arguments[3]);
     if (!gst_element_link_many(source, dec, sink, NULL)) return 3;
     bus = gst_element_get_bus(pipeline);
     gst_element_set_state(pipeline, GST_STATE_PAUSED);
@@ -54,7 +54,7 @@ int main(int count, char **words) {
         failed |= !is_able;
     }
     gst_query_unref(query);
-    for (int word = 5; word < count && !failed; word++) {
+    for (int at = 5; at < count && !failed; at++) {
         GstPad *pad = gst_element_get_static_pad(dec, "src");
         GstCaps *caps = gst_pad_get_current_caps(pad);
         gint rate = 0;
@@ -63,13 +63,13 @@ int main(int count, char **words) {
         gst_structure_get_int(gst_caps_get_structure(caps, 0), "rate", &rate);
         gst_caps_unref(caps);
         gst_object_unref(pad);
-        time = gst_util_uint64_scale(strtoull(words[word], NULL, 10), GST_SECOND, (guint64)rate);
+        time = gst_util_uint64_scale(strtoull(arguments[at], NULL, 10), GST_SECOND, (guint64)rate);
         event = gst_event_new_seek(1.0, GST_FORMAT_TIME, GST_SEEK_FLAG_FLUSH | GST_SEEK_FLAG_ACCURATE, GST_SEEK_TYPE_SET,
                                    (gint64)time, GST_SEEK_TYPE_NONE, -1);
         number = gst_event_get_seqnum(event);
         if (!gst_element_send_event(pipeline, event)) failed = 1;
         gst_element_set_state(pipeline, GST_STATE_PLAYING);
-        g_usleep(strtoull(words[4], NULL, 10));
+        g_usleep(strtoull(arguments[4], NULL, 10));
     }
     gst_element_set_state(pipeline, GST_STATE_PLAYING);
     failed = failed || ended(bus, number);

@@ -2,7 +2,7 @@
  *
  * It goes to frame FIRST by a seek that flushes, and then TIMES - 1 times by seeks that don't, each up to frame STOP and
  * answered by SEGMENT_DONE. The last seek has no segment, and ends with the stream. OUT then holds the frames from FIRST
- * to STOP so many times, and those from STOP on. The status is 1 where an answer doesn't come, or is another one. */
+ * to STOP this many times, and those from STOP on. The status is 1 where an answer doesn't come, or is another one. */
 #include <gst/gst.h>
 #include <stdlib.h>
 
@@ -47,7 +47,7 @@ static int goes(GstElement *pipeline, GstBus *bus, GstSeekFlags flags, gint64 st
     return is_right;
 }
 
-int main(int count, char **words) {
+int main(int count, char **arguments) {
     GstElement *pipeline, *source, *dec, *sink;
     GstBus *bus;
     guint64 first, stop;
@@ -56,18 +56,18 @@ int main(int count, char **words) {
     gst_init(NULL, NULL);
     if (count != 7) return 3;
     pipeline = gst_pipeline_new(NULL);
-    source = part(pipeline, "filesrc", "location", words[2]);
-    dec = part(pipeline, "dsdarcdec", "filter", words[1]);
-    sink = part(pipeline, "filesink", "location", words[3]);
+    source = part(pipeline, "filesrc", "location", arguments[2]);
+    dec = part(pipeline, "dsdarcdec", "filter", arguments[1]);
+    sink = part(pipeline, "filesink", "location", arguments[3]);
     if (!gst_element_link_many(source, dec, sink, NULL)) return 3;
     bus = gst_element_get_bus(pipeline);
     gst_element_set_state(pipeline, GST_STATE_PAUSED);
     if (gst_element_get_state(pipeline, NULL, NULL, 30 * GST_SECOND) != GST_STATE_CHANGE_SUCCESS) return 1;
     rate = rate_of(dec);
-    first = gst_util_uint64_scale(strtoull(words[4], NULL, 10), GST_SECOND, (guint64)rate);
-    stop = gst_util_uint64_scale(strtoull(words[5], NULL, 10), GST_SECOND, (guint64)rate);
+    first = gst_util_uint64_scale(strtoull(arguments[4], NULL, 10), GST_SECOND, (guint64)rate);
+    stop = gst_util_uint64_scale(strtoull(arguments[5], NULL, 10), GST_SECOND, (guint64)rate);
     is_right = goes(pipeline, bus, GST_SEEK_FLAG_FLUSH | GST_SEEK_FLAG_SEGMENT, (gint64)first, (gint64)stop);
-    for (int turn = 1; turn < atoi(words[6]) && is_right; turn++)
+    for (int turn = 1; turn < atoi(arguments[6]) && is_right; turn++)
         is_right = goes(pipeline, bus, GST_SEEK_FLAG_SEGMENT, (gint64)first, (gint64)stop);
     is_right = is_right && goes(pipeline, bus, GST_SEEK_FLAG_NONE, (gint64)stop, -1);
     gst_element_set_state(pipeline, GST_STATE_NULL);

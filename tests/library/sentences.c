@@ -176,7 +176,7 @@ static void try_seeks(void) {
     SAYS("before the sound is known a seek is NotYet", dsdarc_player_seek(player, 0, &offset) == DSDARC_NOT_YET && offset == 5);
     at = to_sound(player, &info);
     dsdarc_player_push(player, bytes + at, size - at, &taken);
-    SAYS("behind the end a seek changes nothing",
+    SAYS("after the end a seek changes nothing",
          dsdarc_player_seek(player, info.frames + 1, &offset) == DSDARC_PAST_END && offset == 5);
     SAYS("frames that wait are dropped", dsdarc_player_seek(player, 3, &offset) == DSDARC_OK && pulled(player) == 0);
     SAYS("a seek goes to any frame, and to their number", dsdarc_player_seek(player, info.frames, &offset) == DSDARC_OK);
@@ -226,11 +226,11 @@ static void try_held(void) {
     SAYS("drop frees a player", held() <= before);
 }
 
-int main(int count, char **words) {
+int main(int count, char **arguments) {
     if (count < 3) return 3;
-    text = whole(words[1], &text_size);
-    for (int word = 2; word < count; word++) {
-        name = words[word];
+    text = whole(arguments[1], &text_size);
+    for (int at = 2; at < count; at++) {
+        name = arguments[at];
         bytes = whole(name, &size);
         try_new(), try_pushes(), try_info(), try_pulls(), try_faults(), try_seeks(), try_held();
         free(bytes);

@@ -33,8 +33,8 @@ def try_sentences(folder: str) -> None:
         status, said = run(made, os.path.join(ROOT, "filters", f"{filter}.toml"), *files, env=KEEPING_NOTHING)
         demand(status == 0 and said == "", f"dsdarc.h, by {filter}: status {status}\n{said}")
     made = os.path.join(folder, "pure")
-    words = ["-g", "-fsanitize=address,undefined", "-fno-sanitize-recover", "-Wall", "-Wextra", "-Werror"]
-    compiled("tests/library/pure.c", *words, *SOURCES[1:], ARCHIVE, "-o", made)
+    flags = ["-g", "-fsanitize=address,undefined", "-fno-sanitize-recover", "-Wall", "-Wextra", "-Werror"]
+    compiled("tests/library/pure.c", *flags, *SOURCES[1:], ARCHIVE, "-o", made)
     status, said = run(made)
     demand(status == 0 and said == "", f"calls without a player: status {status}\n{said}")
 

@@ -17,12 +17,12 @@ SECONDS_AFTER_ERRORS = 20  # what may wait for ever is killed then
 SURROUND = [b"MLFT", b"MRGT", b"C   ", b"LFE ", b"LS  ", b"RS  "]
 
 
-def launched(*words: str, **how: Any) -> tuple[int | None, str]:
-    """Status and words of gst-launch. The status is None if it didn't end by itself: after an error before the first
+def launched(*arguments: str, **how: Any) -> tuple[int | None, str]:
+    """Status and output of gst-launch. The status is None if it didn't end by itself: after an error before the first
     buffer its loop may wait for ever, with `wavparse` too."""
     try:
         done = subprocess.run(
-            ["gst-launch-1.0", *words], capture_output=True, check=False, timeout=SECONDS_AFTER_ERRORS, **how
+            ["gst-launch-1.0", *arguments], capture_output=True, check=False, timeout=SECONDS_AFTER_ERRORS, **how
         )
     except subprocess.TimeoutExpired as late:
         return None, ((late.stdout or b"") + (late.stderr or b"")).decode()
@@ -38,11 +38,11 @@ def await_handler(child: subprocess.Popen[str]) -> None:
         time.sleep(0.01)
 
 
-def interrupted(words: list[str], when: str = "New clock", **how: Any) -> tuple[int | None, str]:
-    """Status and words of gst-launch that is interrupted once it says this, as it plays, and asked to end its stream
+def interrupted(arguments: list[str], when: str = "New clock", **how: Any) -> tuple[int | None, str]:
+    """Status and output of gst-launch that is interrupted once it says this, as it plays, and asked to end its stream
     then (-e)."""
     child = subprocess.Popen(
-        ["gst-launch-1.0", "-e", *words], stdout=subprocess.PIPE, stderr=subprocess.STDOUT, text=True, **how
+        ["gst-launch-1.0", "-e", *arguments], stdout=subprocess.PIPE, stderr=subprocess.STDOUT, text=True, **how
     )
     killing = threading.Timer(MOST_SECONDS, child.kill)
     killing.start()
@@ -78,7 +78,7 @@ def ends(long: str, short: str) -> None:
             stream(pipe.stdout).close()
         demand(is_stopped(status, said), f"dsdarcdec: stopped at a pipe: {status}, {said[-400:]}")
         with subprocess.Popen(["sleep", "60"], stdout=subprocess.PIPE) as pipe:
-            # By its start alone the element can tell an end of the application from an empty file.
+            # By its start alone the element can distinguish an end of the application from an empty file.
             status, said = interrupted(["-m", "fdsrc", *dec, "fakesink"], "(stream-start)", stdin=pipe.stdout)
             pipe.kill()
         demand(is_stopped(status, said), f"dsdarcdec: stopped before the first byte: {status}, {said[-400:]}")
@@ -95,10 +95,10 @@ def ends(long: str, short: str) -> None:
         demand(is_right, f"dsdarcdec: a file that ends early, by {ways[0]}: status {status}, {said[-400:]}")
 
 
-def segments(folder: str, words: list[str], long: str, out: str, whole: bytes) -> None:
+def segments(folder: str, flags: list[str], long: str, out: str, whole: bytes) -> None:
     """Segments are answered in time, with and without a flush, and go on without a gap."""
     made = os.path.join(folder, "segments")
-    compiled("tests/library/segments.c", *words, "-o", made)
+    compiled("tests/library/segments.c", *flags, "-o", made)
     for name in (long, long.replace(".dff", ".dsf")):
         for first, stop, times in ((1000, 50_000, 3), (0, 1, 2), (300_000, len(whole) // 6, 2)):
             status, said = run(made, "88200/24", name, out, str(first), str(stop), str(times))
@@ -162,12 +162,12 @@ def names(folder: str, long: str) -> None:
         demand(is_right and is_warned == ("WARNING" in said), f"dsdarcdec: the warning of {filter}: {said[-300:]}")
 
 
-def try_stopped(folder: str, words: list[str], long: str, out: str, whole: bytes) -> None:
+def try_stopped(folder: str, flags: list[str], long: str, out: str, whole: bytes) -> None:
     """All of these; `whole` has the frames of the file that is named."""
     short = os.path.join(folder, "short.dff")
     with open(short, "wb") as file:
         file.write(get(long)[:-1000])
     ends(long, short)
-    segments(folder, words, long, out, whole)
+    segments(folder, flags, long, out, whole)
     loudspeakers(folder)
     names(folder, long)

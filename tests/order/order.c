@@ -1,14 +1,14 @@
 /* Preloaded into a program, it notes the calls that put a file in place, and fails one of them. To the file of number
-   ORDER_TOLD it writes a line for each call that makes a file, syncs a file or a folder, or renames, in their order,
-   and one for the writes to a file, however many come in a row: the call, the file's mode behind it, and its paths.
-   ORDER_FAILS names the call that fails, as it stands in its line, and ORDER_WHICH counts it from 1: it is noted, and
+   ORDER_LOG it writes a line for each call that makes a file, syncs a file or a folder, or renames, in their order,
+   and one for the writes to a file, however many come in a row: the call, the file's mode after it, and its paths.
+   ORDER_FAILS names the call that fails, as its line has it, and ORDER_WHICH counts it from 1: it is noted, and
    not made; but one that would make a file isn't noted. Calls that open a folder or read from a file aren't noted
    either, but can be failed (folder, read).
 
    With ORDER_OPENS each opening of a file by a name in the current folder is noted too, and can be failed (open). From
    opening number ORDER_OTHER on it opens the file `changed` in its place. With ORDER_MOST each read of a file gives at
-   most so many bytes, and is noted. With ORDER_ROOM no more than so many bytes are written to files in all. A file that
-   is renamed gets the name ORDER_ALIAS too, as on a disk that takes both names for one. */
+   most that many bytes, and is noted. With ORDER_ROOM no more than that many bytes are written to files in all. A file
+   that is renamed gets the name ORDER_ALIAS too, as on a disk that takes both names for one. */
 #define _GNU_SOURCE
 #include <dlfcn.h>
 #include <errno.h>
@@ -43,7 +43,7 @@ static void note(const char *call, unsigned mode, const char *first, const char 
     if (size >= (int)sizeof line || (strcmp(call, "write") == 0 && strcmp(line, last_line) == 0))
         return;
     strcpy(last_line, line);
-    if (write_on((int)number("ORDER_TOLD"), line, (size_t)size) != size)
+    if (write_on((int)number("ORDER_LOG"), line, (size_t)size) != size)
         _exit(125);
 }
 
@@ -166,25 +166,25 @@ static int open_as(int folder, const char *path, int how, mode_t mode)
     return file;
 }
 
-static mode_t mode_in(int how, va_list words)
+static mode_t mode_in(int how, va_list arguments)
 {
-    return how & O_CREAT ? va_arg(words, mode_t) : 0;
+    return how & O_CREAT ? va_arg(arguments, mode_t) : 0;
 }
 
 int openat(int folder, const char *path, int how, ...)
 {
-    va_list words;
-    va_start(words, how);
-    mode_t mode = mode_in(how, words);
-    va_end(words);
+    va_list arguments;
+    va_start(arguments, how);
+    mode_t mode = mode_in(how, arguments);
+    va_end(arguments);
     return open_as(folder, path, how, mode);
 }
 
 int open(const char *path, int how, ...)
 {
-    va_list words;
-    va_start(words, how);
-    mode_t mode = mode_in(how, words);
-    va_end(words);
+    va_list arguments;
+    va_start(arguments, how);
+    mode_t mode = mode_in(how, arguments);
+    va_end(arguments);
     return open_as(AT_FDCWD, path, how, mode);
 }

@@ -1,6 +1,6 @@
 //! Judges a master by a certificate that is opened and read to its end.
 
-ghost use Rattle.std.specs.Prelude.{IfErr, IfOk, IfSome, List, None, ℕ};
+ghost use Rattle.std.specs.Prelude.{IfErr, IfOk, List, None, ℕ};
 ghost use Rattle.request_core.specs.Cutting.{SaysCut};
 ghost use Rattle.judge_core.specs.Finding.{FindsHeld, IsFoundHeld, IsFoundInSome};
 ghost use Rattle.transfer_commands.specs.Outlining.{IsUnread};
@@ -10,6 +10,7 @@ use crate::ending::reads_to_end;
 use cert_core::CertReader;
 use chunk_core::{FusedInlet, Inlet, MOST_READS};
 use cut_core::Cut;
+use form_core::ReadFault;
 use judge_core::{Found, Verdict, check_found};
 use sound_core::StreamFault;
 use std::alloc::Global;
@@ -27,13 +28,13 @@ const BLOCK: usize = 65_536;
 pub(crate) fn judge_opened<R: Read + Drop>(
     alloc: Global,
     cut: &Cut,
-    found: &Option<Found>,
+    found: &Result<Found, ReadFault>,
     cert: R,
 ) -> Result<Verdict, CommandFault>
     requires { IsFoundInSome cut.now found.now }
     // Whichever project and files it is the cut of, and whichever file it was found in, what is accepted is least.
     ensures least { (project : List ℕ) (files : List (List ℕ)) (file : List ℕ) → SaysCut project files None cut.now
-        → IfSome found.now (FindsHeld cut.now file) → IfOk result (IsLeastIfAccepted project files file) }
+        → IfOk found.now (FindsHeld cut.now file) → IfOk result (IsLeastIfAccepted project files file) }
     ensures judged { (project : List ℕ) (files : List (List ℕ)) (file : List ℕ) → SaysCut project files None cut.now
         → IsFoundHeld cut.now file found.now → IfOk result (JudgesBy project files file (R.remaining cert)) }
     ensures fault { IfErr result IsUnread }

@@ -9,6 +9,7 @@ use crate::ending::reads_to_end;
 use chunk_core::Inlet;
 use cut_core::Cut;
 use folder_core::Folder;
+use form_core::ReadFault;
 use judge_core::{Found, find_master};
 use sound_core::StreamFault;
 use std::alloc::Global;
@@ -16,8 +17,8 @@ use std::io::Read;
 use transfer_commands::CommandFault;
 use transfer_core::Fault;
 
-/// What is found in a master that is to be judged by a cut, or None for a file that holds no recording. The file is
-/// read once, to its end, and its sound isn't held.
+/// What is found in a master that is to be judged by a cut, or the first fault of a file that holds no recording. The
+/// file is read once, to its end, and its sound isn't held.
 ///
 /// Refusals: `ReadFailed` if it can't be opened, a read fails, or it isn't at its end after `2^40` reads; `Memory`.
 pub(crate) fn find_named<F: Folder>(
@@ -25,7 +26,7 @@ pub(crate) fn find_named<F: Folder>(
     folder: &mut F,
     cut: &Cut,
     name: &str,
-) -> Result<Option<Found>, CommandFault>
+) -> Result<Result<Found, ReadFault>, CommandFault>
     ensures same { F.view folder.new ≡ F.view folder.old }
     ensures found { IfOk result (FindsMaster (F.view folder.old) cut.now name.now) }
     ensures some { IfOk result (IsFoundInSome cut.now) }
@@ -38,7 +39,11 @@ pub(crate) fn find_named<F: Folder>(
 }
 
 // The same for the file that a reader has.
-fn find_in<R: Read + Drop>(alloc: Global, cut: &Cut, file: R) -> Result<Option<Found>, CommandFault>
+fn find_in<R: Read + Drop>(
+    alloc: Global,
+    cut: &Cut,
+    file: R,
+) -> Result<Result<Found, ReadFault>, CommandFault>
     ensures found { IfOk result (λ found. IfSome (R.remaining file) (λ left. IsFoundHeld cut.now left found)) }
     // If the reader's bytes aren't known, it was found in some bytes that were read.
     ensures some { IfOk result (IsFoundInSome cut.now) }

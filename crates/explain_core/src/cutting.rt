@@ -5,7 +5,7 @@ use crate::line::Part::{Count, Name, Number, Several};
 use cut_core::CutFault;
 use dsd_bits::{MOST_BITS, Sound};
 use project_core::{Cue, Splice};
-use request_core::splice_of;
+use request_core::{Shape, splice_of};
 use std::rt::Files;
 
 /// A project text, and its splice.
@@ -65,10 +65,16 @@ impl<R: Files> Line<'_, R> {
     }
 
     /// Adds a number of channels and a rate.
-    pub(crate) fn say_sound(&mut self, before: &str, sound: Sound) {
+    pub(crate) fn say_shape(&mut self, before: &str, shape: Shape) {
         self.push(before);
-        let channels = Several(sound.channels as u64, "channel");
-        self.say("{0} at {1} Hz", &[channels, Count(sound.rate.into())]);
+        let channels = Several(shape.channels as u64, "channel");
+        self.say("{0} at {1} Hz", &[channels, Count(shape.rate.into())]);
+    }
+
+    // The same of a sound.
+    fn say_sound(&mut self, before: &str, sound: Sound) {
+        let (rate, channels) = (sound.rate, sound.channels);
+        self.say_shape(before, Shape { rate, channels });
     }
 
     /// Adds why the takes are not cut.

@@ -5,6 +5,7 @@ use crate::line::Line;
 use crate::line::Part::{Count, Named, Number, Several};
 use crate::recordings::{CERTIFICATE, RECORDING};
 use cert_core::CertReason;
+use form_core::ReadFault;
 use request_core::Reason;
 use std::rt::Files;
 
@@ -25,11 +26,13 @@ impl<R: Files> Line<'_, R> {
                 };
                 self.explain_cert(cutting, cert, channels, reason);
             }
-            Reason::MasterUnread => {
+            Reason::MasterUnread(fault) => {
                 self.say("{0}: ", &[Named(master, "MASTER")]);
-                match self.kind_of(master) {
-                    CERTIFICATE => self.push("it is a certificate; MASTER comes before CERT"),
-                    _ => self.explain_refused(master),
+                match fault {
+                    ReadFault::UnknownForm if self.kind_of(master) == CERTIFICATE => {
+                        self.push("it is a certificate; MASTER comes before CERT")
+                    }
+                    _ => self.explain_file(master, fault),
                 }
             }
             _ => self.explain_master(cutting, master, reason),
@@ -39,28 +42,25 @@ impl<R: Files> Line<'_, R> {
     // Adds in what a master isn't that of the project.
     fn explain_master(&mut self, cutting: &Cutting, name: &str, reason: Reason) {
         let master = Named(name, "MASTER");
-        match (reason, self.sound_of(name)) {
-            (Reason::MasterShape, Some(found)) => {
+        match reason {
+            Reason::MasterShape { found, wanted } => {
                 self.say("{0}", &[master]);
-                self.say_sound(" has ", found);
-                if let Some(wanted) = self.sound_of(cutting.take(0)) {
-                    self.push(", and ");
-                    self.say_take(cutting, 0);
-                    self.say_sound(" ", wanted);
-                }
+                self.say_shape(" has ", found);
+                self.push(", and ");
+                self.say_take(cutting, 0);
+                self.say_shape(" ", wanted);
             }
-            (Reason::MasterLength, Some(found)) => {
-                let bits = Count(found.count as u64);
-                self.say(LENGTH, &[master, bits, Count(cutting.bits())]);
+            Reason::MasterLength { found, wanted } => {
+                self.say(LENGTH, &[master, Count(found as u64), Count(wanted as u64)]);
             }
-            (Reason::MasterMarks, _) => {
+            Reason::MasterMarks => {
                 let mut titles = 0u64;
                 for cue in &cutting.splice.cues {
                     titles = titles.saturating_add(cue.title.is_some().into());
                 }
                 self.say(MARKS, &[master, Several(titles, "title")]);
             }
-            (Reason::CuedBit(channel, place), _) => {
+            Reason::CuedBit(channel, place) => {
                 let (bit, channel) = (Count(place as u64), Number(channel as u64));
                 self.say(
                     "{0}: bit {1} of channel {2} has to be ",

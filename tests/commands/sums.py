@@ -32,6 +32,7 @@ ONE = f"{RATE} 8 {hashlib.sha256(bytes([0xf0])).hexdigest()}"
 
 # A file of one byte of zeros, and how files are judged by a list.
 ZERO = mono(b"\0")
+LINES, LONG_SIZE = 10_000, 3_000_001  # of a list; bytes of a channel
 CHECK = ["sum", "--check", "list"]
 
 # Names that are printed otherwise than they are, as on one line.
@@ -161,6 +162,22 @@ def several() -> Iterator[Case]:
         yield Case({"in": FILE, "list": other}, [faulty(CHECK, "ListRefused  list")])
 
 
+def long_ones() -> Iterator[Case]:
+    """Each line of a long list is judged, and each byte of a long file is summed."""
+    for last, judged in ((f"{ONE}  in", said), (line_of("in", 8, b"\0"), other)):
+        lines = [f"{ONE}  in"] * (LINES - 1) + [last]
+        shown = "in: OK\n" * (LINES - 1) + ("in: OK" if judged is said else "in: FAILED")
+        yield Case({"in": FILE, "list": "\n".join(lines).encode()}, [judged(CHECK, shown)])
+    channels = sounds("long", 2, LONG_SIZE)
+    line = line_of("in", 8 * LONG_SIZE, *channels)
+    turned = [channels[0], channels[1][:-1] + bytes([channels[1][-1] ^ 1])]
+    for form in FORMS:
+        yield Case(
+            {"in": file_of(form, channels), "list": line.encode()}, [said(["sum", "in"], line), said(CHECK, "in: OK")]
+        )
+        yield Case({"in": file_of(form, turned), "list": line.encode()}, [other(CHECK, "in: FAILED")])
+
+
 def untexted() -> Iterator[Case]:
     """A name that isn't UTF-8 is one fault, and all others are summed or judged; as an argument, in a list, and of a
     list."""
@@ -200,6 +217,7 @@ def sum_cases() -> Iterator[Case]:
         files = {name: FILE, "list": line.encode()}
         yield Case(files, [said(["sum", name], line), said(CHECK, f"{shown}: OK")])
     yield from several()
+    yield from long_ones()
     yield from untexted()
 
 

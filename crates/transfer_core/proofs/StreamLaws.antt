@@ -155,7 +155,7 @@ same_stream f = refl
 one_fault : (f g : StreamFault) → fault_of_stream f ≡ fault_of_stream g → g ≡ f
 one_fault f g is = let a = same_stream {X = ℕ} f in let b = same_stream {X = ℕ} g in cc
 
-stream_turns : {X : Type 0} (f : StreamFault) → IsErrOf {T = X} (Err (fault_of_stream f)) (fault.Stream faults.TurnLimit) → IsErrOf {T = X} (Err f) faults.TurnLimit
+pub stream_turns : {X : Type 0} (f : StreamFault) → IsErrOf {T = X} (Err (fault_of_stream f)) (fault.Stream faults.TurnLimit) → IsErrOf {T = X} (Err f) faults.TurnLimit
 stream_turns f is = sym (same_stream f) ∙ ap as_stream is
 
 of_stream : (P : StreamFault → Type 0) (f : StreamFault) → OfStream P (fault_of_stream f) → P f
@@ -185,15 +185,15 @@ unread_turns (answers.Refused reads.Memory) is = absurd cc
 unread_turns (answers.Refused e) is = absurd cc
 unread_turns {X} (answers.Stream f) is = let turns = stream_turns {X = X} f is in let same : f ≡ faults.TurnLimit = cc in same
 
-pub unread_reads : {X : Type 0} (u : Unread) → failed_reads (as_stream {X = X} (Err (fault_of_unread u))) ≡ failed_reads {X = X} (Err (plain u))
-unread_reads (answers.Refused reads.Memory) = refl
-unread_reads (answers.Refused e) = refl
-unread_reads {X} (answers.Stream f) = ap (λ r. failed_reads {X = X} r) (same_stream f)
+pub unread_reads : (X : Type 0) (u : Unread) → failed_reads (as_stream {X = X} (Err (fault_of_unread u))) ≡ failed_reads {X = X} (Err (plain u))
+unread_reads X (answers.Refused reads.Memory) = refl
+unread_reads X (answers.Refused e) = refl
+unread_reads X (answers.Stream f) = ap (λ r. failed_reads {X = X} r) (same_stream f)
 
-pub unread_writes : {X : Type 0} (u : Unread) → failed_writes (as_stream {X = X} (Err (fault_of_unread u))) ≡ failed_writes {X = X} (Err (plain u))
-unread_writes (answers.Refused reads.Memory) = refl
-unread_writes (answers.Refused e) = refl
-unread_writes {X} (answers.Stream f) = ap (λ r. failed_writes {X = X} r) (same_stream f)
+pub unread_writes : (X : Type 0) (u : Unread) → failed_writes (as_stream {X = X} (Err (fault_of_unread u))) ≡ failed_writes {X = X} (Err (plain u))
+unread_writes X (answers.Refused reads.Memory) = refl
+unread_writes X (answers.Refused e) = refl
+unread_writes X (answers.Stream f) = ap (λ r. failed_writes {X = X} r) (same_stream f)
 
 pub unread_named : (P : ReadFault → Type 0) (u : Unread) → IfRefusedAs u P → IfNamed (fault_of_unread u) P
 unread_named P (answers.Refused reads.Memory) named = tt

@@ -9,12 +9,12 @@ use Rattle.command_core.specs.declared.outcome.Outcome.TheVariants.{Fault, Write
 
 -- the outcome once it was printed: it is the same, or memory for its line ran out, or standard output didn't take the
 -- line of what was done or judged
-abbrev pub IsToldAs : Outcome → Outcome → Type 0
-IsToldAs outcome told = (told ≡ outcome) ⊎ ((told ≡ Fault Memory) ⊎ ((told ≡ WriteFailed) × (status_of outcome < 2)))
+abbrev pub IsReportedAs : Outcome → Outcome → Type 0
+IsReportedAs outcome reported = (reported ≡ outcome) ⊎ ((reported ≡ Fault Memory) ⊎ ((reported ≡ WriteFailed) × (status_of outcome < 2)))
 
 -- the status is that of an outcome once it was printed
 abbrev pub EndsAfter : Outcome → ℕ → Type 0
-EndsAfter outcome status = (told : Outcome) × IsToldAs outcome told × (status ≡ status_of told)
+EndsAfter outcome status = (reported : Outcome) × IsReportedAs outcome reported × (status ≡ status_of reported)
 
 -- words came to this outcome over a disk, of whose bytes nothing is known, or memory ran out
 abbrev pub ComesToOnDisk : Outcome → Type 0

@@ -28,7 +28,7 @@ pub(crate) struct Shown {
 /// What there is to explain of what a task came to.
 pub(crate) fn ended_of(shown: &Shown, remembered: Remembered) -> Option<Ended> {
     match (&shown.outcome, shown.refusal) {
-        (Outcome::WriteFailed, Some(error)) => Some(Ended::Untold(error)),
+        (Outcome::WriteFailed, Some(error)) => Some(Ended::Unprinted(error)),
         (Outcome::WriteFailed, None) => Some(Ended::WriteFailed(remembered.failure)),
         (Outcome::ReadFailed, _) => Some(Ended::ReadFailed),
         (Outcome::Fault(Fault::Stream(StreamFault::WriteFailed)), _) => {

@@ -3,7 +3,7 @@
 ghost use Rattle.std.specs.Prelude.{◌≡◌, ◌<◌, ◌⊎◌, true};
 ghost use Rattle.std.specs.Process.{exit_status};
 ghost use Rattle.command_core.specs.Commands.{ComesTo};
-ghost use Rattle.command_core.specs.Endings.{ComesToOnDisk, EndsWith, IsToldAs};
+ghost use Rattle.command_core.specs.Endings.{ComesToOnDisk, EndsWith, IsReportedAs};
 ghost use Rattle.command_core.specs.Outcomes.{status_of};
 ghost use Rattle.command_core.specs.declared.outcome.Outcome.TheVariants as outcomes;
 ghost use Rattle.request_core.specs.declared.fault.Fault.TheVariants.{Memory};
@@ -81,7 +81,7 @@ where
         ensures { EndsWith (exit_status result) }
     {
         let ran = self.run_on_disk(asked);
-        let shown = self.tell(ran.outcome, ran.answers);
+        let shown = self.report(ran.outcome, ran.answers);
         if self.is_explained {
             self.explain(asked, &shown, ran.remembered);
         }
@@ -118,17 +118,17 @@ where
     // Prints an outcome, and returns the outcome of that. If there is no memory for its line, this is out of memory; if
     // standard output doesn't take the line, it is a failed write. A line on standard error, a fault or what was done,
     // may fail to be written. Sums have printed their lines.
-    fn tell(&self, outcome: Outcome, answers: Answers) -> Shown
-        ensures { IsToldAs outcome result.outcome }
+    fn report(&self, outcome: Outcome, answers: Answers) -> Shown
+        ensures { IsReportedAs outcome result.outcome }
     {
         let Ok(line) = outcome_line(self.rt.alloc(), &outcome) else {
-            return self.tell_untold(Fault::Memory.into(), None);
+            return self.report_unprinted(Fault::Memory.into(), None);
         };
         match answers {
             _ if line.is_empty() => {}
             Answers::ToOutput if is_answer(&outcome) => {
                 if let Err(error) = self.rt.println(&line) {
-                    return self.tell_untold(Outcome::WriteFailed, Some(error));
+                    return self.report_unprinted(Outcome::WriteFailed, Some(error));
                 }
             }
             Answers::Nowhere if is_answer(&outcome) => {}
@@ -143,7 +143,7 @@ where
     }
 
     // Prints the fault that the outcome was not printed, if there is memory for its line.
-    fn tell_untold(&self, fault: Outcome, refusal: Option<io::Error>) -> Shown
+    fn report_unprinted(&self, fault: Outcome, refusal: Option<io::Error>) -> Shown
         ensures { result.outcome ≡ fault }
     {
         if let Ok(line) = outcome_line(self.rt.alloc(), &fault) {
@@ -162,7 +162,7 @@ where
             (Ok(task), Some(ended)) => self.explainer.explain(self.rt, task, ended),
             (Ok(_), None) => None,
         };
-        self.tell_explained(explained);
+        self.report_explained(explained);
     }
 }
 

@@ -224,12 +224,12 @@ where
     // Prints what explains a fault of a file, if that is asked for and there is something.
     fn tell_why(&self, file: Summed, ended: Ended) {
         if self.is_explained {
-            self.tell_explained(self.explainer.explain_sum(self.rt, file, ended));
+            self.report_explained(self.explainer.explain_sum(self.rt, file, ended));
         }
     }
 
     // Prints a line that explains, if there is one.
-    pub(crate) fn tell_explained(&self, explained: Option<Explanation>) {
+    pub(crate) fn report_explained(&self, explained: Option<Explanation>) {
         if let Some(line) = explained {
             let _ = self.rt.eprintln(line.as_str());
         }
@@ -255,8 +255,8 @@ where
     {
         let _ = self.rt.eprintln("fault: WriteFailed");
         if self.is_explained {
-            let ended = Ended::Untold(*error);
-            self.tell_explained(self.explainer.explain(self.rt, task, ended));
+            let ended = Ended::Unprinted(*error);
+            self.report_explained(self.explainer.explain(self.rt, task, ended));
         }
         SumStatus::Failed
     }

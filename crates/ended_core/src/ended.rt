@@ -18,7 +18,7 @@ pub enum Ended {
     /// A file could not be created or written; this is what failed last, if anything is known.
     WriteFailed(Option<Failure>),
     /// Standard output did not take the answer.
-    Untold(Error),
+    Unprinted(Error),
     /// A master was rejected for this reason.
     Rejected(Reason),
     /// A file was played: the first bytes of its WAVE file, and how many there are.

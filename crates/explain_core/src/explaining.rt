@@ -68,7 +68,7 @@ impl<R: Files + Env + AllocGlobal> Line<'_, R> {
                 }
             }
             (Ended::Played(front, bytes), _) => self.explain_played(task, &front, bytes),
-            (Ended::Untold(error), _) => {
+            (Ended::Unprinted(error), _) => {
                 self.push("standard output did not take the answer: ");
                 self.say_error(&error);
             }

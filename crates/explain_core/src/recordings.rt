@@ -6,7 +6,7 @@ use crate::line::Part::{Bytes, Id, Text};
 use chunk_core::{Inlet, id_at};
 use dsd_bits::Sound;
 use form_core::ReadFault;
-use sound_core::{Outline, Unread, read_outline, read_prefix};
+use sound_core::{read_outline, read_prefix};
 use std::io::{Read, Seek, SeekFrom};
 use std::rt::Files;
 
@@ -50,26 +50,14 @@ impl<R: Files> Line<'_, R> {
         }
     }
 
-    // What the file of a name holds beside its sound, or why it isn't read.
-    fn outline_of(&self, name: &str) -> Option<Result<Outline, Unread>> {
-        let (file, _) = self.reopen(name).ok()?;
-        Some(read_outline(self.alloc, &mut Inlet::new(file)))
-    }
-
     /// How many marks the file of a name has.
     pub(crate) fn marks_of(&self, name: &str) -> u64 {
-        match self.outline_of(name) {
-            Some(Ok(outline)) => outline.recording.marks().len() as u64,
-            _ => 0,
-        }
-    }
-
-    /// Adds why the file of a name is refused, by its first fault.
-    pub(crate) fn explain_refused(&mut self, name: &str) {
-        match self.outline_of(name) {
-            Some(Err(Unread::Refused(fault))) => self.explain_file(name, fault),
-            Some(_) => {}
-            None => self.explain_file(name, ReadFault::UnknownForm),
+        let Ok((file, _)) = self.reopen(name) else {
+            return 0;
+        };
+        match read_outline(self.alloc, &mut Inlet::new(file)) {
+            Ok(outline) => outline.recording.marks().len() as u64,
+            Err(_) => 0,
         }
     }
 

@@ -34,11 +34,7 @@ impl<'a> Player<'a> {
 
     /// The player before the first byte of a sound: 1 to 6 channels of the same number of bits, whole bytes if they are
     /// in frames. The only refusal is out of memory.
-    pub(crate) fn new(
-        alloc: Global,
-        taps: &'a Taps,
-        sound: Sound,
-    ) -> Result<Player<'a>, AllocError>
+    pub(crate) fn new(alloc: Global, taps: &'a Taps, sound: Sound) -> Result<Player<'a>, AllocError>
         requires sound { IsSound sound }
         requires whole { sound.interleaving ≡ Interleaving.Bytes → sound.count % 8 ≡ 0 }
         ensures ready { IfOk result IsPlayer }

@@ -13,7 +13,7 @@ use crate::outlining::{outline_reader, refusal_of};
 use chunk_core::Inlet;
 use dsd_bits::Sound;
 use folder_core::{Folder, GappedFile};
-use sound_core::{Prefix, Outline, read_prefix};
+use sound_core::{Outline, Prefix, read_prefix};
 use std::alloc::Global;
 use std::io::{Cursor, Read};
 

@@ -1,10 +1,13 @@
 //! The words of a command, read word by word.
 
-ghost use Rattle.std.specs.Prelude.{◌≡◌, IfErr};
-ghost use Rattle.words_core.specs.Asked.{IsNoForm};
+ghost use Rattle.std.specs.Prelude.{◌≡◌, ◌↔◌, [], IfErr, IfNone, IfOk, IfSome, IsTrue, OnOk, None, Contains, codes, false, map, string_bytes};
+ghost use Rattle.words_core.specs.Asked.{IsUnread, commands};
+ghost use Rattle.words_core.specs.Reading.{AddsName, AddsPlace, IsMisused, IsReadFrom, ReadsWord, waiting_words};
+ghost use Rattle.words_core.specs.declared.fault.WordsFault.TheVariants as faults;
+ghost use Rattle.words_core.specs.declared.reading.Next.TheVariants as nexts;
 
 use crate::fault::{Misfit, WordsFault};
-use crate::options::{END, is_option, options_of, parts_of};
+use crate::options::{END, is_option, is_option_of, parts_of};
 use crate::words::NAMES;
 use place_core::{Place, place_named};
 use std::alloc::Global;
@@ -19,10 +22,19 @@ pub struct Words<'a> {
     pub(crate) is_check: bool,
     /// The first word that is not UTF-8.
     pub(crate) no_text: Option<&'a str>,
-    // The option whose place is the next word.
-    waiting: Option<&'a str>,
-    // Whether all further words are names.
-    is_ended: bool,
+    // What the next word may be.
+    next: Next<'a>,
+}
+
+// What the next word of a command may be.
+#[derive(Clone, Copy)]
+enum Next<'a> {
+    // A name or an option.
+    Any,
+    // The place of this option.
+    PlaceOf(&'a str),
+    // A name alone, after `--`.
+    NameOnly,
 }
 
 impl<'a> Words<'a> {
@@ -32,7 +44,8 @@ impl<'a> Words<'a> {
     /// Refusals: `Memory`; `NoText` if a word is not UTF-8; `NoCommand`; `UnknownCommand`;
     /// `WrongUsage` for an option.
     pub fn read(alloc: Global, words: &'a [String]) -> Result<Words<'a>, WordsFault<'a>>
-        ensures faults { IfErr result IsNoForm }
+        ensures read { IfOk result (IsReadFrom (map string_bytes words.now)) }
+        ensures faults { IfErr result (IsUnread (map string_bytes words.now)) }
     {
         let no_text = no_text_in(words);
         match (Words::of_command(alloc, words, no_text), no_text) {
@@ -47,13 +60,14 @@ impl<'a> Words<'a> {
         words: &'a [String],
         no_text: Option<&'a str>,
     ) -> Result<Words<'a>, WordsFault<'a>>
-        ensures { IfErr result IsNoForm }
+        ensures read { IfOk result (IsReadFrom (map string_bytes words.now)) }
+        ensures faults { IfErr result (IsUnread (map string_bytes words.now)) }
     {
         let Some((command, rest)) = words.split_first() else {
             return Err(WordsFault::NoCommand);
         };
         let command = command.as_str();
-        if !NAMES.contains(&command) {
+        if !is_command(command) {
             return Err(WordsFault::UnknownCommand(command));
         }
         let mut read = Words {
@@ -63,70 +77,104 @@ impl<'a> Words<'a> {
             to: None,
             is_check: false,
             no_text,
-            waiting: None,
-            is_ended: false,
+            next: Next::Any,
         };
         for word in rest {
             read.take(word.as_str())?;
         }
-        match read.waiting {
+        match read.awaited() {
             Some(option) => Err(read.wrong(Misfit::NoPlace(option))),
             None => Ok(read),
         }
     }
 
+    // The option whose place is to come.
+    fn awaited(&self) -> Option<&'a str>
+        ensures { IfNone result (waiting_words self.now.next ≡ []) }
+    {
+        match self.next {
+            Next::Any => None,
+            Next::NameOnly => None,
+            Next::PlaceOf(option) => Some(option),
+        }
+    }
+
     /// That the words are not as the command is used.
     pub(crate) fn wrong(&self, misfit: Misfit<'a>) -> WordsFault<'a>
-        ensures { IsNoForm result }
+        ensures { result ≡ faults.WrongUsage self.now.command misfit.entry }
     {
         WordsFault::WrongUsage(self.command, misfit)
     }
 
+    // Reads one more word.
     fn take(&mut self, word: &'a str) -> Result<(), WordsFault<'a>>
-        ensures { IfErr result IsNoForm }
+        ensures read { OnOk result (ReadsWord self.old word.now self.new) }
+        ensures faults { IfErr result (IsMisused self.old.command.now) }
     {
-        if let Some(option) = self.waiting {
-            self.waiting = None;
-            self.next_place(option, word)
-        } else if self.is_ended || !is_option(word) {
-            match self.names.push(word) {
-                Ok(()) => Ok(()),
-                Err(_) => Err(WordsFault::Memory),
-            }
+        match self.next {
+            Next::PlaceOf(option) => self.next_place(option, word),
+            Next::NameOnly => self.name(word),
+            Next::Any => self.any(word),
+        }
+    }
+
+    // Reads a word where a name or an option may come.
+    fn any(&mut self, word: &'a str) -> Result<(), WordsFault<'a>>
+        ensures read { self.old.next ≡ nexts.Any → OnOk result (ReadsWord self.old word.now self.new) }
+        ensures faults { IfErr result (IsMisused self.old.command.now) }
+    {
+        if !is_option(word) {
+            self.name(word)
         } else if word == END {
-            self.is_ended = true;
+            self.next = Next::NameOnly;
             Ok(())
         } else {
             self.option(word)
         }
     }
 
+    // Notes a name.
+    fn name(&mut self, word: &'a str) -> Result<(), WordsFault<'a>>
+        ensures read { OnOk result (AddsName self.old word.now self.new) }
+        ensures faults { IfErr result (IsMisused self.old.command.now) }
+    {
+        match self.names.push(word) {
+            Ok(()) => Ok(()),
+            Err(_) => Err(WordsFault::Memory),
+        }
+    }
+
+    // Reads an option.
     fn option(&mut self, word: &'a str) -> Result<(), WordsFault<'a>>
-        ensures { IfErr result IsNoForm }
+        ensures read { self.old.next ≡ nexts.Any → OnOk result (ReadsWord self.old word.now self.new) }
+        ensures faults { IfErr result (IsMisused self.old.command.now) }
     {
         let (name, value) = parts_of(word);
-        if !options_of(self.command).contains(&name) {
+        if !is_option_of(self.command, name) {
             return Err(self.wrong(Misfit::NoOption(word)));
         }
         if self.has(name) {
             return Err(self.wrong(Misfit::Twice(name)));
         }
-        match (name, value) {
-            ("check", Some(_)) => Err(self.wrong(Misfit::Valued(name))),
-            ("check", None) => {
+        match value {
+            Some(_) if name == "check" => Err(self.wrong(Misfit::Valued(name))),
+            Some(value) => self.place(name, value),
+            None if name == "check" => {
                 self.is_check = true;
                 Ok(())
             }
-            (_, Some(value)) => self.place(name, value),
-            (_, None) => {
-                self.waiting = Some(name);
+            None => {
+                self.next = Next::PlaceOf(name);
                 Ok(())
             }
         }
     }
 
     // Whether an option was there before.
-    fn has(&self, option: &str) -> bool {
+    fn has(&self, option: &str) -> bool
+        ensures start { result ≡ false → option.now ≡ codes "from" → self.now.from ≡ None }
+        ensures end { result ≡ false → option.now ≡ codes "to" → self.now.to ≡ None }
+    {
         match option {
             "from" => self.from.is_some(),
             "to" => self.to.is_some(),
@@ -136,18 +184,21 @@ impl<'a> Words<'a> {
 
     // Notes the place that is the word after an option. One that begins with `--` is taken for the next option.
     fn next_place(&mut self, option: &'a str, word: &'a str) -> Result<(), WordsFault<'a>>
-        ensures { IfErr result IsNoForm }
+        ensures read { self.old.next ≡ nexts.PlaceOf option.entry → OnOk result (ReadsWord self.old word.now self.new) }
+        ensures faults { IfErr result (IsMisused self.old.command.now) }
     {
         if word.starts_with(END) {
             Err(self.wrong(Misfit::NoPlace(option)))
         } else {
+            self.next = Next::Any;
             self.place(option, word)
         }
     }
 
     // Notes the place of an option.
     fn place(&mut self, option: &'a str, word: &'a str) -> Result<(), WordsFault<'a>>
-        ensures { IfErr result IsNoForm }
+        ensures read { OnOk result (AddsPlace self.old option.now word.now self.new) }
+        ensures faults { IfErr result (IsMisused self.old.command.now) }
     {
         let Some(place) = place_named(word) else {
             return Err(self.wrong(Misfit::NotPlace(option, word)));
@@ -161,8 +212,17 @@ impl<'a> Words<'a> {
     }
 }
 
+// Whether a word is one of the commands.
+fn is_command(word: &str) -> bool
+    ensures { IsTrue result ↔ Contains commands word.now }
+{
+    NAMES.contains(&word)
+}
+
 // The first word that is not UTF-8.
-fn no_text_in(words: &[String]) -> Option<&str> {
+fn no_text_in(words: &[String]) -> Option<&str>
+    ensures { IfSome result (λ word. Contains (map string_bytes words.now) word.now) }
+{
     for word in words {
         if word.contains('\0') {
             return Some(word.as_str());

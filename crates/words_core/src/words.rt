@@ -1,13 +1,17 @@
 //! What the words of a command line ask for.
 
-ghost use Rattle.std.specs.Prelude.{◌≡◌, IfErr, IfOk, drop, false, true};
-ghost use Rattle.words_core.specs.Asked.{HasPlaces, IsNoForm, TakesForm};
+ghost use Rattle.std.specs.Prelude.{◌≡◌, ◌⊎◌, ◌↔◌, ◌∷◌, [], ℕ, Err, List, IfErr, IfOk, IsSomeAnd, IsTrue, codes, drop, false, length, slice_get, string_bytes, true};
+ghost use Rattle.std.specs.Borrow.{Bor};
+ghost use Rattle.words_core.specs.Asked.{AreNamesOf, HasPlaces, IsUnasked, LineAsks, TakesForm, command_of};
+ghost use Rattle.words_core.specs.Lines.{Line};
+ghost use Rattle.words_core.specs.Reading.{IsReadAs, KeepsOptions, ReadAsks, ReadRefused};
+ghost use Rattle.words_core.specs.declared.fault.Misfit.TheVariants as misfits;
 ghost use Rattle.words_core.specs.declared.fault.WordsFault.TheVariants as faults;
 
 use crate::fault::{Misfit, WordsFault};
 use crate::reading::Words;
 use crate::task::Task;
-use form_core::{Form, form_named};
+use form_core::form_named;
 
 /// The commands but `sum`, each with the names of its words in order.
 pub const COMMANDS: [(&str, &[&str]); 5] = [
@@ -28,6 +32,7 @@ const EXPLAIN: &str = "--explain";
 pub fn split_explain(words: &[String]) -> (bool, &[String])
     ensures asked { result.0 ≡ true → result.1.now ≡ drop 2 words.now }
     ensures plain { result.0 ≡ false → result.1.now ≡ drop 1 words.now }
+    ensures explained { IsTrue result.0 ↔ IsSomeAnd (slice_get words.now 1) (λ word. string_bytes word ≡ codes "--explain") }
 {
     match words {
         [_, first, rest @ ..] if first.as_str() == EXPLAIN => (true, rest),
@@ -42,20 +47,18 @@ impl Words<'_> {
     /// Refusals: `NoText` if a word is not UTF-8, unless it is a name for `sum`; `WrongUsage` for the number of names;
     /// `UnknownForm` if the form isn't `dsdiff`, `dsf` or `dsf8`.
     pub fn task(&self) -> Result<Task<'_>, WordsFault<'_>>
+        ensures asked { (line : Line) → IsReadAs line self.now → IfOk result (LineAsks line) }
+        ensures refused { (line : Line) → IsReadAs line self.now → IfErr result (IsUnasked line) }
         ensures places { IfOk result HasPlaces }
         ensures faults { IfErr result TakesForm }
     {
-        match (self.any_task(), self.no_text) {
-            (Ok(Task::Sum { is_check, files }), _) => Ok(Task::Sum { is_check, files }),
-            (_, Some(word)) => Err(WordsFault::NoText(word)),
-            (task, None) => task,
-        }
+        unless_no_text(self.any_task(), self.no_text)
     }
 
     // What the words ask for, if all are UTF-8.
     fn any_task(&self) -> Result<Task<'_>, WordsFault<'_>>
-        ensures places { IfOk result HasPlaces }
-        ensures faults { IfErr result TakesForm }
+        ensures asked { IfOk result (ReadAsks self.now.command.now self.now) }
+        ensures refused { IfErr result (ReadRefused self.now.command.now self.now) }
     {
         match self.command {
             "info" => self.info_task(),
@@ -69,8 +72,8 @@ impl Words<'_> {
     }
 
     fn info_task(&self) -> Result<Task<'_>, WordsFault<'_>>
-        ensures places { IfOk result HasPlaces }
-        ensures faults { IfErr result IsNoForm }
+        ensures asked { IfOk result (ReadAsks (codes "info") self.now) }
+        ensures refused { IfErr result (ReadRefused (codes "info") self.now) }
     {
         let [file] = self.names.as_slice() else {
             return Err(self.miscounted());
@@ -79,22 +82,25 @@ impl Words<'_> {
     }
 
     fn convert_task(&self) -> Result<Task<'_>, WordsFault<'_>>
-        ensures places { IfOk result HasPlaces }
-        ensures faults { IfErr result TakesForm }
+        ensures asked { IfOk result (ReadAsks (codes "convert") self.now) }
+        ensures refused { IfErr result (ReadRefused (codes "convert") self.now) }
     {
-        let [form, input, output] = self.names.as_slice() else {
+        let [name, input, output] = self.names.as_slice() else {
             return Err(self.miscounted());
         };
-        Ok(Task::Convert {
-            form: form_of("convert", *form)?,
-            input: *input,
-            output: *output,
-        })
+        match form_named(*name) {
+            Some(form) => Ok(Task::Convert {
+                form,
+                input: *input,
+                output: *output,
+            }),
+            None => Err(WordsFault::UnknownForm("convert", *name)),
+        }
     }
 
     fn play_task(&self) -> Result<Task<'_>, WordsFault<'_>>
-        ensures places { IfOk result HasPlaces }
-        ensures faults { IfErr result IsNoForm }
+        ensures asked { IfOk result (ReadAsks (codes "play") self.now) }
+        ensures refused { IfErr result (ReadRefused (codes "play") self.now) }
     {
         let [project, input, output] = self.names.as_slice() else {
             return Err(self.miscounted());
@@ -103,23 +109,26 @@ impl Words<'_> {
     }
 
     fn edit_task(&self) -> Result<Task<'_>, WordsFault<'_>>
-        ensures places { IfOk result HasPlaces }
-        ensures faults { IfErr result TakesForm }
+        ensures asked { IfOk result (ReadAsks (codes "edit") self.now) }
+        ensures refused { IfErr result (ReadRefused (codes "edit") self.now) }
     {
-        let [form, project, master, cert] = self.names.as_slice() else {
+        let [name, project, master, cert] = self.names.as_slice() else {
             return Err(self.miscounted());
         };
-        Ok(Task::Edit {
-            form: form_of("edit", *form)?,
-            project: *project,
-            master: *master,
-            cert: *cert,
-        })
+        match form_named(*name) {
+            Some(form) => Ok(Task::Edit {
+                form,
+                project: *project,
+                master: *master,
+                cert: *cert,
+            }),
+            None => Err(WordsFault::UnknownForm("edit", *name)),
+        }
     }
 
     fn check_task(&self) -> Result<Task<'_>, WordsFault<'_>>
-        ensures places { IfOk result HasPlaces }
-        ensures faults { IfErr result IsNoForm }
+        ensures asked { IfOk result (ReadAsks (codes "check") self.now) }
+        ensures refused { IfErr result (ReadRefused (codes "check") self.now) }
     {
         let [project, master, cert] = self.names.as_slice() else {
             return Err(self.miscounted());
@@ -132,8 +141,8 @@ impl Words<'_> {
     }
 
     fn sum_task(&self) -> Result<Task<'_>, WordsFault<'_>>
-        ensures places { IfOk result HasPlaces }
-        ensures faults { IfErr result IsNoForm }
+        ensures asked { IfOk result (ReadAsks (codes "sum") self.now) }
+        ensures refused { IfErr result (ReadRefused (codes "sum") self.now) }
     {
         if self.names.is_empty() {
             return Err(self.miscounted());
@@ -146,14 +155,17 @@ impl Words<'_> {
 
     // That there are more or fewer names than the command takes.
     fn miscounted(&self) -> WordsFault<'_>
-        ensures { IsNoForm result }
+        ensures { result ≡ faults.WrongUsage self.now.command (misfits.Names (length self.now.names.items)) }
     {
         self.wrong(Misfit::Names(self.names.len()))
     }
 
     // The task to play all or a part.
     fn playing<'b>(&self, project: &'b str, input: &'b str, output: &'b str) -> Task<'b>
-        ensures { HasPlaces result }
+        ensures names { AreNamesOf result (project.now ∷ input.now ∷ output.now ∷ []) }
+        ensures options { KeepsOptions self.now result }
+        ensures places { HasPlaces result }
+        ensures command { codes "play" ≡ command_of result }
     {
         match (self.from, self.to) {
             (None, None) => Task::Play {
@@ -172,12 +184,16 @@ impl Words<'_> {
     }
 }
 
-// The form that a command was given.
-fn form_of<'a>(command: &'a str, word: &'a str) -> Result<Form, WordsFault<'a>>
-    ensures { IfErr result (λ fault. fault ≡ faults.UnknownForm command.entry word.entry) }
+// What words ask for, or that a word is not UTF-8. Only `sum` takes such names.
+fn unless_no_text<'a>(
+    asked: Result<Task<'a>, WordsFault<'a>>,
+    no_text: Option<&'a str>,
+) -> Result<Task<'a>, WordsFault<'a>>
+    ensures { (result ≡ asked.entry) ⊎ ((word : Bor (List ℕ)) × (result ≡ Err (faults.NoText word))) }
 {
-    match form_named(word) {
-        Some(form) => Ok(form),
-        None => Err(WordsFault::UnknownForm(command, word)),
+    match (asked, no_text) {
+        (Ok(Task::Sum { is_check, files }), _) => Ok(Task::Sum { is_check, files }),
+        (_, Some(word)) => Err(WordsFault::NoText(word)),
+        (asked, None) => asked,
     }
 }

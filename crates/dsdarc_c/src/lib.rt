@@ -11,10 +11,10 @@ ghost use Rattle.std.specs.Prelude.{◌≡◌, ◌≢◌, ◌/◌, ◌⊎◌, If
 ghost use Rattle.dsdarc_c.specs.Ending.{AcceptsEnd, RefusesEnd};
 ghost use Rattle.dsdarc_c.specs.Making.{IsNew, SaysMade};
 ghost use Rattle.dsdarc_c.specs.Numbers.{AreSamplesIn, first_samples};
+ghost use Rattle.dsdarc_c.specs.Reporting.{RefusesInfo, ReportsSound};
 ghost use Rattle.dsdarc_c.specs.Seeking.{GoesTo, RefusesSeek};
 ghost use Rattle.dsdarc_c.specs.Statuses.{Says};
 ghost use Rattle.dsdarc_c.specs.Taking.{RefusesPush, Takes};
-ghost use Rattle.dsdarc_c.specs.Telling.{RefusesInfo, TellsStated};
 ghost use Rattle.dsdarc_c.specs.Whole.{waiting};
 
 mod content;
@@ -156,7 +156,7 @@ pub extern "C" fn dsdarc_c_end(alloc: Global, handle: Handle) -> u32
 #[unsafe(no_mangle)]
 pub extern "C" fn dsdarc_c_info(handle: Handle, info: &mut Info) -> u32
     // 0 says that `info` has what is played; any other status says why nothing is reported, and `info` is as it was.
-    ensures { Says (TellsStated handle.value info.new)
+    ensures { Says (ReportsSound handle.value info.new)
         (λ fault. RefusesInfo handle.value fault × (info.new ≡ info.old)) result }
 {
     let player = into_box(handle);

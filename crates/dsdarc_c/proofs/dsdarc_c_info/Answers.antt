@@ -1,5 +1,5 @@
 use Rattle.std.proofs.Common.{◌≡◌, inr, refl, subst}
-use Rattle.dsdarc_c.specs.Telling.{RefusesInfo}
+use Rattle.dsdarc_c.specs.Reporting.{RefusesInfo}
 use Rattle.dsdarc_c.specs.declared.fault.PlayFault.TheVariants as faults
 use Rattle.dsdarc_c.proofs.dsdarc_c_info.Goals as goal
 

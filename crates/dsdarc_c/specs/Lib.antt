@@ -1,3 +1,4 @@
+pub mod Calls
 pub mod Ending
 pub mod Headers
 pub mod Making

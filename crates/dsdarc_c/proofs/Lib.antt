@@ -6,3 +6,4 @@ pub mod HeaderLaws
 pub mod TakingLaws
 pub mod EndingLaws
 pub mod NumberLaws
+pub mod StatusLaws

@@ -1,11 +1,12 @@
+pub mod Calls
 pub mod Ending
 pub mod Headers
 pub mod Making
 pub mod Numbers
 pub mod Playing
 pub mod Pushing
+pub mod Reporting
 pub mod Seeking
 pub mod Statuses
 pub mod Taking
-pub mod Telling
 pub mod Whole

@@ -1,5 +1,5 @@
 -- Whether a player is made by a project text, and what it is then.
-use Rattle.std.specs.Prelude.{◌≡◌, ◌⊎◌, ℕ, List, [], Option, None, Some, Result, Ok, Err}
+use Rattle.std.specs.Prelude.{◌≡◌, ◌≢◌, ◌⊎◌, ℕ, List, [], Option, None, Some, Result, Ok, Err}
 use Rattle.fir_core.specs.Decimator.{Decimator}
 use Rattle.project_core.specs.Projects.{ProjectContent}
 use Rattle.project_core.specs.ReadingProject.{project_at}
@@ -32,8 +32,16 @@ status_of_text (Ok p) = status_of_filter p.decimate
 status_of_text (Err fault) = status_of_project fault
 
 -- this is the status of this project text, or 3, out of memory
-abbrev pub SaysMade : List ℕ → ℕ → Type 0
-SaysMade text status = (status ≡ 3) ⊎ (status ≡ status_of_text (project_at text))
+abbrev pub IsStatusOfProject : List ℕ → ℕ → Type 0
+IsStatusOfProject text status = (status ≡ 3) ⊎ (status ≡ status_of_text (project_at text))
+
+-- no player is made by this project text, and this is the status that says why
+abbrev pub RefusesProject : List ℕ → ℕ → Type 0
+RefusesProject text status = IsStatusOfProject text status × (status ≢ 0)
+
+-- the project text states this filter
+abbrev pub StatesFilter : List ℕ → Decimator → Type 0
+StatesFilter text d = (content : ProjectContent) × (project_at text ≡ Ok content) × (content.decimate ≡ Some d)
 
 -- the player has this filter, and was pushed nothing of any file
 pub record IsNew (d : Decimator) (p : Pushing) : Type 0 where
@@ -43,3 +51,7 @@ pub record IsNew (d : Decimator) (p : Pushing) : Type 0 where
   pub stage : p.stage ≡ stages.Header 16
   pub stated : p.stated ≡ None
   pub waits : waiting p ≡ []
+
+-- the player is new, and has the filter that the project text states
+abbrev pub IsMadeBy : List ℕ → Pushing → Type 0
+IsMadeBy text p = (d : Decimator) × StatesFilter text d × IsNew d p

@@ -80,8 +80,17 @@ IsAtStage d header place (stages.Sound s q left) = IsWithinSound d header place 
 IsAtStage d header place (stages.After s back) = IsAfterSound header place s back.items
 IsAtStage d header place stages.Failed = ⊤
 
--- what holds of every player whose file is pushed
+-- the sound that is kept as stated, in each stage: none before the sound is known, and in it and after it the one that is
+-- played
+abbrev pub KeepsSound : Stage → Option Sound → Type 0
+KeepsSound (stages.Header walked) kept = kept ≡ None
+KeepsSound (stages.Sound s q left) kept = kept ≡ Some s
+KeepsSound (stages.After s back) kept = kept ≡ Some s
+KeepsSound stages.Failed kept = ⊤
+
+-- what holds of every player whose file is pushed; the sound that is kept as stated is always one that the header states
 pub record IsPushing (p : Pushing) : Type 0 where
   pub pulled : p.pulled ≤ length p.pending.items
-  pub stated : IfSome p.stated IsSound
+  pub stated : IfSome p.stated (IsPushedHeader p.header.items)
+  pub known : KeepsSound p.stage p.stated
   pub stage : IsAtStage p.taps p.header.items p.place p.stage

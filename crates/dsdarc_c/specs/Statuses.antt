@@ -15,5 +15,5 @@ status_of faults.TooLong = 9
 status_of faults.TooMuchHeld = 20
 
 -- the status is 0 and this is done, or it is that of a fault for which the call is refused
-abbrev pub Says : Type 0 → (PlayFault → Type 0) → ℕ → Type 0
-Says Done Refuses status = ((status ≡ 0) × Done) ⊎ ((fault : PlayFault) × (status ≡ status_of fault) × Refuses fault)
+abbrev pub StatusMeans : Type 0 → (PlayFault → Type 0) → ℕ → Type 0
+StatusMeans Done Refuses status = ((status ≡ 0) × Done) ⊎ ((fault : PlayFault) × (status ≡ status_of fault) × Refuses fault)

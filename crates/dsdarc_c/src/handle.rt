@@ -1,14 +1,17 @@
 //! A player in the heap, as C holds it: a pointer to it, until it is dropped.
 
-ghost use Rattle.std.specs.Prelude.{◌≡◌};
+ghost use Rattle.std.specs.Prelude.{◌≡◌, MatchResult};
 ghost use Rattle.std.specs.Box.Ownership.{box_owns};
 ghost use Rattle.std_heap.specs.contracts.GlobalAllocator.TheImpl as heap;
 ghost use Rattle.dsdarc_c.specs.contracts.content.PushPlayer as content;
 ghost use Rattle.dsdarc_c.specs.declared.content.PushPlayer.{PushPlayer};
+ghost use denote.RawPtr.{InBlock};
 
 use crate::content::PushPlayer;
+use crate::status::done;
 use std::alloc::Global;
 use std::marker::Model;
+use std::ptr::NonNull;
 
 /// What C passes for a player: the pointer that it was given. It owns the player behind it.
 #[repr(C)]
@@ -31,14 +34,29 @@ pub(crate) fn into_box(handle: Handle) -> Box<PushPlayer>
     unsafe { Box::from_raw(alloc, at as *mut PushPlayer) }
 }
 
-/// The place of a player that stays in the heap: whoever has it owns the player.
-pub(crate) fn into_pointer(player: Box<PushPlayer>) -> *mut u8 {
-    address(Box::leak(player))
+/// The player behind a handle, for one call: it stays in the heap.
+pub(crate) fn player_of<'a>(handle: Handle) -> &'a mut PushPlayer
+    ensures { result.now ≡ handle.value }
+{
+    Box::leak(into_box(handle))
 }
 
-// Where a player is.
-fn address(player: &mut PushPlayer) -> *mut u8
-    ensures { player.new ≡ player.old }
+/// Hands a player over: its pointer goes to `out`, and the status is 0; otherwise the status says why there is none.
+pub(crate) fn hand_over(made: Result<Box<PushPlayer>, u32>, out: &mut *mut u8) -> u32
+    ensures { MatchResult made (λ _. (result ≡ 0) × InBlock out.new) (λ status. (result ≡ status) × (out.new ≡ out.old)) }
 {
-    &raw mut *player as *mut u8
+    match made {
+        Ok(player) => {
+            *out = into_pointer(player);
+            done()
+        }
+        Err(status) => status,
+    }
+}
+
+// The place of a player that stays in the heap: whoever has it owns the player.
+fn into_pointer(player: Box<PushPlayer>) -> *mut u8
+    ensures { InBlock result }
+{
+    NonNull::from_mut(Box::leak(player)).cast::<u8>().as_ptr()
 }

@@ -1,8 +1,8 @@
 //! What is played, as C reads it.
 
-ghost use Rattle.std.specs.Prelude.{◌≡◌, MatchOption, None};
+ghost use Rattle.std.specs.Prelude.{MatchOption};
 ghost use Rattle.dsdarc_c.specs.Pushing.{IsPushing};
-ghost use Rattle.dsdarc_c.specs.Telling.{TellsStated};
+ghost use Rattle.dsdarc_c.specs.Reporting.{KnowsNoSound, ReportsSound};
 
 use crate::pushing::Pushing;
 
@@ -25,7 +25,7 @@ pub struct Info {
 /// What is played, once it is known.
 pub(crate) fn info_of(p: &Pushing) -> Option<Info>
     requires { IsPushing p.now }
-    ensures { MatchOption result (p.now.stated ≡ None) (TellsStated p.now) }
+    ensures { MatchOption result (KnowsNoSound p.now) (ReportsSound p.now) }
 {
     let sound = p.stated?;
     let factor = p.taps.factor();

@@ -1,8 +1,7 @@
 //! Goes to a frame: from which byte on the file is pushed then.
 
-ghost use Rattle.std.specs.Prelude.{◌≡◌, ◌≢◌, ◌+◌, ◌≤◌, ◌⊎◌, [], List, ℕ, IfErr, IfOk, IfSome, MatchResult};
+ghost use Rattle.std.specs.Prelude.{◌≡◌, ◌≢◌, ◌+◌, ◌≤◌, ◌⊎◌, [], List, ℕ, IfErr, IfOk, MatchResult, Some};
 ghost use Rattle.player_core.specs.Laws.{total_frames};
-ghost use Rattle.dsd_bits.specs.Sounds.{IsSound};
 ghost use Rattle.dsdarc_c.specs.Pushing.{IsPushedHeader, IsPushing};
 ghost use Rattle.dsdarc_c.specs.Seeking.{GoesTo, RefusesSeek};
 ghost use Rattle.dsdarc_c.specs.Whole.{BeginsWith, PlaysPushedFile, waiting};
@@ -30,6 +29,8 @@ pub(crate) fn seek(alloc: Global, p: &mut Pushing, frame: u64) -> Result<u64, Pl
     ensures goes_on { IfOk result (λ _. p.new.stage ≢ Stage.Failed) }
     // But for memory, a refusal changes nothing.
     ensures same { IfErr result (λ fault. (fault ≡ PlayFault.Memory) ⊎ (p.new ≡ p.old)) }
+    // What is known of the sound stays.
+    ensures stated { p.new.stated ≡ p.old.stated }
     ensures taps { p.new.taps ≡ p.old.taps }
 {
     let sound = sound_with_head(p)?;
@@ -43,6 +44,7 @@ pub(crate) fn seek(alloc: Global, p: &mut Pushing, frame: u64) -> Result<u64, Pl
 fn sound_with_head(p: &Pushing) -> Result<Sound, PlayFault>
     requires { IsPushing p.now }
     ensures header { IfOk result (IsPushedHeader p.now.header.items) }
+    ensures known { IfOk result (λ sound. p.now.stated ≡ Some sound) }
     ensures begins { (file : List ℕ) (start : ℕ) (pulled : List ℕ) → PlaysPushedFile file start pulled p.now
         → IfOk result (λ _. BeginsWith file p.now.header.items) }
     ensures refused { IfErr result (λ fault. (frame : ℕ) → RefusesSeek p.now frame fault) }
@@ -62,7 +64,7 @@ pub(crate) fn seek_in(
     sound: Sound,
     frame: usize,
 ) -> Result<u64, PlayFault>
-    requires stated { IfSome p.old.stated IsSound }
+    requires known { p.old.stated ≡ Some sound }
     requires header { IsPushedHeader p.old.header.items sound }
     requires frame { frame ≤ total_frames p.old.taps sound }
     ensures keeps { IsPushing p.new }
@@ -74,6 +76,7 @@ pub(crate) fn seek_in(
     ensures place { IfOk result (λ place. p.new.place ≡ place) }
     ensures within { IfOk result (λ place. (sound.start ≤ place) × (place ≤ sound.start + sound.size)) }
     ensures first { frame ≡ 0 → IfOk result (λ place. place ≡ sound.start) }
+    ensures stated { p.new.stated ≡ p.old.stated }
     ensures taps { p.new.taps ≡ p.old.taps }
 {
     p.stage = Stage::Failed;

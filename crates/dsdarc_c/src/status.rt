@@ -1,6 +1,6 @@
 //! The statuses of the calls, as C knows them.
 
-ghost use Rattle.std.specs.Prelude.{◌≡◌};
+ghost use Rattle.std.specs.Prelude.{◌≡◌, MatchResult};
 ghost use Rattle.dsdarc_c.specs.Making.{status_of_project};
 ghost use Rattle.dsdarc_c.specs.Statuses.{status_of};
 
@@ -71,6 +71,30 @@ pub(crate) fn status_of(fault: PlayFault) -> u32
         PlayFault::NotYet => NOT_YET,
         PlayFault::PastEnd => PAST_END,
         PlayFault::Memory => MEMORY,
+    }
+}
+
+/// The status of a call that gives nothing but its outcome.
+pub(crate) fn status_of_outcome(outcome: Result<(), PlayFault>) -> u32
+    ensures { MatchResult outcome (λ _. result ≡ 0) (λ fault. result ≡ status_of fault) }
+{
+    match outcome {
+        Ok(()) => done(),
+        Err(fault) => status_of(fault),
+    }
+}
+
+/// The status of a call that gives a value, which goes to a place of the caller; after a fault the place is as it was.
+pub(crate) fn status_with<T: Copy>(outcome: Result<T, PlayFault>, to: &mut T) -> u32
+    ensures { MatchResult outcome (λ value. (result ≡ 0) × (to.new ≡ value))
+        (λ fault. (result ≡ status_of fault) × (to.new ≡ to.old)) }
+{
+    match outcome {
+        Ok(value) => {
+            *to = value;
+            done()
+        }
+        Err(fault) => status_of(fault),
     }
 }
 

@@ -1,8 +1,7 @@
 //! Takes bytes of the file: before its sound, in it and after it.
 
-ghost use Rattle.std.specs.Prelude.{◌≡◌, ◌≢◌, ◌+◌, ◌<◌, ◌≤◌, ◌^◌, ◌++◌, [], Err, Ok, List, ℕ, IfErr, IfOk, IfSome, length};
-ghost use Rattle.dsd_bits.specs.Sounds.{IsSound};
-ghost use Rattle.dsdarc_c.specs.Pushing.{IsAfterSound, IsHeaderSoFar, IsPushing};
+ghost use Rattle.std.specs.Prelude.{◌≡◌, ◌≢◌, ◌+◌, ◌<◌, ◌≤◌, ◌^◌, ◌++◌, [], Err, None, Ok, Some, List, ℕ, IfErr, IfOk, IfSome, length};
+ghost use Rattle.dsdarc_c.specs.Pushing.{IsAfterSound, IsHeaderSoFar, IsPushedHeader, IsPushing};
 ghost use Rattle.dsdarc_c.specs.Taking.{RefusesAfter, RefusesHeader, RefusesPush, Takes, TakesAfter, TakesHeader};
 ghost use Rattle.dsdarc_c.specs.Whole.{AreAllFrames, BeginsWith, HasAt, KeepsForm, PlaysPushedFile, waiting};
 
@@ -52,6 +51,9 @@ pub(crate) fn push(alloc: Global, p: &mut Pushing, bytes: &[u8]) -> Result<usize
     ensures failed { IfErr result (λ _. p.new.stage ≡ Stage.Failed) }
     ensures after_fault { length p.old.pending.items ≤ p.old.pulled → p.old.stage ≡ Stage.Failed
         → (p.new ≡ p.old) × (result ≡ Err PlayFault.AfterFault) }
+    // A sound that is known stays known, and a refusal makes none known.
+    ensures known { IfSome p.old.stated (λ sound. p.new.stated ≡ Some sound) }
+    ensures as_before { IfErr result (λ _. p.new.stated ≡ p.old.stated) }
     ensures taps { p.new.taps ≡ p.old.taps }
 {
     if p.pulled < p.pending.len() {
@@ -86,7 +88,7 @@ fn push_header(
     piece: &[u8],
 ) -> Result<usize, PlayFault>
     requires pulled { p.old.pulled ≤ length p.old.pending.items }
-    requires stated { IfSome p.old.stated IsSound }
+    requires unknown { p.old.stated ≡ None }
     requires failed { p.old.stage ≡ Stage.Failed }
     requires header { IsHeaderSoFar p.old.header.items p.old.place walked }
     requires few { length piece.now ≤ 65536 }
@@ -97,6 +99,7 @@ fn push_header(
     ensures refused { IfErr result (RefusesHeader p.old.taps (p.old.header.items ++ piece.now)) }
     ensures goes_on { IfOk result (λ _. p.new.stage ≢ Stage.Failed) }
     ensures failed { IfErr result (λ _. p.new.stage ≡ Stage.Failed) }
+    ensures unknown { IfErr result (λ _. p.new.stated ≡ None) }
     ensures plays { (file : List ℕ) → BeginsWith file p.old.header.items → waiting p.old ≡ []
         → HasAt file p.old.place piece.now → PlaysPushedFile file 0 [] p.new }
     ensures place { IfOk result (λ n. p.new.place ≡ p.old.place + n) }
@@ -128,9 +131,31 @@ fn push_header(
                 return Err(PlayFault::TooLong);
             }
             p.header.truncate(sound.start);
-            p.stated = Some(sound);
-            seek_in(alloc, p, sound, 0)?;
+            start_sound(alloc, p, sound)?;
             Ok(sound.start - before)
+        }
+    }
+}
+
+// Goes to the first frame of the sound that the header states. If memory runs out, the sound isn't known.
+fn start_sound(alloc: Global, p: &mut Pushing, sound: Sound) -> Result<(), PlayFault>
+    requires header { IsPushedHeader p.old.header.items sound }
+    ensures keeps { IsPushing p.new }
+    ensures plays { (file : List ℕ) → BeginsWith file p.old.header.items
+        → IfOk result (λ _. PlaysPushedFile file 0 [] p.new) }
+    ensures place { IfOk result (λ _. p.new.place ≡ sound.start) }
+    ensures goes_on { IfOk result (λ _. p.new.stage ≢ Stage.Failed) }
+    ensures failed { IfErr result (λ _. (p.new.stage ≡ Stage.Failed) × (waiting p.new ≡ [])) }
+    ensures memory { IfErr result (λ fault. fault ≡ PlayFault.Memory) }
+    ensures unknown { IfErr result (λ _. p.new.stated ≡ None) }
+    ensures taps { p.new.taps ≡ p.old.taps }
+{
+    p.stated = Some(sound);
+    match seek_in(alloc, p, sound, 0) {
+        Ok(_) => Ok(()),
+        Err(fault) => {
+            p.stated = None;
+            Err(fault)
         }
     }
 }
@@ -143,7 +168,7 @@ fn push_after(
     piece: &[u8],
 ) -> Result<usize, PlayFault>
     requires pulled { p.old.pulled ≤ length p.old.pending.items }
-    requires stated { IfSome p.old.stated IsSound }
+    requires known { p.old.stated ≡ Some sound }
     requires failed { p.old.stage ≡ Stage.Failed }
     requires after { IsAfterSound p.old.header.items p.old.place sound back.items }
     requires low { p.old.place ≤ 2 ^ 62 }
@@ -158,6 +183,7 @@ fn push_after(
     ensures goes_on { IfOk result (λ _. p.new.stage ≢ Stage.Failed) }
     ensures failed { IfErr result (λ _. p.new.stage ≡ Stage.Failed) }
     ensures place { IfOk result (λ n. p.new.place ≡ p.old.place + n) }
+    ensures stated { p.new.stated ≡ p.old.stated }
     ensures taps { p.new.taps ≡ p.old.taps }
 {
     let mut back = back;

@@ -1,10 +1,10 @@
 //! Takes bytes within the sound: they are played, from whichever frame on.
 
-ghost use Rattle.std.specs.Prelude.{◌≡◌, ◌≢◌, ◌+◌, ◌-◌, ◌%◌, ◌≤◌, [], List, ℕ, IfErr, IfOk, IfSome, length, min};
+ghost use Rattle.std.specs.Prelude.{◌≡◌, ◌≢◌, ◌+◌, ◌-◌, ◌%◌, ◌≤◌, [], List, ℕ, IfErr, IfOk, Option, Some, length, min};
 ghost use Rattle.dsd_bits.specs.Sounds.{IsSound};
 ghost use Rattle.fir_core.specs.Decimator.{Decimator};
 ghost use Rattle.player_core.specs.Laws.{total_frames};
-ghost use Rattle.dsdarc_c.specs.Pushing.{IsAtStage, IsPausedOrDone, IsPushedHeader, IsPushing, IsRest, IsWithinSound};
+ghost use Rattle.dsdarc_c.specs.Pushing.{IsAtStage, IsPausedOrDone, IsPushedHeader, IsPushing, IsRest, IsWithinSound, KeepsSound};
 ghost use Rattle.dsdarc_c.specs.Whole.{BeginsWith, HasAt, PlaysPushedFile, PlaysRestOf, PlaysSoundOf, PlaysStageOf, waiting};
 
 use crate::fault::PlayFault;
@@ -58,7 +58,7 @@ pub(crate) fn push_sound(
     rest: Rest,
     piece: &[u8],
 ) -> Result<usize, PlayFault>
-    requires stated { IfSome p.old.stated IsSound }
+    requires known { p.old.stated ≡ Some rest.sound }
     requires failed { p.old.stage ≡ Stage.Failed }
     requires sound { IsWithinSound p.old.taps p.old.header.items p.old.place rest.sound rest.paused rest.left }
     requires few { length piece.now ≤ 65536 }
@@ -71,6 +71,7 @@ pub(crate) fn push_sound(
     ensures goes_on { IfOk result (λ _. p.new.stage ≢ Stage.Failed) }
     ensures failed { IfErr result (λ _. (p.new.stage ≡ Stage.Failed) × (waiting p.new ≡ [])) }
     ensures memory { IfErr result (λ fault. fault ≡ PlayFault.Memory) }
+    ensures stated { p.new.stated ≡ p.old.stated }
     ensures taps { p.new.taps ≡ p.old.taps }
 {
     let Rest {
@@ -103,6 +104,7 @@ fn next_stage(alloc: Global, sound: Sound, played: Option<PausedPart>, left: usi
         → PlaysRestOf d file start out header place sound played left
         → PlaysStageOf d file start out header place result }
     ensures goes_on { result ≢ Stage.Failed }
+    ensures known { (kept : Option Sound) → kept ≡ Some sound → KeepsSound result kept }
 {
     match played {
         Some(paused) => Stage::Sound(sound, paused, left),

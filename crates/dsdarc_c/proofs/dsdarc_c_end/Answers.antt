@@ -1,8 +1,8 @@
-use Rattle.std.proofs.Common.{◌≡◌, inr, subst}
-use Rattle.dsdarc_c.specs.Ending.{RefusesEnd}
+use Rattle.std.proofs.Common.{subst}
+use Rattle.dsdarc_c.specs.Ending.{AcceptsEnd, RefusesEnd}
+use Rattle.dsdarc_c.specs.Statuses.{StatusMeans}
+use Rattle.dsdarc_c.proofs.StatusLaws.{means_less}
 use Rattle.dsdarc_c.proofs.dsdarc_c_end.Goals as goal
 
-pub returns-in-Err : goal.returns-in-Err
-returns-in-Err c =
-    let same : c.behind-player.inside.pushing ≡ c.args.handle.value = cc (c.behind-player.view_is, c.deref_mut.ensures.value, c.into_box-player.ensures) in
-    inr (c.in-Err.fault, c.status_of.ensures, subst (λ p. RefusesEnd p c.in-Err.fault) same c.in-Err.ensures.refused)
+pub returns : goal.returns
+returns c = subst (λ p. StatusMeans (AcceptsEnd p) (RefusesEnd p) c.end.result) c.player_of-player.ensures (means_less c.end.result (λ done. done.accepts) (λ fault refused. refused.why) c.end.ensures)

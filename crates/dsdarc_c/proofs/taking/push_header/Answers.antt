@@ -6,29 +6,32 @@ use Rattle.sound_core.proofs.ClosingLaws.{ends_at}
 use Rattle.dsdarc_c.specs.Pushing.{IsUnstated}
 use Rattle.dsdarc_c.specs.Whole.{BeginsWith}
 use Rattle.dsdarc_c.proofs.HeaderLaws.{none_begins, some_taken}
+use Rattle.dsdarc_c.proofs.KeepLaws.{none_kept}
 use Rattle.dsdarc_c.proofs.WholeLaws.{begins_fewer, begins_more}
 use Rattle.dsdarc_c.proofs.taking.push_header.Goals as goal
 
-pub seek_in-requires-clause-header : goal.seek_in-requires-clause-header
-seek_in-requires-clause-header c =
+pub start_sound-requires : goal.start_sound-requires
+start_sound-requires c =
     let s = c.in-Found.sound in
     let states = rw c.in-Found.is at c.in_ok-at.ensures.found in
     let items : take s.start c.as_slice.result.now ≡ c.truncate.new.self.items = ap (λ (xs : List ℕ). take s.start xs) c.as_slice.ensures.value ∙ sym c.truncate.ensures.items in
     record {
-      ends = subst (λ xs. IsHeaderOf xs s) items (ends_at c.as_slice.result.now s states);
-      is_sound = states.is_sound;
-      whole = states.whole;
-      start_low = c.if-sound-gt-MOST_HELD.false;
-      size_low = c.if-sound-gt-MOST_HALF.false;
+      header = record {
+        ends = subst (λ xs. IsHeaderOf xs s) items (ends_at c.as_slice.result.now s states);
+        is_sound = states.is_sound;
+        whole = states.whole;
+        start_low = c.if-sound-gt-MOST_HELD.false;
+        size_low = c.if-sound-gt-MOST_HALF.false;
+      };
     }
 
-pub returns-in_ok-seek_in-in-Found-clause-plays : goal.returns-in_ok-seek_in-in-Found-clause-plays
-returns-in_ok-seek_in-in-Found-clause-plays c file begins waits at =
+pub returns-in_ok-start_sound-in-Found-clause-plays : goal.returns-in_ok-start_sound-in-Found-clause-plays
+returns-in_ok-start_sound-in-Found-clause-plays c file begins waits at =
     let p = c.args.p.now in
     let s = c.in-Found.sound in
     let all = begins_more file p.header.items c.args.piece.now p.place c.requires.header.place_is begins at in
     let items = ap (λ (xs : List ℕ). take s.start xs) (sym c.in_ok-extend_from_slice.ensures.items) ∙ sym c.truncate.ensures.items in
-    c.in_ok-seek_in-in-Found.ensures.plays file (subst (BeginsWith file) items (begins_fewer file _ s.start all))
+    c.in_ok-start_sound-in-Found.ensures.plays file (subst (BeginsWith file) items (begins_fewer file _ s.start all))
 
 -- the header with more bytes
 pub returns-else-len-gt-MOST_HELD-clause-keeps : goal.returns-else-len-gt-MOST_HELD-clause-keeps
@@ -36,7 +39,8 @@ returns-else-len-gt-MOST_HELD-clause-keeps c =
     let states = rw c.in-More.is at c.in_ok-at.ensures.more in
     record {
       pulled = c.requires.pulled;
-      stated = c.requires.stated;
+      stated = none_kept c.args.p.now.stated _ c.requires.unknown;
+      known = c.requires.unknown;
       stage = record {
         place_is = omega (arith, c.requires.header.place_is, ap length c.in_ok-extend_from_slice.ensures.items, length-append c.args.p.now.header.items c.args.piece.now);
         few = omega (arith, c.requires.header.place_is, ap length c.in_ok-extend_from_slice.ensures.items, length-append c.args.p.now.header.items c.args.piece.now, c.if-len-gt-MOST_HELD.false, c.len.ensures);
@@ -63,8 +67,8 @@ returns-in-Refused-clause-refused c =
     let refused = rw c.in-Refused.is at c.in_ok-at.ensures.refused in
     subst (λ (xs : List ℕ). (rest : List ℕ) → IsRefused (xs ++ rest)) (c.as_slice.ensures.value ∙ c.in_ok-extend_from_slice.ensures.items) refused
 
-pub returns-in_ok-seek_in-in-Found-clause-takes : goal.returns-in_ok-seek_in-in-Found-clause-takes
-returns-in_ok-seek_in-in-Found-clause-takes c =
+pub returns-in_ok-start_sound-in-Found-clause-takes : goal.returns-in_ok-start_sound-in-Found-clause-takes
+returns-in_ok-start_sound-in-Found-clause-takes c =
     let s = c.in-Found.sound in
     let header = c.args.p.now.header.items in
     let states = subst (λ xs. LeadsToSound xs s) (c.as_slice.ensures.value ∙ c.in_ok-extend_from_slice.ensures.items) (rw c.in-Found.is at c.in_ok-at.ensures.found) in
@@ -79,8 +83,8 @@ returns-in_ok-seek_in-in-Found-clause-takes c =
       },
     )
 
-pub returns-in_ok-seek_in-in-Found-clause-some : goal.returns-in_ok-seek_in-in-Found-clause-some
-returns-in_ok-seek_in-in-Found-clause-some c more =
+pub returns-in_ok-start_sound-in-Found-clause-some : goal.returns-in_ok-start_sound-in-Found-clause-some
+returns-in_ok-start_sound-in-Found-clause-some c more =
     let s = c.in-Found.sound in
     let header = c.args.p.now.header.items in
     let states = subst (λ xs. LeadsToSound xs s) (c.as_slice.ensures.value ∙ c.in_ok-extend_from_slice.ensures.items) (rw c.in-Found.is at c.in_ok-at.ensures.found) in

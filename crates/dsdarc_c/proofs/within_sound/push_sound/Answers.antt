@@ -1,6 +1,6 @@
 use Rattle.std.proofs.Common.{◌≡◌, ◌≤◌, ◌∙◌, ◌++◌, ap, append-nil, arith, length, refl, slice_range, subst, sym, ◌+◌}
 use Rattle.player_core.specs.PartView.{part_start}
-use Rattle.dsdarc_c.proofs.KeepLaws.{played_on}
+use Rattle.dsdarc_c.proofs.KeepLaws.{header_kept, played_on}
 use Rattle.dsdarc_c.specs.Whole.{HasAt, IsPrefixOfFrames, PlaysStageOf}
 use Rattle.dsdarc_c.proofs.WholeLaws.{fewer_at, plays_on_of, prefix_in}
 use Rattle.dsdarc_c.proofs.within_sound.push_sound.Goals as goal
@@ -14,7 +14,8 @@ returns-in-Ok-clause-keeps c =
     let on = c.in-Ok.ensures c.args.rest.sound l.start l.before l.given l.player l.played l.long in
     record {
       pulled = omega arith;
-      stated = c.requires.stated;
+      stated = header_kept c.args.p.now.stated c.args.rest.sound c.args.p.now.header.items c.requires.known k.header;
+      known = c.next_stage.ensures.known _ c.requires.known;
       stage = c.next_stage.ensures.keeps c.args.p.now.taps c.args.p.now.header.items _ k.header (played_on _ _ l.start l.before bytes l.given _ _ l.player c.in-Ok.played c.args.rest.left on l.long few) (omega (arith, k.place_is, few));
     }
 

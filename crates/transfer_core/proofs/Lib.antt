@@ -2,3 +2,6 @@ pub mod ReadingLaws
 pub mod StreamLaws
 pub mod ConversionLaws
 pub mod SpanLaws
+pub mod UnreadLaws
+pub mod OtherSounds
+pub mod UnreadFiles

@@ -5,3 +5,4 @@ pub mod Laws
 pub mod Playing
 pub mod Spans
 pub mod Streaming
+pub mod Unread

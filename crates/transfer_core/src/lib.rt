@@ -8,6 +8,8 @@
 //!   recording (`specs/Converting.antt`). `Plays project file bytes` says that these bytes are the WAVE text of the
 //!   samples of the file's recording (`specs/Playing.antt`). `specs/Conversions.antt` and `specs/Streaming.antt` say
 //!   the same of a reader and a writer, and `specs/Ends.antt` of the inlet and the outlet of a call.
+//! - `IsUnreadBy decimator sound range place` says that a byte of the sound holds no bit that a frame of the range reads,
+//!   and `AreSameBut P file other` that two files are the same but for bytes at such places (`specs/Unread.antt`).
 //! - `converted_of` and `played_of` are the readings in the order of the refusals. Each ends with an answer or the first
 //!   fault.
 //!
@@ -22,11 +24,13 @@
 
 mod converting;
 mod frames;
+mod laws;
 mod playing;
 mod spans;
 
 pub use converting::{Converted, convert, convert_stream};
 pub use frames::PlayedFrames;
+pub use laws::{sound_does_not_matter, unread_bytes_do_not_matter};
 pub use player_core::FrameRange;
 pub use playing::{play, play_stream, whole_plays};
 pub use request_core::{Fault, SpanFault, splice_of, take_names};

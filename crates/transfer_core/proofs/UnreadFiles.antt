@@ -1,22 +1,17 @@
 -- What is played of two files that differ only in bytes which no frame reads.
-use Rattle.std.proofs.Common.{◌≡◌, ℕ, ◌+◌, ◌%◌, ◌/◌, ◌<◌, ◌≤◌, inl, inr, List, ◌++◌, length, drop, get_or, slice_index, Option, None, Some, Result, Ok, refl, sym, ap, subst, ◌∙◌, arith, length-take-le}
+use Rattle.std.proofs.Common.{◌≡◌, ℕ, ◌+◌, ◌%◌, ◌/◌, ◌<◌, ◌≤◌, inl, inr, List, ◌++◌, length, drop, slice_index, Result, Ok, refl, sym, ap, subst, ◌∙◌, arith}
 use Rattle.std.proofs.lemmas.Bool.{cases_lt}
 use Rattle.std.proofs.lemmas.List.{get_or-drop, get_or-take, get_or_past}
 use Rattle.dsd_bits.specs.declared.sound.Sound.{Sound}
 use Rattle.dsd_bits.specs.Sounds.{sound_bytes}
-use Rattle.fir_core.specs.Decimator.{Decimator, IsWithinLimits}
+use Rattle.fir_core.specs.Decimator.{Decimator}
 use Rattle.player_core.specs.Groups.{place_in}
-use Rattle.player_core.specs.Ranges.{HasFrame}
 use Rattle.player_core.specs.declared.range.FrameRange.{FrameRange}
-use Rattle.toml.specs.Data.{Data}
-use Rattle.project_core.specs.Meaning.{IsDecimate, SaysOptional}
 use Rattle.request_core.proofs.ProjectLaws.{says_decimator}
 use Rattle.request_core.specs.Projects.{SaysDecimator}
 use Rattle.request_core.specs.declared.fault.Fault.{Fault}
-use Rattle.sound_core.specs.Files.{LeadsToSound}
 use Rattle.wave_core.specs.Texts.{wave_text}
-use Rattle.transfer_core.specs.Streaming.{PlaysRange}
-use Rattle.transfer_core.specs.Unread.{AreSameBut, IsOfSound, IsUnreadBy, ReadsBit, SoundDoesNotMatter, UnreadDoNotMatter}
+use Rattle.transfer_core.specs.Unread.{AreSameBut, IsOfSound, IsUnreadBy, SoundDoesNotMatter, UnreadDoNotMatter}
 use Rattle.transfer_core.proofs.OtherSounds.{around_other, as_recording, first_fault, other_holds, recording_as}
 use Rattle.transfer_core.proofs.UnreadLaws.{inside_same, pcm_same, sound_long}
 
@@ -25,14 +20,6 @@ said d = Ok d
 
 pub one_decimator : (project : List ℕ) (d e : Decimator) → SaysDecimator project d → SaysDecimator project e → d ≡ e
 one_decimator project d e one other = let same : said d ≡ said e = sym (says_decimator project d one) ∙ says_decimator project e other in cc
-
--- a decimator that a project says is within the limits
-pub says_within : (project : List ℕ) (d : Decimator) → SaysDecimator project d → IsWithinLimits d
-says_within project d is = by _ (subst (SaysOptional IsDecimate _) is.has is.says.2.decimate)
-  where
-    by : (member : Option Data) → SaysOptional IsDecimate member (Some d) → IsWithinLimits d
-    by None h = absurd h
-    by (Some table) h = h.2.limits
 
 -- bytes that lie outside the sound are the same
 pub only_sound : (d : Decimator) (s : Sound) (range : FrameRange) (file other : List ℕ) → AreSameBut (IsUnreadBy d s range) file other → AreSameBut (IsOfSound s) file other

@@ -1,5 +1,5 @@
 -- Samples that don't change where bytes change whose bits they don't read.
-use Rattle.std.proofs.Common.{◌≡◌, ℕ, ◌+◌, ◌-◌, ◌*◌, ◌/◌, ◌%◌, ◌<◌, ◌≤◌, ℤ, pos, ◌-ℤ◌, ◌*ℤ◌, inl, inr, Bool, List, length, map, drop, take, get_or, slice_index, slice_range, Option, None, Some, IfSome, eqb, refl, sym, ap, ap₂, subst, ◌∙◌, arith, length-drop, length-take-le}
+use Rattle.std.proofs.Common.{◌≡◌, ℕ, ◌+◌, ◌-◌, ◌*◌, ◌/◌, ◌%◌, ◌<◌, ◌≤◌, pos, ◌-ℤ◌, ◌*ℤ◌, inl, inr, Bool, List, length, map, drop, get_or, slice_index, slice_range, Option, None, Some, IfSome, eqb, refl, sym, ap, subst, ◌∙◌, arith, length-drop, length-take-le}
 use Rattle.std.specs.Prelude.{unwrap_or}
 use Rattle.std.specs.List.{flat_map, range_with_len}
 use Rattle.std.specs.Int.{bit_at, div_ceil}
@@ -23,7 +23,6 @@ use Rattle.fir_core.proofs.Sums.{signal_after, signal_before, signal_inside, ter
 use Rattle.player_core.specs.Due.{bytes_known, channel_bytes, channel_whole}
 use Rattle.player_core.specs.Frames.{frame, frame_count, frames}
 use Rattle.player_core.specs.Groups.{channel_byte, in_order, place_in}
-use Rattle.player_core.specs.Laws.{total_frames}
 use Rattle.player_core.specs.Playing.{part_pcm, range_pcm}
 use Rattle.player_core.specs.Ranges.{HasFrame, IsInside, stop_of}
 use Rattle.player_core.specs.declared.range.FrameRange.{FrameRange}

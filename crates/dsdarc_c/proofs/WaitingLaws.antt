@@ -1,8 +1,7 @@
 -- Bytes of whole frames, and those that wait.
-use Rattle.std.proofs.Common.{◌≡◌, ℕ, ◌+◌, ◌-◌, ◌*◌, ◌/◌, ◌<◌, ◌≤◌, min, inl, inr, List, [], ◌++◌, length, take, drop, slice_range, Option, None, Some, Result, Ok, Err, IfErr, MatchResult, ◌⊎◌, refl, sym, subst, ap, ap₂, ◌∙◌, arith, length-append, length-drop, length-take, zero-mul}
+use Rattle.std.proofs.Common.{◌≡◌, ℕ, ◌+◌, ◌-◌, ◌*◌, ◌/◌, ◌≤◌, min, inl, inr, List, [], ◌++◌, length, drop, slice_range, Option, None, Some, refl, sym, subst, ap, ap₂, ◌∙◌, arith, length-append, length-drop, length-take, zero-mul}
 use Rattle.std.proofs.Math.Nat.{mul-div_cancel, mul-le-mul_right, mul_assoc}
 use Rattle.std.proofs.lemmas.Bool.{cases_lt}
-use Rattle.std.proofs.lemmas.List.{drop_all}
 use Rattle.dsd_bits.specs.declared.sound.Sound.{Sound}
 use Rattle.fir_core.specs.Decimator.{Decimator}
 use Rattle.wave_core.specs.Sizes.{block_align}

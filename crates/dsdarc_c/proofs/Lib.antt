@@ -2,6 +2,7 @@ pub mod HandleSteps
 pub mod PlayLaws
 pub mod KeepLaws
 pub mod WholeLaws
+pub mod WaitingLaws
 pub mod HeaderLaws
 pub mod TakingLaws
 pub mod EndingLaws

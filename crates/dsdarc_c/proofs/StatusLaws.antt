@@ -6,7 +6,7 @@ use Rattle.dsdarc_c.specs.Ending.{AcceptsEnd, RefusesEnd}
 use Rattle.dsdarc_c.specs.Seeking.{GoesTo, RefusesSeek}
 use Rattle.dsdarc_c.specs.Statuses.{StatusMeans, status_of}
 use Rattle.dsdarc_c.specs.Taking.{RefusesPush, Takes}
-use Rattle.dsdarc_c.specs.Whole.{EndsFile, PlaysPushedFile}
+use Rattle.dsdarc_c.specs.Whole.{EndsFile, PlaysPushedFile, WaitsWhole}
 use Rattle.dsdarc_c.specs.declared.fault.PlayFault.{PlayFault}
 use Rattle.dsdarc_c.specs.declared.fault.PlayFault.TheVariants as faults
 use Rattle.dsdarc_c.specs.declared.pushing.Pushing.{Pushing}
@@ -32,9 +32,9 @@ means_with Done Refused status old new (Err fault) is refused = inr (fault, is.0
 pub push_outcome : (p new : Pushing) (bytes : List ℕ) (r : Result ℕ PlayFault) → IfOk r (Takes p bytes) → IfOk r (λ n. new.place ≡ p.place + n) → (p.pulled < length p.pending.items → (new ≡ p) × (r ≡ Ok 0))
     → (length p.pending.items ≤ p.pulled → IfOk r (λ n. new.stage ≢ stages.Failed)) → IfSome p.stated (λ s. new.stated ≡ Some s) → GoesOnWith p new bytes → new.taps ≡ p.taps
     → IfErr r (RefusesPush p bytes) → IfErr r (λ fault. new.stage ≡ stages.Failed) → (length p.pending.items ≤ p.pulled → p.stage ≡ stages.Failed → (new ≡ p) × (r ≡ Err faults.AfterFault)) → IfErr r (λ fault. new.stated ≡ p.stated)
-    → MatchResult r (Pushed p new bytes) (PushRefused p new bytes)
-push_outcome p new bytes (Ok n) takes place waits goes_on known plays taps why failed after as_before = record { takes = takes; place = place; waits = λ some. (waits some).0; goes_on = goes_on; known = known; plays = plays; taps = taps }
-push_outcome p new bytes (Err fault) takes place waits goes_on known plays taps why failed after as_before = record {
+    → (WaitsWhole p → WaitsWhole new) → MatchResult r (Pushed p new bytes) (PushRefused p new bytes)
+push_outcome p new bytes (Ok n) takes place waits goes_on known plays taps why failed after as_before whole = record { takes = takes; place = place; waits = λ some. (waits some).0; goes_on = goes_on; known = known; plays = plays; whole = whole; taps = taps }
+push_outcome p new bytes (Err fault) takes place waits goes_on known plays taps why failed after as_before whole = record {
   why = why;
   failed = failed;
   after_fault = λ before. elim (cases_lt p.pulled (length p.pending.items)) [
@@ -43,6 +43,7 @@ push_outcome p new bytes (Err fault) takes place waits goes_on known plays taps 
   ];
   known = as_before;
   plays = plays;
+  whole = whole;
   taps = taps;
 }
 
@@ -54,6 +55,7 @@ end_outcome p new (Err fault) accepts same all why plays = record { why = why; s
 
 pub seek_outcome : (p new : Pushing) (frame : ℕ) (r : Result ℕ PlayFault) → IfOk r (GoesTo p frame) → IfOk r (λ offset. new.place ≡ offset) → IfOk r (λ offset. new.stage ≢ stages.Failed) → new.stated ≡ p.stated
     → ((file : List ℕ) (start : ℕ) (pulled : List ℕ) → PlaysPushedFile file start pulled p → MatchResult r (λ offset. PlaysPushedFile file frame [] new) (λ fault. PlaysPushedFile file start pulled new)) → new.taps ≡ p.taps
-    → IfErr r (RefusesSeek p frame) → IfErr r (λ fault. (fault ≡ faults.Memory) ⊎ (new ≡ p)) → MatchResult r (Sought p new frame) (SeekRefused p new frame)
-seek_outcome p new frame (Ok offset) goes place goes_on known plays taps why same = record { goes = goes; place = place; goes_on = goes_on; known = known; plays = plays; taps = taps }
-seek_outcome p new frame (Err fault) goes place goes_on known plays taps why same = record { why = why; same = same; known = known; plays = plays; taps = taps }
+    → IfErr r (RefusesSeek p frame) → IfErr r (λ fault. (fault ≡ faults.Memory) ⊎ (new ≡ p)) → IfOk r (λ offset. WaitsWhole new) → (WaitsWhole p → WaitsWhole new)
+    → MatchResult r (Sought p new frame) (SeekRefused p new frame)
+seek_outcome p new frame (Ok offset) goes place goes_on known plays taps why same anew whole = record { goes = goes; place = place; goes_on = goes_on; known = known; plays = plays; whole = anew; taps = taps }
+seek_outcome p new frame (Err fault) goes place goes_on known plays taps why same anew whole = record { why = why; same = same; known = known; plays = plays; whole = whole; taps = taps }

@@ -1,5 +1,5 @@
 -- A player whose file is pushed piece by piece.
-use Rattle.std.specs.Prelude.{◌≡◌, ℕ, ◌+◌, ◌%◌, ◌^◌, ◌≤◌, List, length, Option, None, Some, IfSome, ⊤}
+use Rattle.std.specs.Prelude.{◌≡◌, ℕ, ◌+◌, ◌*◌, ◌%◌, ◌^◌, ◌≤◌, List, length, Option, None, Some, IfSome, ⊤}
 use Rattle.dsd_bits.specs.declared.interleaving.Interleaving.TheVariants.{Bytes}
 use Rattle.dsd_bits.specs.declared.sound.Sound.{Sound}
 use Rattle.dsd_bits.specs.Sounds.{IsSound}
@@ -8,6 +8,7 @@ use Rattle.fir_core.specs.Decimator.{Decimator}
 use Rattle.player_core.specs.PartView.{part_rest}
 use Rattle.player_core.specs.declared.parts.PartPlayer.{PartPlayer}
 use Rattle.player_core.specs.declared.pausing.PausedPart.{PausedPart}
+use Rattle.wave_core.specs.Sizes.{block_align}
 use Rattle.sound_core.specs.Files.{IsBeforeSound, IsHeaderOf, IsRefused, LeadsToSound}
 use Rattle.dsdarc_c.specs.Playing.{HasPlayed}
 use Rattle.dsdarc_c.specs.declared.pushing.Pushing.{Pushing}
@@ -88,9 +89,16 @@ KeepsSound (stages.Sound s q left) kept = kept ≡ Some s
 KeepsSound (stages.After s back) kept = kept ≡ Some s
 KeepsSound stages.Failed kept = ⊤
 
--- what holds of every player whose file is pushed; the sound that is kept as stated is always one that the header states
+-- n bytes are those of whole frames of this sound; before a sound is stated there are none
+abbrev pub AreWholeFrames : Decimator → Option Sound → ℕ → Type 0
+AreWholeFrames d None n = n ≡ 0
+AreWholeFrames d (Some s) n = (frames : ℕ) × (n ≡ frames * block_align s.channels d.width)
+
+-- what holds of every player whose file is pushed; the sound that is kept as stated is always one that the header
+-- states, and what is made of it is whole frames
 pub record IsPushing (p : Pushing) : Type 0 where
   pub pulled : p.pulled ≤ length p.pending.items
   pub stated : IfSome p.stated (IsPushedHeader p.header.items)
   pub known : KeepsSound p.stage p.stated
   pub stage : IsAtStage p.taps p.header.items p.place p.stage
+  pub whole : AreWholeFrames p.taps p.stated (length p.pending.items)

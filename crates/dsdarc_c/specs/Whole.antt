@@ -12,7 +12,7 @@ use Rattle.player_core.specs.PartView.{part_rest, part_start}
 use Rattle.player_core.specs.declared.parts.PartPlayer.{PartPlayer}
 use Rattle.player_core.specs.declared.pausing.PausedPart.{PausedPart}
 use Rattle.dsdarc_c.specs.Playing.{HasPlayed}
-use Rattle.dsdarc_c.specs.Pushing.{IsPushedHeader}
+use Rattle.dsdarc_c.specs.Pushing.{AreWholeFrames, IsPushedHeader}
 use Rattle.dsdarc_c.specs.declared.pushing.Pushing.{Pushing}
 use Rattle.dsdarc_c.specs.declared.pushing.Stage.{Stage}
 use Rattle.dsdarc_c.specs.declared.pushing.Stage.TheVariants as stages
@@ -101,6 +101,10 @@ PlaysStageOf d file start out header place stages.Failed = IsPrefixOfFrames d fi
 -- the bytes of frames that can be pulled
 abbrev pub waiting : Pushing → List ℕ
 waiting p = drop p.pulled p.pending.items
+
+-- what waits are the bytes of whole frames
+abbrev pub WaitsWhole : Pushing → Type 0
+WaitsWhole p = AreWholeFrames p.taps p.stated (length (waiting p))
 
 -- the player was pushed the bytes of this file, and these bytes of its frames were pulled since this frame was sought,
 -- or since the file's first byte

@@ -10,12 +10,13 @@
 ghost use Rattle.std.specs.Prelude.{◌≡◌, ◌≢◌, ◌/◌, drop, length, min, take};
 ghost use Rattle.dsdarc_c.specs.Ending.{AcceptsEnd, RefusesEnd};
 ghost use Rattle.dsdarc_c.specs.Making.{IsStatusOfProject};
-ghost use Rattle.dsdarc_c.specs.Numbers.{AreSamplesIn, first_samples};
+ghost use Rattle.dsdarc_c.specs.Numbers.{AreSamplesIn, AreWholeSamples, first_samples};
+ghost use Rattle.dsdarc_c.specs.Pushing.{AreWholeFrames};
 ghost use Rattle.dsdarc_c.specs.Reporting.{RefusesInfo, ReportsSound};
 ghost use Rattle.dsdarc_c.specs.Seeking.{GoesTo, RefusesSeek};
 ghost use Rattle.dsdarc_c.specs.Statuses.{StatusMeans};
 ghost use Rattle.dsdarc_c.specs.Taking.{RefusesPush, Takes};
-ghost use Rattle.dsdarc_c.specs.Whole.{waiting};
+ghost use Rattle.dsdarc_c.specs.Whole.{WaitsWhole, waiting};
 ghost use denote.RawPtr.{InBlock};
 
 mod content;
@@ -74,6 +75,9 @@ pub extern "C" fn dsdarc_c_pull(handle: Handle, out: &mut [u8]) -> usize
     ensures count { result ≡ min (length out.old) (length (waiting handle.value)) }
     ensures given { take result out.new ≡ take result (waiting handle.value) }
     ensures others { drop result out.new ≡ drop result out.old }
+    // If whole frames wait and fit, whole frames are given.
+    ensures whole { WaitsWhole handle.value → AreWholeFrames handle.value.taps handle.value.stated (length out.old)
+        → AreWholeFrames handle.value.taps handle.value.stated result }
 {
     let player = player_of(handle);
     player.pull(out)
@@ -86,6 +90,9 @@ pub extern "C" fn dsdarc_c_pull_numbers(handle: Handle, out: &mut [i32]) -> usiz
     ensures count { result ≡ min (length out.old) (length (waiting handle.value) / (handle.value.taps.width / 8)) }
     ensures given { AreSamplesIn handle.value.taps.width (first_samples handle.value result) (take result out.new) }
     ensures others { drop result out.new ≡ drop result out.old }
+    // If whole frames wait and fit, the samples of whole frames are given.
+    ensures whole { WaitsWhole handle.value → AreWholeSamples handle.value.stated (length out.old)
+        → AreWholeSamples handle.value.stated result }
 {
     let player = player_of(handle);
     player.pull_numbers(out)

@@ -1,8 +1,8 @@
 //! Gives the frames that are due.
 
 ghost use Rattle.std.specs.Prelude.{◌≡◌, ◌+◌, ◌≤◌, ◌++◌, ◌⊎◌, [], List, ℕ, drop, length, min, take};
-ghost use Rattle.dsdarc_c.specs.Pushing.{IsPushing};
-ghost use Rattle.dsdarc_c.specs.Whole.{IsPrefixOfFrames, PlaysPushedFile, waiting};
+ghost use Rattle.dsdarc_c.specs.Pushing.{AreWholeFrames, IsPushing};
+ghost use Rattle.dsdarc_c.specs.Whole.{IsPrefixOfFrames, PlaysPushedFile, WaitsWhole, waiting};
 
 use crate::pushing::Pushing;
 
@@ -25,6 +25,9 @@ pub(crate) fn pull(p: &mut Pushing, out: &mut [u8]) -> usize
     // What isn't taken waits on, and nothing else changes.
     ensures left { waiting p.old ≡ take result out.new ++ waiting p.new }
     ensures same { p.new ≡ record p.old { pulled = p.old.pulled + result } }
+    // If whole frames wait and fit, whole frames are taken, and whole frames wait on.
+    ensures whole { WaitsWhole p.old → AreWholeFrames p.old.taps p.old.stated (length out.old)
+        → AreWholeFrames p.old.taps p.old.stated result × WaitsWhole p.new }
     ensures place { p.new.place ≡ p.old.place }
     ensures taps { p.new.taps ≡ p.old.taps }
 {

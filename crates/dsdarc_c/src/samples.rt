@@ -3,9 +3,9 @@
 ghost use Rattle.std.specs.Prelude.{◌≡◌, ◌+◌, ◌*◌, ◌/◌, ◌≤◌, ◌++◌, ◌⊎◌, List, ℕ, drop, length, min, take};
 ghost use Rattle.wave_core.specs.Contents.{IsSample};
 ghost use Rattle.wave_core.specs.Texts.{sample_bytes};
-ghost use Rattle.dsdarc_c.specs.Numbers.{AreSamplesIn, first_samples, sample_size};
+ghost use Rattle.dsdarc_c.specs.Numbers.{AreSamplesIn, AreWholeSamples, first_samples, sample_size};
 ghost use Rattle.dsdarc_c.specs.Pushing.{IsPushing};
-ghost use Rattle.dsdarc_c.specs.Whole.{IsPrefixOfFrames, PlaysPushedFile, waiting};
+ghost use Rattle.dsdarc_c.specs.Whole.{IsPrefixOfFrames, PlaysPushedFile, WaitsWhole, waiting};
 
 use crate::pushing::Pushing;
 
@@ -26,6 +26,9 @@ pub(crate) fn pull_numbers(p: &mut Pushing, out: &mut [i32]) -> usize
         → IsPrefixOfFrames p.old.taps file start (pulled ++ first_samples p.old result) }
     // The bytes of as many are taken, and nothing else changes.
     ensures same { p.new ≡ record p.old { pulled = p.old.pulled + sample_size p.old result } }
+    // If whole frames wait and fit, whole frames are taken, and whole frames wait on.
+    ensures whole { WaitsWhole p.old → AreWholeSamples p.old.stated (length out.old)
+        → AreWholeSamples p.old.stated result × WaitsWhole p.new }
 {
     let size = if p.taps.width() == 16 { 2 } else { 3 };
     let (_, left) = p.pending.split_at(p.pulled);

@@ -1,10 +1,10 @@
 //! Goes to a frame: from which byte on the file is pushed then.
 
-ghost use Rattle.std.specs.Prelude.{◌≡◌, ◌≢◌, ◌+◌, ◌≤◌, ◌⊎◌, [], List, ℕ, IfErr, IfOk, MatchResult, Some};
+ghost use Rattle.std.specs.Prelude.{◌≡◌, ◌≢◌, ◌+◌, ◌≤◌, ◌⊎◌, [], List, ℕ, IfErr, IfOk, MatchResult, Some, length};
 ghost use Rattle.player_core.specs.Laws.{total_frames};
 ghost use Rattle.dsdarc_c.specs.Pushing.{IsPushedHeader, IsPushing};
 ghost use Rattle.dsdarc_c.specs.Seeking.{GoesTo, RefusesSeek};
-ghost use Rattle.dsdarc_c.specs.Whole.{BeginsWith, PlaysPushedFile, waiting};
+ghost use Rattle.dsdarc_c.specs.Whole.{BeginsWith, PlaysPushedFile, WaitsWhole, waiting};
 
 use crate::fault::PlayFault;
 use crate::pushing::{Pushing, Stage};
@@ -29,6 +29,9 @@ pub(crate) fn seek(alloc: Global, p: &mut Pushing, frame: u64) -> Result<u64, Pl
     ensures goes_on { IfOk result (λ _. p.new.stage ≢ Stage.Failed) }
     // But for memory, a refusal changes nothing.
     ensures same { IfErr result (λ fault. (fault ≡ PlayFault.Memory) ⊎ (p.new ≡ p.old)) }
+    // Whole frames wait then, or nothing; after a refusal if whole frames waited before it.
+    ensures anew { IfOk result (λ _. WaitsWhole p.new) }
+    ensures whole { WaitsWhole p.old → WaitsWhole p.new }
     // What is known of the sound stays.
     ensures stated { p.new.stated ≡ p.old.stated }
     ensures taps { p.new.taps ≡ p.old.taps }
@@ -76,6 +79,8 @@ pub(crate) fn seek_in(
     ensures place { IfOk result (λ place. p.new.place ≡ place) }
     ensures within { IfOk result (λ place. (sound.start ≤ place) × (place ≤ sound.start + sound.size)) }
     ensures first { frame ≡ 0 → IfOk result (λ place. place ≡ sound.start) }
+    ensures whole { WaitsWhole p.new }
+    ensures cleared { IfErr result (λ _. length p.new.pending.items ≡ 0) }
     ensures stated { p.new.stated ≡ p.old.stated }
     ensures taps { p.new.taps ≡ p.old.taps }
 {

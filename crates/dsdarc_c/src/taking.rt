@@ -1,9 +1,9 @@
 //! Takes bytes of the file: before its sound, in it and after it.
 
 ghost use Rattle.std.specs.Prelude.{◌≡◌, ◌≢◌, ◌+◌, ◌<◌, ◌≤◌, ◌^◌, ◌++◌, [], Err, None, Ok, Some, List, ℕ, IfErr, IfOk, IfSome, length};
-ghost use Rattle.dsdarc_c.specs.Pushing.{IsAfterSound, IsHeaderSoFar, IsPushedHeader, IsPushing};
+ghost use Rattle.dsdarc_c.specs.Pushing.{AreWholeFrames, IsAfterSound, IsHeaderSoFar, IsPushedHeader, IsPushing};
 ghost use Rattle.dsdarc_c.specs.Taking.{RefusesAfter, RefusesHeader, RefusesPush, Takes, TakesAfter, TakesHeader};
-ghost use Rattle.dsdarc_c.specs.Whole.{AreAllFrames, BeginsWith, HasAt, KeepsForm, PlaysPushedFile, waiting};
+ghost use Rattle.dsdarc_c.specs.Whole.{AreAllFrames, BeginsWith, HasAt, KeepsForm, PlaysPushedFile, WaitsWhole, waiting};
 
 use crate::ending::form_bytes_wanted;
 use crate::fault::PlayFault;
@@ -54,6 +54,8 @@ pub(crate) fn push(alloc: Global, p: &mut Pushing, bytes: &[u8]) -> Result<usize
     // A sound that is known stays known, and a refusal makes none known.
     ensures known { IfSome p.old.stated (λ sound. p.new.stated ≡ Some sound) }
     ensures as_before { IfErr result (λ _. p.new.stated ≡ p.old.stated) }
+    // If whole frames waited, whole frames wait.
+    ensures whole { WaitsWhole p.old → WaitsWhole p.new }
     ensures taps { p.new.taps ≡ p.old.taps }
 {
     if p.pulled < p.pending.len() {
@@ -89,6 +91,8 @@ fn push_header(
 ) -> Result<usize, PlayFault>
     requires pulled { p.old.pulled ≤ length p.old.pending.items }
     requires unknown { p.old.stated ≡ None }
+    requires whole { AreWholeFrames p.old.taps p.old.stated (length p.old.pending.items) }
+    requires waits { WaitsWhole p.old }
     requires failed { p.old.stage ≡ Stage.Failed }
     requires header { IsHeaderSoFar p.old.header.items p.old.place walked }
     requires few { length piece.now ≤ 65536 }
@@ -100,6 +104,7 @@ fn push_header(
     ensures goes_on { IfOk result (λ _. p.new.stage ≢ Stage.Failed) }
     ensures failed { IfErr result (λ _. p.new.stage ≡ Stage.Failed) }
     ensures unknown { IfErr result (λ _. p.new.stated ≡ None) }
+    ensures whole { WaitsWhole p.new }
     ensures plays { (file : List ℕ) → BeginsWith file p.old.header.items → waiting p.old ≡ []
         → HasAt file p.old.place piece.now → PlaysPushedFile file 0 [] p.new }
     ensures place { IfOk result (λ n. p.new.place ≡ p.old.place + n) }
@@ -148,6 +153,7 @@ fn start_sound(alloc: Global, p: &mut Pushing, sound: Sound) -> Result<(), PlayF
     ensures failed { IfErr result (λ _. (p.new.stage ≡ Stage.Failed) × (waiting p.new ≡ [])) }
     ensures memory { IfErr result (λ fault. fault ≡ PlayFault.Memory) }
     ensures unknown { IfErr result (λ _. p.new.stated ≡ None) }
+    ensures whole { WaitsWhole p.new }
     ensures taps { p.new.taps ≡ p.old.taps }
 {
     p.stated = Some(sound);
@@ -169,6 +175,8 @@ fn push_after(
 ) -> Result<usize, PlayFault>
     requires pulled { p.old.pulled ≤ length p.old.pending.items }
     requires known { p.old.stated ≡ Some sound }
+    requires whole { AreWholeFrames p.old.taps p.old.stated (length p.old.pending.items) }
+    requires waits { WaitsWhole p.old }
     requires failed { p.old.stage ≡ Stage.Failed }
     requires after { IsAfterSound p.old.header.items p.old.place sound back.items }
     requires low { p.old.place ≤ 2 ^ 62 }
@@ -184,6 +192,7 @@ fn push_after(
     ensures failed { IfErr result (λ _. p.new.stage ≡ Stage.Failed) }
     ensures place { IfOk result (λ n. p.new.place ≡ p.old.place + n) }
     ensures stated { p.new.stated ≡ p.old.stated }
+    ensures whole { WaitsWhole p.new }
     ensures taps { p.new.taps ≡ p.old.taps }
 {
     let mut back = back;

@@ -5,7 +5,7 @@ ghost use Rattle.dsd_bits.specs.Sounds.{IsSound};
 ghost use Rattle.fir_core.specs.Decimator.{Decimator};
 ghost use Rattle.player_core.specs.Laws.{total_frames};
 ghost use Rattle.dsdarc_c.specs.Pushing.{IsAtStage, IsPausedOrDone, IsPushedHeader, IsPushing, IsRest, IsWithinSound, KeepsSound};
-ghost use Rattle.dsdarc_c.specs.Whole.{BeginsWith, HasAt, PlaysPushedFile, PlaysRestOf, PlaysSoundOf, PlaysStageOf, waiting};
+ghost use Rattle.dsdarc_c.specs.Whole.{BeginsWith, HasAt, PlaysPushedFile, PlaysRestOf, PlaysSoundOf, PlaysStageOf, WaitsWhole, waiting};
 
 use crate::fault::PlayFault;
 use crate::playing::play_on;
@@ -71,6 +71,8 @@ pub(crate) fn push_sound(
     ensures goes_on { IfOk result (λ _. p.new.stage ≢ Stage.Failed) }
     ensures failed { IfErr result (λ _. (p.new.stage ≡ Stage.Failed) × (waiting p.new ≡ [])) }
     ensures memory { IfErr result (λ fault. fault ≡ PlayFault.Memory) }
+    ensures whole { WaitsWhole p.new }
+    ensures cleared { IfErr result (λ _. length p.new.pending.items ≡ 0) }
     ensures stated { p.new.stated ≡ p.old.stated }
     ensures taps { p.new.taps ≡ p.old.taps }
 {

@@ -1,6 +1,7 @@
 //! Shows on a terminal, as a line, how far something has come.
 
-ghost use Rattle.std.specs.Prelude.{◌≤◌};
+ghost use Rattle.std.specs.Prelude.{◌≡◌, ◌≤◌, is_some, true};
+ghost use Rattle.folder_core.specs.WatchedFolders.{is_written};
 
 use crate::folder::Work;
 use std::io::Eprint;
@@ -21,16 +22,20 @@ const CLEARED: &str = "\r                              \r";
 // A line on standard error that is rewritten repeatedly, and cleared when this value is dropped.
 pub(crate) struct ProgressLine<'a, R: Clock + Eprint> {
     rt: &'a R,
-    // When that began of which it is; none if it is never written.
+    // When the program began; none if the line is never written.
+    start: Option<Instant>,
+    // When that began of which it is, if that is known.
     began: Option<Instant>,
-    // When it may be written next; none if it is never written.
+    // When it may be written next; none if it isn't written any more.
     next: Option<Instant>,
     is_shown: bool,
 }
 
 impl<'a, R: Clock + Eprint> ProgressLine<'a, R> {
     // The line of something that begins now, in a program that began at this time. Without a time it is never written.
-    pub(crate) fn new(rt: &'a R, start: Option<Instant>) -> Self {
+    pub(crate) fn new(rt: &'a R, start: Option<Instant>) -> Self
+        ensures { is_written result ≡ is_some start }
+    {
         let began = if start.is_some() {
             Instant::now(rt).ok()
         } else {
@@ -38,6 +43,7 @@ impl<'a, R: Clock + Eprint> ProgressLine<'a, R> {
         };
         ProgressLine {
             rt,
+            start,
             began,
             next: start.and_then(|it| it.checked_add(Duration::from_secs(QUIET_SECONDS))),
             is_shown: false,
@@ -57,7 +63,16 @@ impl<'a, R: Clock + Eprint> ProgressLine<'a, R> {
             return;
         }
         self.next = now.checked_add(Duration::from_millis(STANDING_MILLISECONDS));
-        self.is_shown = true;
+        if self.start.is_some() {
+            self.is_shown = true;
+            self.print(now, given, length);
+        }
+    }
+
+    // Writes the line. This is only asked of a line that may be written.
+    fn print(&self, now: Instant, given: u64, length: u64)
+        requires { is_written self.now ≡ true }
+    {
         let _ = if length > 0 {
             let percent = per_cent(given, length);
             let left = seconds_left(seconds_since(self.began, now), given, length);
@@ -201,6 +216,7 @@ impl<R: Clock + Eprint> Drop for ProgressLine<'_, R> {
     fn drop(self) {
         let ProgressLine {
             rt,
+            start: _,
             began: _,
             next: _,
             is_shown,

@@ -1,7 +1,7 @@
 //! A folder that shows how far its files are read.
 
-ghost use Rattle.std.specs.Prelude.{◌≡◌, false};
-ghost use Rattle.folder_core.specs.WatchedFolders.{shows, watched_file, watched_folder};
+ghost use Rattle.std.specs.Prelude.{◌≡◌, false, true};
+ghost use Rattle.folder_core.specs.WatchedFolders.{is_written, shows, watched_file, watched_folder};
 
 use crate::folder::{Folder, FolderFault, Work};
 use crate::progress::{ProgressLine, Stint, clear_stint, show_sizes, show_stint};
@@ -77,6 +77,36 @@ impl<'a, F: Folder, R: Clock> WatchedFolder<'a, F, R> {
     }
 }
 
+impl<'a, F, R: Clock + Eprint> WatchedFolder<'a, F, R> {
+    // Prints how large both files of a master will be. Nothing is printed unless something is to be shown.
+    fn print_sizes(&self, master: u64, most_of_certificate: u64)
+        requires { shows self.now ≡ true }
+    {
+        show_sizes(self.rt, master, most_of_certificate);
+    }
+
+    // Prints how far work has come.
+    fn print_work(&self, stint: Stint, done: usize, all: usize)
+        requires { shows self.now ≡ true }
+    {
+        show_stint(self.rt, stint, done as u64, all as u64);
+    }
+
+    // Clears the line of work that is over.
+    fn clear_work(&self, stint: Stint)
+        requires { shows self.now ≡ true }
+    {
+        clear_stint(self.rt, stint);
+    }
+
+    // The line of a file that is opened now. It is never written if nothing is to be shown.
+    fn line(&self) -> ProgressLine<'a, R>
+        ensures { is_written result ≡ shows self.now }
+    {
+        ProgressLine::new(self.rt, self.start)
+    }
+}
+
 impl<'a, F: Folder, R: Clock + Eprint> Folder for WatchedFolder<'a, F, R>
 where
     F::In: KnownLength,
@@ -89,7 +119,7 @@ where
 
     fn show_sizes(&self, master: u64, most_of_certificate: u64) {
         if self.start.is_some() {
-            show_sizes(self.rt, master, most_of_certificate);
+            self.print_sizes(master, most_of_certificate);
         }
     }
 
@@ -101,14 +131,16 @@ where
     }
 
     fn show_work(&self, done: usize, all: usize) {
-        if let Some(stint) = self.work {
-            show_stint(self.rt, stint, done as u64, all as u64);
+        match self.work {
+            Some(stint) if self.start.is_some() => self.print_work(stint, done, all),
+            _ => {}
         }
     }
 
     fn end_work(&mut self) {
-        if let Some(stint) = self.work {
-            clear_stint(self.rt, stint);
+        match self.work {
+            Some(stint) if self.start.is_some() => self.clear_work(stint),
+            _ => {}
         }
         self.work = None;
     }
@@ -121,7 +153,7 @@ where
             file,
             count: self.count,
             given: 0,
-            line: ProgressLine::new(self.rt, self.start),
+            line: self.line(),
         })
     }
 

@@ -1,6 +1,8 @@
-use Rattle.std.proofs.Common.{ℕ, List, ◌≡◌, ◌++◌, ◌+◌, ◌∙◌, ap, append_assoc, drop, length, subst, sym, take}
+use Rattle.std.proofs.Common.{ℕ, List, ◌≡◌, ◌++◌, ◌+◌, ◌∙◌, ap, append_assoc, arith, drop, length, min, subst, sym, take}
 use Rattle.std.proofs.lemmas.List.{drop-drop, take-append-drop, take_at}
 use Rattle.dsdarc_c.specs.Whole.{IsPrefixOfFrames, PlaysStageOf, waiting}
+use Rattle.dsdarc_c.specs.Pushing.{AreWholeFrames}
+use Rattle.dsdarc_c.proofs.WaitingLaws.{left_whole, min_whole}
 use Rattle.dsdarc_c.proofs.WholeLaws.{fewer_first, prefix_of}
 use Rattle.dsdarc_c.proofs.pulling.pull.Goals as goal
 use Rattle.dsdarc_c.proofs.pulling.pull.Goals.{After-copy_from_slice}
@@ -44,3 +46,10 @@ returns-clause-given c =
 
 pub returns-clause-left : goal.returns-clause-left
 returns-clause-left c = left (goal.at.returns-clause-left c).After-copy_from_slice
+
+pub returns-clause-whole : goal.returns-clause-whole
+returns-clause-whole c waits fits =
+    let p = c.args.p.now in
+    let count : min (length (waiting p)) (length c.args.out.now) ≡ c.min-count.result = omega (arith, c.min-count.ensures, ap length (c.split_at.ensures.back ∙ ap (drop p.pulled) c.deref.ensures.value)) in
+    let given = subst (AreWholeFrames p.taps p.stated) count (min_whole p.taps p.stated (length (waiting p)) (length c.args.out.now) waits fits) in
+    (given, left_whole p c.min-count.result waits given)

@@ -3,6 +3,7 @@ use Rattle.dsdarc_c.specs.Whole.{HasAt, PlaysSoundOf, PlaysStageOf, waiting}
 use Rattle.dsdarc_c.specs.declared.pushing.Stage.TheVariants as stages
 use Rattle.dsdarc_c.specs.Pushing.{IsAtStage}
 use Rattle.dsdarc_c.proofs.TakingLaws.{after_err, cut_is, memory_err, refused_err, some_after, some_of_sound, sound_ok, takes_none, takes_ok}
+use Rattle.dsdarc_c.proofs.WaitingLaws.{nothing_whole}
 use Rattle.dsdarc_c.proofs.WholeLaws.{fewer_at, nothing_waits, plays_anew, prefix_of, stage_is}
 use Rattle.dsdarc_c.proofs.taking.push.Goals as goal
 
@@ -89,3 +90,10 @@ returns-then-p-gt-MOST-clause-plays c file start pulled plays at =
     let out = pulled ++ waiting p in
     let first = prefix_of p.taps file start out p.header.items p.place p.stage c.requires.stage plays.stage in
     record { stage = subst (λ s. PlaysStageOf p.taps file start out p.header.items p.place s) (sym c.replace.ensures.after) first }
+
+-- where nothing waits, whole frames do
+pub push_header-requires-clause-waits : goal.push_header-requires-clause-waits
+push_header-requires-clause-waits c = nothing_whole c.args.p.now (nothing_waits c.args.p.now (omega (arith, c.if-p-len.false, c.len.ensures, c.args.p.now.pending.ok.0)))
+
+pub push_after-requires-clause-waits : goal.push_after-requires-clause-waits
+push_after-requires-clause-waits c = nothing_whole c.args.p.now (nothing_waits c.args.p.now (omega (arith, c.if-p-len.false, c.len.ensures, c.args.p.now.pending.ok.0)))

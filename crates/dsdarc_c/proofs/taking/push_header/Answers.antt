@@ -47,6 +47,7 @@ returns-else-len-gt-MOST_HELD-clause-keeps c =
         unstated = subst IsUnstated c.as_slice.ensures.value states;
         so_far = subst (λ xs. IsWalked xs c.in-More.at) c.as_slice.ensures.value (rw c.in-More.is at c.in_ok-at.ensures.walked);
       };
+      whole = c.requires.whole;
     }
 
 pub returns-else-len-gt-MOST_HELD-clause-takes : goal.returns-else-len-gt-MOST_HELD-clause-takes

@@ -1,7 +1,9 @@
-use Rattle.std.proofs.Common.{◌≡◌, ◌≤◌, ◌∙◌, ◌++◌, ap, append-nil, arith, length, refl, slice_range, subst, sym, ◌+◌}
+use Rattle.std.proofs.Common.{List, ℕ, ◌≡◌, ◌≤◌, ◌∙◌, ◌++◌, ap, append-nil, arith, length, refl, slice_range, subst, sym, ◌+◌}
 use Rattle.player_core.specs.PartView.{part_start}
 use Rattle.dsdarc_c.proofs.KeepLaws.{header_kept, played_on}
 use Rattle.dsdarc_c.specs.Whole.{HasAt, IsPrefixOfFrames, PlaysStageOf}
+use Rattle.dsdarc_c.specs.Pushing.{AreWholeFrames, IsAtStage, KeepsSound}
+use Rattle.dsdarc_c.proofs.WaitingLaws.{more_whole, none_whole}
 use Rattle.dsdarc_c.proofs.WholeLaws.{fewer_at, plays_on_of, prefix_in}
 use Rattle.dsdarc_c.proofs.within_sound.push_sound.Goals as goal
 
@@ -17,6 +19,7 @@ returns-in-Ok-clause-keeps c =
       stated = header_kept c.args.p.now.stated c.args.rest.sound c.args.p.now.header.items c.requires.known k.header;
       known = c.next_stage.ensures.known _ c.requires.known;
       stage = c.next_stage.ensures.keeps c.args.p.now.taps c.args.p.now.header.items _ k.header (played_on _ _ l.start l.before bytes l.given _ _ l.player c.in-Ok.played c.args.rest.left on l.long few) (omega (arith, k.place_is, few));
+      whole = subst (λ o. AreWholeFrames c.args.p.now.taps o (length c.play_on.new.pending.items)) (sym c.requires.known) (more_whole c.args.p.now.taps c.args.rest.sound l.start l.before bytes l.given c.clear.new.self.items c.play_on.new.pending.items l.player c.args.rest.paused c.in-Ok.played l.played c.clear.ensures.items on);
     }
 
 pub returns-in-Ok-clause-plays : goal.returns-in-Ok-clause-plays
@@ -39,3 +42,28 @@ returns-in-Err-clause-plays c file start pulled of at =
     let same : pulled ≡ out = sym (ap (λ xs. pulled ++ xs) c.clear-in-Err.ensures.items ∙ append-nil pulled) in
     let first = subst (IsPrefixOfFrames p.taps file start) same (prefix_in p.taps file start pulled p.header.items p.place r.sound r.paused r.left c.requires.sound of) in
     record { stage = subst (λ s. PlaysStageOf p.taps file start out p.header.items p.place s) (sym c.requires.failed) first }
+
+pub returns-in-Ok-clause-whole : goal.returns-in-Ok-clause-whole
+returns-in-Ok-clause-whole c =
+    let l = c.requires.sound.playing in
+    let bytes = c.split_at.result.0.now in
+    let on = c.in-Ok.ensures c.args.rest.sound l.start l.before l.given l.player l.played l.long in
+    let made = more_whole c.args.p.now.taps c.args.rest.sound l.start l.before bytes l.given c.clear.new.self.items c.play_on.new.pending.items l.player c.args.rest.paused c.in-Ok.played l.played c.clear.ensures.items on in
+    subst (λ o. AreWholeFrames c.args.p.now.taps o (length c.play_on.new.pending.items)) (sym c.requires.known) made
+
+-- after a refusal nothing is pending
+pub returns-in-Err-clause-keeps : goal.returns-in-Err-clause-keeps
+returns-in-Err-clause-keeps c =
+    let p = c.args.p.now in
+    record {
+      pulled = omega arith;
+      stated = header_kept p.stated c.args.rest.sound p.header.items c.requires.known c.requires.sound.header;
+      known = subst (λ s. KeepsSound s p.stated) (sym c.requires.failed) tt;
+      stage = subst (λ s. IsAtStage p.taps p.header.items p.place s) (sym c.requires.failed) tt;
+      whole = subst (λ (xs : List ℕ). AreWholeFrames p.taps p.stated (length xs)) (sym c.clear-in-Err.ensures.items) (none_whole p.taps p.stated);
+    }
+
+pub returns-in-Err-clause-whole : goal.returns-in-Err-clause-whole
+returns-in-Err-clause-whole c =
+    let p = c.args.p.now in
+    subst (λ (xs : List ℕ). AreWholeFrames p.taps p.stated (length xs)) (sym c.clear-in-Err.ensures.items) (none_whole p.taps p.stated)

@@ -10,4 +10,5 @@ returns c = subst (λ p. Pulled p c.pull.new.p c.args.out.now c.pull.new.out c.p
   left = c.pull.ensures.left;
   same = c.pull.ensures.same;
   gives = record { plays = c.pull.ensures.plays; prefix = c.pull.ensures.prefix };
+  whole = c.pull.ensures.whole;
 })

@@ -9,4 +9,5 @@ returns c = subst (λ p. PulledNumbers p c.pull_numbers.new.p c.args.out.now c.p
   others = c.pull_numbers.ensures.others;
   same = c.pull_numbers.ensures.same;
   gives = record { plays = c.pull_numbers.ensures.plays; prefix = c.pull_numbers.ensures.prefix };
+  whole = c.pull_numbers.ensures.whole;
 })

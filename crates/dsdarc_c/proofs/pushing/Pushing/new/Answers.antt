@@ -1,4 +1,4 @@
-use Rattle.std.proofs.Common.{arith, refl, subst, sym}
+use Rattle.std.proofs.Common.{List, ap, arith, length, refl, subst, sym, ℕ}
 use Rattle.dsdarc_c.specs.Pushing.{IsHeaderSoFar}
 use Rattle.dsdarc_c.proofs.HeaderLaws.{before_first}
 use Rattle.dsdarc_c.proofs.pushing.Pushing.new.Goals as goal
@@ -9,4 +9,5 @@ returns-clause-keeps c = record {
   stated = tt;
   known = refl;
   stage = subst (λ xs. IsHeaderSoFar xs 0 16) (sym c.new.ensures.items) before_first;
+  whole = ap (λ (xs : List ℕ). length xs) c.new-2.ensures.items;
 }

@@ -116,7 +116,7 @@ span_text spans.NoMark = codes "NoMark"
 span_text spans.PartOutside = codes "PartOutside"
 span_text spans.PartReversed = codes "PartReversed"
 
--- of a call
+-- of a call: a name, and what is wrong with the project text or the file; of a cut or a stream the text above
 unfoldable pub fault_text : Fault → List ℕ
 fault_text (faults.Project fault) = codes "Project " ++ project_text fault
 fault_text faults.NoDecimation = codes "NoDecimation"

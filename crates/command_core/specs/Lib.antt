@@ -6,3 +6,4 @@ pub mod Summing
 pub mod Writing
 pub mod Endings
 pub mod SumEndings
+pub mod Texts

@@ -4,6 +4,7 @@ use Rattle.std.specs.Fmt.{decimal}
 use Rattle.command_core.specs.declared.outcome.Outcome.{Outcome}
 use Rattle.command_core.specs.declared.sum_status.SumStatus.{SumStatus}
 use Rattle.command_core.specs.declared.sum_status.SumStatus.TheVariants as sums
+use Rattle.command_core.specs.Texts.{fault_text, reason_text, span_text}
 use Rattle.form_core.specs.Infos.{info_text}
 use Rattle.judge_core.specs.declared.verdict.Verdict.{Verdict}
 use Rattle.judge_core.specs.declared.verdict.Verdict.TheVariants as verdicts
@@ -16,24 +17,20 @@ use Rattle.words_core.specs.declared.fault.WordsFault.TheVariants as words
 use Rattle.request_core.specs.declared.fault.Fault.TheVariants.{Memory}
 use Rattle.command_core.specs.declared.outcome.Outcome.TheVariants.{Played, Converted, Edited, Accepted, Rejected, Info, Summed, Fault, NoPart, ReadFailed, WriteFailed, WrongWords, UnknownFormName}
 
--- a line begins with these bytes
-abbrev pub BeginsWith : List ℕ → List ℕ → Type 0
-BeginsWith beginning line = (rest : List ℕ) × (line ≡ beginning ++ rest)
-
--- what the printed line says: for a file that was played its number of bytes, for one that was converted what was
--- dropped, for a master that was cut or accepted its cost, for one that was rejected `rejected ` and a text, for a file
--- that was read the lines that describe its recording, for `sum` nothing more than its lines, and for a fault `fault: `
--- and its name, or a text
+-- the printed line, without its end: for a file that was played its number of bytes, for one that was converted what
+-- was dropped, for a master that was cut or accepted its cost, for one that was rejected the text of the reason, for a
+-- file that was read the lines that describe its recording, for `sum` nothing more than its lines, and for a fault its
+-- text
 abbrev pub ShowsOutcome : Outcome → List ℕ → Type 0
 ShowsOutcome (Played n) line = line ≡ codes "played " ++ decimal n ++ codes " bytes"
 ShowsOutcome (Converted n) line = line ≡ codes "converted dropped " ++ decimal n
 ShowsOutcome (Edited n) line = line ≡ codes "edited total " ++ decimal n
 ShowsOutcome (Accepted n) line = line ≡ codes "accepted total " ++ decimal n
-ShowsOutcome (Rejected reason) line = BeginsWith (codes "rejected ") line
+ShowsOutcome (Rejected reason) line = line ≡ codes "rejected " ++ reason_text reason
 ShowsOutcome (Info reported) line = line ≡ info_text reported.form reported.description
 ShowsOutcome (Summed status) line = line ≡ []
-ShowsOutcome (Fault fault) line = BeginsWith (codes "fault: ") line
-ShowsOutcome (NoPart fault) line = BeginsWith (codes "fault: ") line
+ShowsOutcome (Fault fault) line = line ≡ codes "fault: " ++ fault_text fault
+ShowsOutcome (NoPart fault) line = line ≡ codes "fault: " ++ span_text fault
 ShowsOutcome ReadFailed line = line ≡ codes "fault: ReadFailed"
 ShowsOutcome WriteFailed line = line ≡ codes "fault: WriteFailed"
 ShowsOutcome WrongWords line = line ≡ codes "fault: WrongWords"

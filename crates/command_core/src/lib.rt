@@ -11,8 +11,9 @@
 //!   after it. What is reported is true of bytes that were read. If the folder's bytes are known, they are those that
 //!   openings of the names gave. `ComesTo old new outcome` says the same of words, which may be no command
 //!   (`specs/Commands.antt`).
-//! - `ShowsOutcome outcome line` says what is printed of an outcome, `status_of` is the status with which the program
-//!   ends (`specs/Outcomes.antt`).
+//! - `ShowsOutcome outcome line` says that this is the line of an outcome, `status_of` is the status with which the
+//!   program ends (`specs/Outcomes.antt`). `fault_text` and `reason_text` are the texts of a fault and of a reason
+//!   against a master (`specs/Texts.antt`).
 //! - `SumLineComesTo name old new answer` says that an answer is the line of sums of bytes that were read of a file, or
 //!   why there is none, `ListedComesTo name line old new answer` whether that line is the one of a list
 //!   (`specs/Summing.antt`).
@@ -34,6 +35,7 @@
 
 mod ending;
 mod explaining;
+mod file_texts;
 mod judging;
 mod listing;
 mod masters;
@@ -45,6 +47,7 @@ mod spelling;
 mod sum_status;
 mod summing;
 mod sums;
+mod texts;
 mod writing;
 
 pub use folder_core::{Folder, FolderFault, MemoryFolder, read_files, read_whole};

@@ -1,14 +1,15 @@
 //! The outcome of a command, the line that is printed, and the status with which the program ends.
 
-ghost use Rattle.std.specs.Prelude.{◌≡◌, ◌≤◌, IfOk, string_bytes};
-ghost use Rattle.command_core.specs.Outcomes.{BeginsWith, ShowsOutcome, of_command, of_part, of_words, status_of};
+ghost use Rattle.std.specs.Prelude.{◌≡◌, ◌≤◌, ◌++◌, IfOk, codes, string_bytes};
+ghost use Rattle.command_core.specs.Outcomes.{ShowsOutcome, of_command, of_part, of_words, status_of};
+ghost use Rattle.command_core.specs.Texts.{fault_text, reason_text, span_text};
 ghost use Rattle.command_core.specs.declared.outcome.Outcome.TheVariants as outcomes;
 
 use crate::sum_status::SumStatus;
+use crate::texts::{name_of_span, push_fault, push_reason};
 use archive_core::{Fault, Reason};
 use form_core::info_lines;
 use std::alloc::{AllocError, Global};
-use std::fmt::Display;
 use transfer_commands::{CommandFault, PartFault, Reported};
 use transfer_core::SpanFault;
 use words_core::WordsFault;
@@ -99,11 +100,11 @@ pub fn outcome_line(alloc: Global, outcome: &Outcome) -> Result<String, AllocErr
         Outcome::Converted(dropped) => format!(in alloc; "converted dropped {dropped}"),
         Outcome::Edited(total) => format!(in alloc; "edited total {total}"),
         Outcome::Accepted(total) => format!(in alloc; "accepted total {total}"),
-        Outcome::Rejected(reason) => line_from(alloc, "rejected ", reason),
+        Outcome::Rejected(reason) => rejected_line(alloc, *reason),
         Outcome::Info(reported) => info_lines(alloc, reported.form, &reported.description),
         Outcome::Summed(_) => Ok(String::new(alloc)),
-        Outcome::Fault(fault) => line_from(alloc, "fault: ", fault),
-        Outcome::NoPart(fault) => line_from(alloc, "fault: ", fault),
+        Outcome::Fault(fault) => fault_line(alloc, *fault),
+        Outcome::NoPart(fault) => part_line(alloc, *fault),
         Outcome::ReadFailed => format!(in alloc; "fault: ReadFailed"),
         Outcome::WriteFailed => format!(in alloc; "fault: WriteFailed"),
         Outcome::WrongWords => format!(in alloc; "fault: WrongWords"),
@@ -111,12 +112,30 @@ pub fn outcome_line(alloc: Global, outcome: &Outcome) -> Result<String, AllocErr
     }
 }
 
-// A line that begins with these bytes, and then has the text of a value.
-fn line_from<D: Display>(alloc: Global, beginning: &str, value: &D) -> Result<String, AllocError>
-    ensures { IfOk result (λ line. BeginsWith beginning.now (string_bytes line)) }
+// The line of a master that is rejected.
+fn rejected_line(alloc: Global, reason: Reason) -> Result<String, AllocError>
+    ensures { IfOk result (λ line. string_bytes line ≡ codes "rejected " ++ reason_text reason) }
 {
-    let text = value.to_string(alloc)?;
-    format!(in alloc; "{beginning}{text}")
+    let mut line = String::from_str(alloc, "rejected ")?;
+    push_reason(&mut line, reason)?;
+    Ok(line)
+}
+
+// The line of a call that was refused.
+fn fault_line(alloc: Global, fault: Fault) -> Result<String, AllocError>
+    ensures { IfOk result (λ line. string_bytes line ≡ codes "fault: " ++ fault_text fault) }
+{
+    let mut line = String::from_str(alloc, "fault: ")?;
+    push_fault(&mut line, fault)?;
+    Ok(line)
+}
+
+// The line of a part that isn't in the recording.
+fn part_line(alloc: Global, fault: SpanFault) -> Result<String, AllocError>
+    ensures { IfOk result (λ line. string_bytes line ≡ codes "fault: " ++ span_text fault) }
+{
+    let name = name_of_span(fault);
+    format!(in alloc; "fault: {name}")
 }
 
 /// The program's exit status: 0 if the command was done, 1 for a master that is rejected or a file that is not as it is

@@ -4,7 +4,7 @@ pub returns-in-Played : goal.returns-in-Played
 returns-in-Played c = rw c.in-Played.is c.format.ensures.ok
 
 pub returns-in-Rejected : goal.returns-in-Rejected
-returns-in-Rejected c = rw c.in-Rejected.is c.line_from.ensures
+returns-in-Rejected c = rw c.in-Rejected.is c.rejected_line.ensures
 
 pub returns-in-WriteFailed : goal.returns-in-WriteFailed
 returns-in-WriteFailed c = rw c.in-WriteFailed.is c.format-in-WriteFailed.ensures.ok

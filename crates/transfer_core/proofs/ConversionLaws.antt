@@ -1,17 +1,21 @@
 -- What is relayed of a file of an outline is the file of the form that is written for its recording.
-use Rattle.std.proofs.Common.{◌≡◌, ℕ, ◌%◌, ◌≤◌, List, [], ◌++◌, length, Option, None, Some, IsErrOf, Result, Ok, Err, refl, sym, ap, ◌∙◌, subst}
-use Rattle.std.proofs.lemmas.List.{length-replicate}
+use Rattle.std.proofs.Common.{◌≡◌, ℕ, ◌+◌, ◌*◌, ◌%◌, ◌^◌, ◌<◌, ◌≤◌, Bool, List, [], ◌++◌, length, Option, None, Some, IsErrOf, Result, Ok, Err, refl, sym, ap, ◌∙◌, subst, arith}
+use Rattle.std.specs.Int.{div_ceil}
+use Rattle.std.proofs.lemmas.List.{length-append, length-replicate}
 use Rattle.std.proofs.lemmas.List.FromFn.{length-map-range_with_len}
+use Rattle.std.proofs.lemmas.Nat.{mul-le}
 use Rattle.chunk_core.specs.Outlets.{AppendsPrefix}
 use Rattle.chunk_core.specs.declared.inlet.Inlet.{Inlet}
 use Rattle.dsd_bits.specs.declared.interleaving.Interleaving.{Interleaving}
 use Rattle.dsd_bits.specs.declared.interleaving.Interleaving.TheVariants.{Bytes, Blocks}
-use Rattle.dsd_bits.specs.Blocks.{unblocked}
+use Rattle.dsd_bits.specs.Blocks.{block_byte, blocks_size, unblocked}
 use Rattle.dsd_bits.specs.Channels.{count_of}
 use Rattle.dsd_bits.specs.Contents.{described}
-use Rattle.dsd_bits.specs.Lacing.{unlaced}
+use Rattle.dsd_bits.specs.Lacing.{frame_number, laced_byte, unlaced}
+use Rattle.dsd_bits.specs.Shape.{HasShape}
 use Rattle.dsd_bits.specs.Sounds.{sound_channels, sound_size}
 use Rattle.dsd_bits.proofs.BlockLemmas.{unblocked_count}
+use Rattle.dsdiff_core.specs.ReadAgain.{FitsFields}
 use Rattle.dsdiff_core.specs.declared.write_fault.WriteFault.{WriteFault}
 use Rattle.dsdiff_core.specs.declared.write_fault.WriteFault.TheVariants as writes
 use Rattle.interleave_core.specs.Reinterleaving.{laced_in}
@@ -31,7 +35,8 @@ use Rattle.form_core.specs.Opening.{opened_of}
 use Rattle.form_core.specs.Parts.{FitsIn, FormsWrittenInParts, head_in, interleaving_in, tail_in}
 use Rattle.form_core.proofs.OpeningLaws.{held_is_opened}
 use Rattle.transfer_core.specs.Conversions.{ConversionApplies, ConvertsReader, ConvertsPrefix, ConvertsGiven}
-use Rattle.transfer_core.specs.Converting.{Converts}
+use Rattle.transfer_core.specs.Converting.{Converts, Keeps}
+use Rattle.transfer_core.specs.Laws.{ConvertedIsKept}
 use Rattle.request_core.proofs.FormLaws.{holds_as}
 use Rattle.request_core.specs.declared.fault.Fault.TheVariants.{NotWholeBytes, Stream}
 use Rattle.request_core.specs.Faults.{as_stream, fault_of_stream, fault_of_writing}
@@ -46,6 +51,17 @@ channel_count : (interleaving : Interleaving) (channels count : ℕ) (bytes : Li
 channel_count Bytes channels count bytes some whole size = unlaced_count bytes channels count some (whole refl) size
 channel_count (Blocks order) channels count bytes some whole size = unblocked_count order bytes channels count some
 
+-- sound bytes are few
+laced_short : (interleaving : Interleaving) (channels : List (List Bool)) → count_of channels ≤ 2 ^ 36 → length channels ≤ 6 → length (laced_in interleaving channels) < 2 ^ 62
+laced_short Bytes channels bits six =
+    let size = length-map-range_with_len (laced_byte channels) 0 (frame_number channels * length channels) in
+    let frames = mul-le (frame_number channels) (length channels) (2 ^ 33) 6 (omega (arith, bits)) six in
+    omega (arith, size, frames)
+laced_short (Blocks order) channels bits six =
+    let size = length-map-range_with_len (block_byte order channels) 0 (blocks_size (length channels) (count_of channels)) in
+    let groups = mul-le (div_ceil (count_of channels) 32768) (length channels) (2 ^ 21) 6 (omega (arith, bits)) six in
+    omega (arith, size, groups)
+
 -- ---- what is dropped is not in the channels
 dropped_beside : (form : Form) (o : Surroundings) (sound : List ℕ) → dropped_in form (described o.recording) ≡ dropped_in form (described (with_sound o.recording o.sound sound))
 dropped_beside forms.Dsdiff o sound = refl
@@ -53,7 +69,7 @@ dropped_beside forms.Dsf o sound = refl
 dropped_beside forms.Dsf8 o sound = refl
 
 -- ---- a file holds one recording, of which there is one text
-same_recording : (reading : Result Opened ReadFault) (x y : Opened) → reading ≡ Ok x → reading ≡ Ok y → x.recording ≡ y.recording
+pub same_recording : (reading : Result Opened ReadFault) (x y : Opened) → reading ≡ Ok x → reading ≡ Ok y → x.recording ≡ y.recording
 same_recording reading x y e f = cc
 
 same_bytes : (text : Option (List ℕ)) (x y : List ℕ) → text ≡ Some x → text ≡ Some y → x ≡ y
@@ -85,12 +101,25 @@ module _ (laws : FormsWrittenInParts) (o : Surroundings) (reported : AreStated o
     dropped_is = dropped_beside form o sound;
   }
 
-  pub converts_file : (left a b : Option (List ℕ)) → Relays left target o a b → ConvertsReader left form a b (dropped_in form (described o.recording))
-  converts_file None a b h = tt
-  converts_file (Some file) a b h = (relayed target o.sound h.0, converts file h.0 h.1, h.2)
+  -- it is kept if its parts fit a file
+  module _ (law : ConvertedIsKept) (shape : (file sound : List ℕ) → IsPlacedIn o file sound → HasShape (with_sound o.recording o.sound sound)) (fields : FitsFields o.recording) (few : length target.head.now + length target.tail.now ≤ 2 ^ 62) where
+    keeps : (file sound : List ℕ) → IsPlacedIn o file sound → Keeps file form (relayed target o.sound sound) (dropped_in form (described o.recording))
+    unfolding converts
+    keeps file sound stands =
+        let s = o.sound in
+        let channels = sound_channels s.interleaving s.channels s.count sound in
+        let is = shape file sound stands in
+        let short : length (laced_in target.interleaving channels) < 2 ^ 62 = laced_short target.interleaving channels is.in_limit is.six_channels in
+        let long = length-append target.head.now (laced_in target.interleaving channels ++ target.tail.now) in
+        let rest = length-append (laced_in target.interleaving channels) target.tail.now in
+        law file form (relayed target s sound) (dropped_in form (described o.recording)) (converts file sound stands) is (record { ids = fields.ids; marks = fields.marks; others = fields.others }) (omega (arith, short, long, rest, few))
 
-  pub converts_given : {R : Type 0} (left : R → Option (List ℕ)) (i j : Inlet R) (a b : Option (List ℕ)) → RelaysGiven left i j target o a b → ConvertsGiven left i j form a b (dropped_in form (described o.recording))
-  converts_given left i j a b h = (h.0, relayed target o.sound h.1, h.2, converts h.0 h.1 h.3, h.4)
+    pub converts_file : (left a b : Option (List ℕ)) → Relays left target o a b → ConvertsReader left form a b (dropped_in form (described o.recording))
+    converts_file None a b h = tt
+    converts_file (Some file) a b h = (relayed target o.sound h.0, converts file h.0 h.1, keeps file h.0 h.1, h.2)
+
+    pub converts_given : {R : Type 0} (left : R → Option (List ℕ)) (i j : Inlet R) (a b : Option (List ℕ)) → RelaysGiven left i j target o a b → ConvertsGiven left i j form a b (dropped_in form (described o.recording))
+    converts_given left i j a b h = (h.0, relayed target o.sound h.1, h.2, converts h.0 h.1 h.3, keeps h.0 h.1 h.3, h.4)
 
   pub converts_prefix : (left a b : Option (List ℕ)) (f : StreamFault) → RelaysPrefix left target o a b f → ConvertsPrefix left o form a b
   converts_prefix None a b f h = tt

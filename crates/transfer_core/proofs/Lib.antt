@@ -1,5 +1,6 @@
 pub mod ReadingLaws
 pub mod StreamLaws
+pub mod KeptLaws
 pub mod ConversionLaws
 pub mod SpanLaws
 pub mod UnreadLaws

@@ -10,18 +10,18 @@ use Rattle.form_core.specs.Parts.{FitsIn}
 use Rattle.sound_core.specs.Relays.{IsRelayFault}
 use Rattle.request_core.specs.declared.fault.Fault.{Fault}
 use Rattle.request_core.specs.declared.fault.Fault.TheVariants.{NotWholeBytes}
-use Rattle.transfer_core.specs.Converting.{Converts}
+use Rattle.transfer_core.specs.Converting.{Converts, Keeps}
 use Rattle.request_core.specs.Faults.{OfStream}
 
 -- if the reader's file is known, what it is converted to was written, and `dropped` parts of its recording are not in
--- that
+-- that; it keeps the sound, and all of the recording if none was dropped
 abbrev pub ConvertsReader : Option (List ℕ) → Form → Option (List ℕ) → Option (List ℕ) → ℕ → Type 0
-ConvertsReader left form held_old held_new dropped = IfSome left (λ file. (bytes : List ℕ) × Converts file form bytes dropped × Appends held_old held_new bytes)
+ConvertsReader left form held_old held_new dropped = IfSome left (λ file. (bytes : List ℕ) × Converts file form bytes dropped × Keeps file form bytes dropped × Appends held_old held_new bytes)
 
--- the reader returned some bytes, as many as were counted, and what they are converted to was written; this also holds
--- if its bytes aren't known
+-- the reader returned some bytes, as many as were counted, and what they are converted to was written and keeps as much;
+-- this also holds if its bytes aren't known
 abbrev pub ConvertsGiven : {R : Type 0} → (R → Option (List ℕ)) → Inlet R → Inlet R → Form → Option (List ℕ) → Option (List ℕ) → ℕ → Type 0
-ConvertsGiven left old new form held_old held_new dropped = (read : List ℕ) × (bytes : List ℕ) × Reads left old new read × Converts read form bytes dropped × Appends held_old held_new bytes
+ConvertsGiven left old new form held_old held_new dropped = (read : List ℕ) × (bytes : List ℕ) × Reads left old new read × Converts read form bytes dropped × Keeps read form bytes dropped × Appends held_old held_new bytes
 
 -- a prefix of what any file with these bytes around its sound is converted to was written
 abbrev pub ConvertsPrefix : Option (List ℕ) → Surroundings → Form → Option (List ℕ) → Option (List ℕ) → Type 0

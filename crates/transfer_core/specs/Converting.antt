@@ -4,6 +4,7 @@ use Rattle.std.specs.Option.{ok_or}
 use Rattle.chunk_core.specs.Steps.{◌>>=◌}
 use Rattle.dsd_bits.specs.Contents.{Content, described}
 use Rattle.form_core.specs.declared.form.Form.{Form}
+use Rattle.form_core.specs.declared.form.Form.TheVariants.{Dsdiff, Dsf, Dsf8}
 use Rattle.form_core.specs.Forms.{HoldsAs, dropped_in, text_in}
 use Rattle.form_core.specs.Opening.{opened_of}
 use Rattle.transfer_core.specs.declared.converting.Converted.{Converted}
@@ -38,6 +39,31 @@ pub record KeepsSound (file : List ℕ) (form : Form) (bytes : List ℕ) : Type 
 -- the same for what was returned
 abbrev pub IsKept : List ℕ → Form → Converted → Type 0
 IsKept file form made = KeepsSound file form made.bytes.items
+
+-- the second recording is the first but for what a file of the form doesn't store: the layout in a DSDIFF file, the
+-- channels' IDs in a DSF file
+abbrev pub AreSameIn : Form → Content → Content → Type 0
+AreSameIn Dsdiff before after = after ≡ record before { layout = after.layout }
+AreSameIn Dsf before after = after ≡ record before { ids = after.ids }
+AreSameIn Dsf8 before after = after ≡ record before { ids = after.ids }
+
+-- the bytes are a file of the form with the recording of a file, but for what the form doesn't store
+pub record KeepsAll (file : List ℕ) (form : Form) (bytes : List ℕ) : Type 0 where
+  pub source : Form
+  pub before : Content
+  pub after : Content
+  pub file_holds : HoldsAs file source before
+  pub bytes_hold : HoldsAs bytes form after
+  pub same : AreSameIn form before after
+
+-- the same for what was returned, if it says that no part was dropped
+abbrev pub IsWhole : List ℕ → Form → Converted → Type 0
+IsWhole file form made = made.dropped ≡ 0 → KeepsAll file form made.bytes.items
+
+-- the bytes keep the sound of a file, and all of its recording if no part was dropped
+pub record Keeps (file : List ℕ) (form : Form) (bytes : List ℕ) (dropped : ℕ) : Type 0 where
+  pub sound : KeepsSound file form bytes
+  pub whole : dropped ≡ 0 → KeepsAll file form bytes
 
 -- the returned bytes, and the number of parts of the recording that are not in them
 abbrev pub contents : Converted → List ℕ × ℕ

@@ -46,11 +46,12 @@ LagsLittle left inlet_old inlet_new project range contents old new = KeepsUp (le
 -- ---- what an inlet's file is converted to
 
 -- what the inlet's file is converted to was written, if it is known, and `dropped` parts of its recording are not in
--- that
+-- that; it keeps the sound, and all of the recording if none was dropped
 abbrev pub ConvertsAll : {R W : Type 0} → (R → Option (List ℕ)) → Inlet R → Form → (W → Option (List ℕ)) → Outlet W → Outlet W → ℕ → Type 0
 ConvertsAll left inlet form contents old new dropped = ConvertsReader (left_in left inlet) form (contents (outlet_writer old)) (contents (outlet_writer new)) dropped
 
--- some bytes were read, and what they are converted to was written; this also holds if the inlet's bytes aren't known
+-- some bytes were read, and what they are converted to was written and keeps as much; this also holds if the inlet's
+-- bytes aren't known
 abbrev pub Rewrites : {R W : Type 0} → (R → Option (List ℕ)) → Inlet R → Inlet R → Form → (W → Option (List ℕ)) → Outlet W → Outlet W → ℕ → Type 0
 Rewrites left inlet_old inlet_new form contents old new dropped = ConvertsGiven left inlet_old inlet_new form (contents (outlet_writer old)) (contents (outlet_writer new)) dropped
 

@@ -8,10 +8,11 @@ ghost use Rattle.sound_core.specs.Outlines.{AreStated, around_of};
 ghost use Rattle.form_core.specs.Parts.{FitsIn};
 ghost use Rattle.form_core.specs.Steps.{GivesUnless};
 ghost use Rattle.transfer_core.specs.Conversions.{ConversionApplies};
-ghost use Rattle.transfer_core.specs.Converting.{IsConverted, IsKept, contents, converted_of};
+ghost use Rattle.transfer_core.specs.Converting.{IsConverted, IsKept, IsWhole, contents, converted_of};
 ghost use Rattle.transfer_core.specs.Ends.{AreSpent, ConvertsAll, Rewrites, StartsFile, WritesNothing, left_in};
 ghost use Rattle.request_core.specs.Faults.{as_stream};
 
+use crate::laws::converted_is_kept;
 use chunk_core::{Inlet, Outlet};
 use form_core::{Form, dropped_in, ends_in, interleaving_in, read_any, write_in, written_in_parts};
 use request_core::Fault;
@@ -29,8 +30,9 @@ pub struct Converted {
     pub dropped: u64,
 }
 
-/// The recording of a DSDIFF or DSF file as a file of the form, with every bit of every channel, at the same rate. A
-/// file that already has the form is written again.
+/// The recording of a DSDIFF or DSF file as a file of the form, with every bit of every channel, at the same rate. If no
+/// part is dropped, all of the recording is in it, but for the layout in a DSDIFF file and the channels' IDs in a DSF
+/// file. A file that already has the form is written again.
 ///
 /// Refusals, in this order: `FileUnread`; `NotWholeBytes` if `form` is DSDIFF and the number of bits of each channel
 /// isn't a multiple of 8. Out of memory is always `Memory`.
@@ -40,11 +42,17 @@ pub fn convert(alloc: Global, file: &[u8], form: Form) -> Result<Converted, Faul
     ensures found { IfOk result (IsConverted file.now form) }
     // It holds the same sound again.
     ensures kept { IfOk result (IsKept file.now form) }
+    // If no part was dropped, it holds the same recording again, but for what its form doesn't store.
+    ensures whole { IfOk result (IsWhole file.now form) }
     // The answer or the fault is what reading in order ends with, unless memory runs out.
     ensures exact { GivesUnless Fault.Memory contents result (converted_of file.now form) }
 {
+    converted_is_kept();
     let opened = read_any(alloc, file)?;
+    form_core::has_shape(&opened.recording);
+    form_core::fields_fit(&opened.recording);
     let bytes = write_in(alloc, &opened.recording, form)?;
+    let _ = bytes.len();
     let dropped = dropped_in(opened.recording.description(), form);
     Ok(Converted { bytes, dropped })
 }
@@ -56,9 +64,10 @@ pub fn convert(alloc: Global, file: &[u8], form: Form) -> Result<Converted, Faul
 ///
 /// Refusals: `NotWholeBytes` if `form` is DSDIFF and the number of bits of each channel isn't a multiple of 8, before
 /// the first read and the first write; `FileRefused` if the file is no sound in the outline, for example because it was
-/// changed since; `ReadFailed`, `WriteFailed`, `Memory`; `TurnLimit` after `2^40` reads, or at once if the inlet had
-/// counted `2^63` reads or bytes, or inlet or outlet as many failures as they can. There are never more reads, whatever
-/// is returned. What was written then is a prefix of what a file of the outline is converted to.
+/// changed since; `ReadFailed`, `WriteFailed`; `Memory`, also if there are more than `2^62` bytes around the sound of
+/// the new file; `TurnLimit` after `2^40` reads, or at once if the inlet had counted `2^63` reads or bytes, or inlet or
+/// outlet as many failures as they can. There are never more reads, whatever is returned. What was written then is a
+/// prefix of what a file of the outline is converted to.
 pub fn convert_stream<R: Read, W: Write>(
     alloc: Global,
     outline: &Outline,
@@ -67,7 +76,8 @@ pub fn convert_stream<R: Read, W: Write>(
     outlet: &mut Outlet<W>,
 ) -> Result<u64, Fault>
     requires reported { AreStated (around_of outline.now) }
-    // What the reader's file is converted to was written, however its bytes are split into reads.
+    // What the reader's file is converted to was written, and keeps its sound, and all of it if no part was dropped. This
+    // holds however its bytes are split into reads.
     ensures ok { IfOk result (ConvertsAll R.remaining inlet.old form W.contents outlet.old outlet.new) }
     // If the reader's bytes aren't known, the same holds of what was read, as many bytes as were counted.
     ensures any_reader { IfOk result (Rewrites R.remaining inlet.old inlet.new form W.contents outlet.old outlet.new) }
@@ -87,7 +97,13 @@ pub fn convert_stream<R: Read, W: Write>(
     ensures unwritten { IsErrOf result Fault.NotWholeBytes → WritesNothing outlet.old outlet.new }
 {
     written_in_parts();
+    converted_is_kept();
+    form_core::has_shape(&outline.recording);
+    form_core::fields_fit(&outline.recording);
     let ends = ends_in(alloc, &outline.recording, form, outline.sound.count)?;
+    if ends.head.len() + ends.tail.len() > 1 << 62 {
+        return Err(Fault::Memory);
+    }
     let target = NewFile {
         interleaving: interleaving_in(form),
         head: &ends.head,

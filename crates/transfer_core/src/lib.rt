@@ -5,9 +5,11 @@
 //! The words of the contracts:
 //!
 //! - `Converts file form bytes dropped` says that these bytes are the file of the form that is written for the file's
-//!   recording (`specs/Converting.antt`). `Plays project file bytes` says that these bytes are the WAVE text of the
-//!   samples of the file's recording (`specs/Playing.antt`). `specs/Conversions.antt` and `specs/Streaming.antt` say
-//!   the same of a reader and a writer, and `specs/Ends.antt` of the inlet and the outlet of a call.
+//!   recording, `KeepsSound file form bytes` that they hold its sound, and `KeepsAll file form bytes` that they hold all
+//!   of it but what the form doesn't store (`specs/Converting.antt`). `Plays project file bytes` says that these bytes
+//!   are the WAVE text of the samples of the file's recording (`specs/Playing.antt`). `specs/Conversions.antt` and
+//!   `specs/Streaming.antt` say the same of a reader and a writer, and `specs/Ends.antt` of the inlet and the outlet of
+//!   a call.
 //! - `IsUnreadBy decimator sound range place` says that a byte of the sound holds no bit that a frame of the range reads,
 //!   and `AreSameBut P file other` that two files are the same but for bytes at such places (`specs/Unread.antt`).
 //! - `converted_of` and `played_of` are the readings in the order of the refusals. Each ends with an answer or the first
@@ -30,7 +32,7 @@ mod spans;
 
 pub use converting::{Converted, convert, convert_stream};
 pub use frames::PlayedFrames;
-pub use laws::{sound_does_not_matter, unread_bytes_do_not_matter};
+pub use laws::{converted_is_kept, sound_does_not_matter, unread_bytes_do_not_matter};
 pub use player_core::FrameRange;
 pub use playing::{play, play_stream, whole_plays};
 pub use request_core::{Fault, SpanFault, splice_of, take_names};

@@ -1,4 +1,4 @@
-use Rattle.std.proofs.Common.{◌∙◌, ap}
+use Rattle.std.proofs.Common.{◌∙◌, ap, arith}
 use Rattle.dsd_bits.proofs.ExitLaws.{no_value}
 use Rattle.form_core.specs.Forms.{dropped_in}
 use Rattle.transfer_core.proofs.StreamLaws.{fault_is}
@@ -30,6 +30,12 @@ returns-in_err-bytes-clause-found c = no_value _ _ c.from_residual-in_err-bytes.
 pub returns-in_err-bytes-clause-kept : goal.returns-in_err-bytes-clause-kept
 returns-in_err-bytes-clause-kept c = no_value _ _ c.from_residual-in_err-bytes.result c.from_residual-in_err-bytes.ensures.1
 
+pub returns-in_err-opened-clause-whole : goal.returns-in_err-opened-clause-whole
+returns-in_err-opened-clause-whole c = no_value _ _ c.from_residual.result c.from_residual.ensures.1
+
+pub returns-in_err-bytes-clause-whole : goal.returns-in_err-bytes-clause-whole
+returns-in_err-bytes-clause-whole c = no_value _ _ c.from_residual-in_err-bytes.result c.from_residual-in_err-bytes.ensures.1
+
 pub returns-in_err-opened-clause-exact : goal.returns-in_err-opened-clause-exact
 returns-in_err-opened-clause-exact c =
     rw (fault_is c.from_residual.result _ c.from_residual.ensures.1) (file_unread c.args.file.now c.args.form c.in_err-opened.field-0.0 c.in_err-opened.ensures.exact)
@@ -46,6 +52,10 @@ returns-clause-found c = record {
   text = c.in_ok-bytes.ensures.text;
   dropped_is = c.dropped_in-dropped.ensures ∙ ap (dropped_in c.args.form) c.description.ensures;
 }
+
+pub returns-clause-whole : goal.returns-clause-whole
+unfolding returns-clause-found
+returns-clause-whole c = λ none. (c.converted_is_kept.ensures c.args.file.now c.args.form c.in_ok-bytes.bytes.items c.dropped_in-dropped.result (returns-clause-found c) c.has_shape.ensures c.fields_fit.ensures (omega arith)).whole none
 
 pub returns-clause-exact : goal.returns-clause-exact
 returns-clause-exact c = text_converted c.args.file.now c.args.form c.in_ok-opened.opened c.in_ok-opened.ensures.exact c.in_ok-bytes.bytes.items c.dropped_in-dropped.result c.in_ok-bytes.ensures.text (c.dropped_in-dropped.ensures ∙ ap (dropped_in c.args.form) c.description.ensures)

@@ -1,2 +1,3 @@
 pub mod DiskLaws
 pub mod FileLaws
+pub mod ZeroLaws

@@ -1,9 +1,9 @@
 //! Files under names.
 
-ghost use Rattle.std.specs.Prelude.{◌≡◌, [], Some, IfOk, OnOk, OnErr, IsTrue};
-ghost use Rattle.std.specs.Io.KnownBytes.{ReadConsumes};
+ghost use Rattle.std.specs.Prelude.{◌≡◌, [], Some, IfOk, OnOk, OnErr, IsTrue, length};
 ghost use Rattle.std.specs.Io.{ReadsAtMost};
 ghost use Rattle.folder_core.specs.Files.{IsGiven, IsGivenUp, KeepsOthers, View};
+ghost use Rattle.folder_core.specs.GappedFiles.{MovesOn};
 
 use std::io;
 use std::io::{Read, Write};
@@ -77,13 +77,13 @@ pub trait Folder {
         true
     }
 
-    /// One read of a file, for who looks at none of the bytes that come. So a folder whose bytes aren't known may pass
-    /// over them, and leave in the buffer what it held. Where they are known, it is a read as any other.
+    /// One read of a file, for who looks at none of the bytes that come. So a folder may pass over them. Nothing is known
+    /// of the bytes that the buffer then holds.
     ///
     /// Refusal: an error of any kind, of which no byte came.
     fn pass(&self, file: &mut Self::In, buffer: &mut [u8]) -> io::Result<usize>
         ensures bound { ReadsAtMost result buffer.new }
-        ensures bytes { ReadConsumes (Self.In.remaining file.old) (Self.In.remaining file.new) result buffer.new }
+        ensures bytes { MovesOn (Self.In.remaining file.old) (Self.In.remaining file.new) result (length buffer.new) }
     {
         file.read(buffer)
     }

@@ -1,9 +1,9 @@
 //! A file of a folder that is read except for some gaps.
 
-ghost use Rattle.std.specs.Prelude.{◌≡◌, ◌+◌, ◌<◌, ◌≤◌, ◌⊎◌, IfOk, IsFalse, IsTrue};
+ghost use Rattle.std.specs.Prelude.{◌≡◌, ◌+◌, ◌<◌, ◌≤◌, ◌⊎◌, IfOk, IsFalse, IsTrue, length};
 ghost use Rattle.std.specs.Io.{ReadsAtMost};
 ghost use Rattle.std.specs.Io.KnownBytes.{ReadConsumes};
-ghost use Rattle.folder_core.specs.GappedFiles.{IsMovedOn, LiesBeside, LiesInGap, LiesOutside, gapped_file, gapped_place, gaps_of};
+ghost use Rattle.folder_core.specs.GappedFiles.{HasSameGaps, IsMovedOn, LiesBeside, LiesInGap, LiesOutside, gapped_file, gapped_place, gaps_of, left_but_gaps};
 
 use crate::folder::Folder;
 use std::io;
@@ -27,8 +27,8 @@ pub struct Gaps {
     pub second: Gap,
 }
 
-/// A file of a folder that is read, for who looks at no byte of two gaps: these the folder passes over if it can. What
-/// is known of its bytes is known all the same.
+/// A file of a folder that is read, for who needs no byte of two gaps: these the folder passes over if it can, and they
+/// are read as zeros. Each other byte is read as it is.
 #[derive(Drop)]
 pub struct GappedFile<'a, F: Folder> {
     folder: &'a F,
@@ -54,29 +54,71 @@ impl<'a, F: Folder> GappedFile<'a, F> {
 }
 
 impl<F: Folder> Read for GappedFile<'_, F> {
-    ghost remaining = { λ g. F.In.remaining (gapped_file g) };
+    ghost remaining = { λ g. left_but_gaps F.In.remaining g };
 
     // Each read ends where a gap begins or ends, at the latest.
     fn read(&mut self, buffer: &mut [u8]) -> io::Result<usize>
         ensures bound { ReadsAtMost result buffer.new }
-        ensures bytes { ReadConsumes (F.In.remaining (gapped_file self.old)) (F.In.remaining (gapped_file self.new))
-            result buffer.new }
+        ensures bytes { ReadConsumes (left_but_gaps F.In.remaining self.old) (left_but_gaps F.In.remaining self.new) result
+            buffer.new }
         ensures gaps { gaps_of self.new ≡ gaps_of self.old }
         ensures place { IsMovedOn (gapped_place self.old) (gapped_place self.new) result }
         ensures part { IfOk result (λ count. LiesInGap (gaps_of self.old) (gapped_place self.old) count
             ⊎ LiesOutside (gaps_of self.old) (gapped_place self.old) count) }
     {
         let step = step_at(self.gaps, self.place, buffer.len());
-        let (prefix, _) = buffer.split_at_mut(step.size);
-        let got = if step.is_passed {
-            self.folder.pass(&mut self.file, prefix)
+        let (part, _) = buffer.split_at_mut(step.size);
+        if step.is_passed {
+            self.pass_gap(part)
         } else {
-            self.file.read(prefix)
-        };
-        if let Ok(count) = got {
-            self.place = self.place.saturating_add(count as u64);
+            self.read_outside(part)
         }
+    }
+}
+
+impl<F: Folder> GappedFile<'_, F> {
+    // Passes over bytes of a gap, which are read as zeros.
+    fn pass_gap(&mut self, buffer: &mut [u8]) -> io::Result<usize>
+        requires { LiesInGap (gaps_of self.old) (gapped_place self.old) (length buffer.old) }
+        ensures bound { ReadsAtMost result buffer.new }
+        ensures long { length buffer.new ≡ length buffer.old }
+        ensures bytes { ReadConsumes (left_but_gaps F.In.remaining self.old) (left_but_gaps F.In.remaining self.new) result
+            buffer.new }
+        ensures gaps { gaps_of self.new ≡ gaps_of self.old }
+        ensures place { IsMovedOn (gapped_place self.old) (gapped_place self.new) result }
+    {
+        let got = self.folder.pass(&mut self.file, buffer);
+        buffer.fill(0);
+        self.place = moved_on(self.gaps, self.place, &got);
         got
+    }
+
+    // Reads bytes that lie in no gap.
+    fn read_outside(&mut self, buffer: &mut [u8]) -> io::Result<usize>
+        requires { LiesOutside (gaps_of self.old) (gapped_place self.old) (length buffer.old) }
+        ensures bound { ReadsAtMost result buffer.new }
+        ensures long { length buffer.new ≡ length buffer.old }
+        ensures bytes { ReadConsumes (left_but_gaps F.In.remaining self.old) (left_but_gaps F.In.remaining self.new) result
+            buffer.new }
+        ensures gaps { gaps_of self.new ≡ gaps_of self.old }
+        ensures place { IsMovedOn (gapped_place self.old) (gapped_place self.new) result }
+    {
+        let got = self.file.read(buffer);
+        self.place = moved_on(self.gaps, self.place, &got);
+        got
+    }
+}
+
+// The place after a read that came to this. The greatest place stands for those after it, too: no gap reaches it.
+fn moved_on(gaps: Gaps, place: u64, got: &io::Result<usize>) -> u64
+    ensures place { IsMovedOn place result got.now }
+    ensures same { IfOk got.now (λ count. HasSameGaps gaps (place + count) result) }
+{
+    // Both ends are known to be numbers of 64 bits by this.
+    let _last = gaps.first.stop.max(gaps.second.stop);
+    match got {
+        Ok(count) => place.saturating_add(*count as u64),
+        Err(_) => place,
     }
 }
 

@@ -21,7 +21,7 @@ use Rattle.folder_core.specs.declared.fault.FileFault.{FileFault}
 use Rattle.folder_core.specs.declared.fault.FileFault.TheVariants as files
 use Rattle.sound_core.specs.Outlines.{around_of, with_sound}
 use Rattle.sound_core.specs.declared.outline.Outline.{Outline}
-use Rattle.transfer_core.specs.Converting.{Converts, converted_of}
+use Rattle.transfer_core.specs.Converting.{Converts, Keeps, converted_of}
 use Rattle.transfer_core.specs.Conversions as streams
 use Rattle.request_core.specs.declared.fault.Fault.TheVariants.{Memory, NotWholeBytes}
 use Rattle.transfer_commands.specs.declared.fault.CommandFault.{CommandFault}
@@ -117,9 +117,9 @@ module _ (form : Form) (input output : List ℕ) (old new : View) (others : Keep
       → ConvertsSome form dropped → ConvertsFile form input output old new dropped
   converts_all left empty written dropped given is_empty stands converts some = by old.is_known refl
     where
-      all : (file : List ℕ) (w : Option (List ℕ)) → streams.ConvertsReader (Some file) form (Some []) w dropped → (bytes : List ℕ) × Converts file form bytes dropped × (w ≡ Some bytes)
-      all file None h = absurd h.2
-      all file (Some w) h = (h.0, h.1, ap Some h.2)
+      all : (file : List ℕ) (w : Option (List ℕ)) → streams.ConvertsReader (Some file) form (Some []) w dropped → (bytes : List ℕ) × Converts file form bytes dropped × Keeps file form bytes dropped × (w ≡ Some bytes)
+      all file None h = absurd h.3
+      all file (Some w) h = (h.0, h.1, h.2, ap Some h.3)
 
       by : (reported : Bool) → old.is_known ≡ reported → ConvertsFile form input output old new dropped
       by true is =
@@ -129,9 +129,11 @@ module _ (form : Form) (input output : List ℕ) (old new : View) (others : Keep
             file = g.0;
             bytes = made.0;
             file_read = λ reported. g.1;
-            output_put = λ reported. stands is ∙ made.2;
+            output_put = λ reported. stands is ∙ made.3;
             others = others;
             converts = made.1;
+            kept = made.2.sound;
+            whole = made.2.whole;
           }
       by false is = record {
         file = some.0;
@@ -140,6 +142,8 @@ module _ (form : Form) (input output : List ℕ) (old new : View) (others : Keep
         output_put = unknown_view new.is_known (others.same_known ∙ is);
         others = others;
         converts = some.2;
+        kept = some.3.sound;
+        whole = some.3.whole;
       }
 
   module _ (outline : Outline) (found : OutlinesRead input old outline) (in_parts : FormsWrittenInParts) (fits : FitsIn form outline.sound.count) where

@@ -7,6 +7,7 @@ pub mod OpeningLaws
 pub mod ReadLaws
 pub mod StreamLaws
 pub mod SumLaws
+pub mod SameSumLaws
 pub mod ReportLaws
 pub mod PartLaws
 pub mod GapLaws

@@ -5,7 +5,7 @@ use Rattle.request_core.specs.declared.fault.Fault.TheVariants.{Memory}
 use Rattle.sound_core.specs.Outlines.{around_of}
 use Rattle.sound_core.specs.declared.outline.Outline.{Outline}
 use Rattle.transfer_core.specs.Conversions.{ConversionApplies, ConvertsPrefix, ConvertsReader}
-use Rattle.transfer_core.specs.Converting.{Converts, converted_of}
+use Rattle.transfer_core.specs.Converting.{Converts, Keeps, KeepsAll, KeepsSound, converted_of}
 use Rattle.form_core.specs.Steps.{FailsUnless}
 use Rattle.form_core.specs.declared.form.Form.{Form}
 use Rattle.folder_core.specs.Files.{HadNone, IsPut, IsPutInPart, IsReadOf, KeepsOthers, View}
@@ -14,7 +14,7 @@ use Rattle.transfer_commands.specs.declared.fault.CommandFault.{CommandFault}
 use Rattle.transfer_commands.specs.declared.fault.CommandFault.TheVariants.{Call, ReadFailed, WriteFailed}
 
 -- the output now holds what bytes that were read of a recording's file are converted to, which leaves out `dropped`
--- parts of it; no other file changed
+-- parts of it; it keeps the sound, and all of the recording if it leaves out none; no other file changed
 pub record ConvertsFile (form : Form) (file_name output_name : List ℕ) (old new : View) (dropped : ℕ) : Type 0 where
   pub file : List ℕ
   pub bytes : List ℕ
@@ -22,6 +22,8 @@ pub record ConvertsFile (form : Form) (file_name output_name : List ℕ) (old ne
   pub output_put : IsPut new output_name bytes
   pub others : KeepsOthers output_name old new
   pub converts : Converts file form bytes dropped
+  pub kept : KeepsSound file form bytes
+  pub whole : dropped ≡ 0 → KeepsAll file form bytes
 
 -- the output is unchanged, or no old file had to be kept
 abbrev pub KeepsOld : List ℕ → View → View → Type 0
@@ -68,9 +70,9 @@ abbrev pub OutlinedComesTo : Outline → Form → List ℕ → List ℕ → View
 OutlinedComesTo outline form input output old new came = OutlinesRead input old outline → ConvertComesTo form input output old new came
 
 -- ---- a reader's file
--- some bytes are converted to the form, and this many parts of them have no place in it
+-- some bytes are converted to the form and kept, and this many parts of them have no place in it
 abbrev pub ConvertsSome : Form → ℕ → Type 0
-ConvertsSome form dropped = (file : List ℕ) × (bytes : List ℕ) × Converts file form bytes dropped
+ConvertsSome form dropped = (file : List ℕ) × (bytes : List ℕ) × Converts file form bytes dropped × Keeps file form bytes dropped
 
 -- how converting a reader's file with this outline to a writer ends: its conversion was written; or a fault is so, and
 -- what was written is a prefix

@@ -5,9 +5,11 @@ use Rattle.sha2.specs.declared.Sha256.{Sha256}
 use Rattle.dsd_bits.specs.Channels.{count_of}
 use Rattle.dsd_bits.specs.Contents.{Content}
 use Rattle.dsd_bits.specs.Packing.{packed}
+use Rattle.form_core.specs.declared.form.Form.{Form}
 use Rattle.form_core.specs.Forms.{HoldsSome}
 use Rattle.request_core.specs.declared.fault.Fault.TheVariants.{Memory}
 use Rattle.folder_core.specs.Files.{IsReadOf, View}
+use Rattle.transfer_core.specs.Converting.{KeepsSound}
 use Rattle.sound_core.specs.declared.outline.Outline.{Outline}
 use Rattle.transfer_commands.specs.Digesting.{HoldEach}
 use Rattle.transfer_commands.specs.Reporting.{IsUnreported}
@@ -36,6 +38,16 @@ pub record AreSumsIn (file : List ℕ) (sums : Sums) : Type 0 where
   pub recording : Content
   pub holds : HoldsSome file recording
   pub are_sums : AreSumsOf recording sums
+
+-- sums say the same
+pub record AreSameSums (a b : Sums) : Type 0 where
+  pub rate : a.rate ≡ b.rate
+  pub count : a.count ≡ b.count
+  pub digests : a.digests.items ≡ b.digests.items
+
+-- law: sums of a file, and of bytes that keep its sound, say the same
+abbrev pub KeptSoundHasSameSums : Type 0
+KeptSoundHasSameSums = (file : List ℕ) (form : Form) (bytes : List ℕ) (a b : Sums) → KeepsSound file form bytes → AreSumsIn file a → AreSumsIn bytes b → AreSameSums a b
 
 -- bytes that were read of a name have these sums
 pub record SumsRead (file_name : List ℕ) (old : View) (sums : Sums) : Type 0 where

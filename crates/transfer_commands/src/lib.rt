@@ -37,6 +37,7 @@ mod excerpts;
 mod fault;
 mod gaps;
 mod holding;
+mod laws;
 mod opened;
 mod outlining;
 mod parts;
@@ -47,6 +48,7 @@ mod summing;
 
 pub use converting::convert_file;
 pub use fault::CommandFault;
+pub use laws::kept_sound_has_same_sums;
 pub use parts::{PartFault, play_part_file};
 pub use playing::play_file;
 pub use reporting::{Reported, open_file};

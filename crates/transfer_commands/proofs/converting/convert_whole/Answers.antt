@@ -13,6 +13,8 @@ returns g c = λ input read. record {
   output_put = subst (IsPut (g.F.Folder.view c.write_file.new.folder) c.args.output.now) c.deref.ensures.value c.in_ok-write_file.ensures.bytes;
   others = c.in_ok-write_file.ensures.others;
   converts = c.in_ok-converted.ensures.found;
+  kept = c.in_ok-converted.ensures.kept;
+  whole = c.in_ok-converted.ensures.whole;
 }
 
 pub returns-in_err-write_file : goal.returns-in_err-write_file

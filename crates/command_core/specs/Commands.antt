@@ -102,10 +102,10 @@ IsLeastIfAccepted project takes master (verdicts.Accepted cost) = IsLeastAt proj
 IsLeastIfAccepted project takes master (verdicts.Rejected reason) = Unit {0}
 
 -- a master is accepted by a certificate at this cost, which is that over its windows, or this reason comes first
--- against it
+-- against it, and there is no cost at which it is accepted
 abbrev pub Judges : List ℕ → List (List ℕ) → List ℕ → List ℕ → Verdict → Type 0
 Judges project takes master cert (verdicts.Accepted cost) = Accepts project takes master cert cost × CostsWindows project takes master cost
-Judges project takes master cert (verdicts.Rejected reason) = RejectsFirst project takes master cert reason
+Judges project takes master cert (verdicts.Rejected reason) = RejectsFirst project takes master cert reason × ((cost : ℕ) → Accepts project takes master cert cost → ⊥)
 
 -- the same for whatever certificate was read, if its bytes are known
 abbrev pub JudgesBy : List ℕ → List (List ℕ) → List ℕ → Option (List ℕ) → Verdict → Type 0

@@ -94,8 +94,8 @@ fn push_digest(text: &mut String, digest: &[u8; 32]) -> Result<(), AllocError>
     Ok(())
 }
 
-// Appends the two digits of a byte.
-fn push_byte(text: &mut String, byte: u8) -> Result<(), AllocError>
+/// Appends the two digits of a byte.
+pub(crate) fn push_byte(text: &mut String, byte: u8) -> Result<(), AllocError>
     ensures { OnOk result (string_bytes text.new ≡ string_bytes text.old ++ hexadecimal byte) }
 {
     write!(text, "{byte:02x}")

@@ -13,19 +13,7 @@ use Rattle.transfer_commands.specs.declared.fault.CommandFault.TheVariants as fa
 use Rattle.request_core.specs.declared.fault.Fault.{Fault}
 use Rattle.request_core.specs.declared.fault.Fault.TheVariants.{Memory}
 use Rattle.judge_core.specs.declared.verdict.Verdict.{Verdict}
-use Rattle.command_core.specs.Commands.{CheckComesTo, CostsAtLeast, Cut, CutRefused, CutsFile, EditComesTo, EditsFiles, IsLeastIfAccepted, IsNoCommand, JudgesBy, Judges}
-use Rattle.command_core.specs.Outcomes.{of_words}
-use Rattle.words_core.specs.declared.fault.WordsFault.{WordsFault}
-use Rattle.words_core.specs.declared.fault.WordsFault.TheVariants as words
-
--- what is printed for words that ask for nothing
-pub no_command : (fault : WordsFault) → IsNoCommand (of_words fault)
-no_command words.NoCommand = tt
-no_command (words.UnknownCommand word) = tt
-no_command (words.WrongUsage command misfit) = tt
-no_command (words.NoText word) = tt
-no_command (words.UnknownForm command form) = tt
-no_command words.Memory = tt
+use Rattle.command_core.specs.Commands.{CheckComesTo, CostsAtLeast, Cut, CutRefused, CutsFile, EditComesTo, EditsFiles, IsLeastIfAccepted, JudgesBy, Judges}
 
 -- a master is cut, and could not be written
 pub cut_unwritten : (cut : Cut) (old new : View) (project master : List ℕ) (takes : List (List ℕ)) (total : ℕ) (fault : FileFault)

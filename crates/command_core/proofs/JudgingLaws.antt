@@ -2,7 +2,7 @@
 use Rattle.std.proofs.Common.{◌≡◌, ℕ, Err, List, [], IfOk, IfSome, Option, None, Result, Some, Ok, refl, subst}
 use Rattle.std.specs.Io.Buffered.{reader_buffer, reader_capacity, reader_inner, reader_remaining}
 use Rattle.std.specs.declared.io.buffered.BufReader.{BufReader}
-use Rattle.judge_core.specs.Accepting.{Accepts, CostsLeast, CostsWindows, IfMasterAccepted, IfMasterRejected, IsLeastMaster, IsMaster, RejectsFirst}
+use Rattle.judge_core.specs.Accepting.{Accepts, CostsLeast, CostsWindows, IfMasterAccepted, IfMasterRejected, IsLeastMaster, IsMaster, ReadsAccepted, RejectsFirst}
 use Rattle.request_core.specs.declared.fault.Fault.{Fault}
 use Rattle.judge_core.specs.declared.verdict.Verdict.{Verdict}
 use Rattle.judge_core.specs.declared.verdict.Verdict.TheVariants.{Accepted, Rejected}
@@ -19,11 +19,11 @@ known_by project files master buffered left e v h = subst (λ o. JudgesBy projec
 
 -- a verdict is that by whatever certificate is left to read
 pub judges_by : (project : List ℕ) (files : List (List ℕ)) (master : List ℕ) (left : Option (List ℕ)) (r : Result Verdict Fault)
-    → IfMasterAccepted r (λ cost. IfSome left (λ cert. Accepts project files master cert cost)) → IfMasterAccepted r (λ cost. IfSome left (λ _. CostsWindows project files master cost)) → IfMasterRejected r (λ reason. IfSome left (λ cert. RejectsFirst project files master cert reason)) → IfOk r (JudgesBy project files master left)
-judges_by project files master None (Ok verdict) accepts windows rejects = tt
-judges_by project files master (Some cert) (Ok (Accepted cost)) accepts windows rejects = (accepts, windows)
-judges_by project files master (Some cert) (Ok (Rejected reason)) accepts windows rejects = rejects
-judges_by project files master left (Err fault) accepts windows rejects = tt
+    → IfMasterAccepted r (λ cost. IfSome left (λ cert. Accepts project files master cert cost)) → IfMasterAccepted r (λ cost. IfSome left (λ _. CostsWindows project files master cost)) → IfMasterRejected r (λ reason. IfSome left (λ cert. RejectsFirst project files master cert reason)) → ((cost : ℕ) → IfSome left (λ cert. Accepts project files master cert cost → ReadsAccepted r cost)) → IfOk r (JudgesBy project files master left)
+judges_by project files master None (Ok verdict) accepts windows rejects only = tt
+judges_by project files master (Some cert) (Ok (Accepted cost)) accepts windows rejects only = (accepts, windows)
+judges_by project files master (Some cert) (Ok (Rejected reason)) accepts windows rejects only = (rejects, only)
+judges_by project files master left (Err fault) accepts windows rejects only = tt
 
 -- what is accepted is least
 pub least_by : (project : List ℕ) (files : List (List ℕ)) (master : List ℕ) (r : Result Verdict Fault)

@@ -1,7 +1,8 @@
 pub mod CommandLaws
-pub mod EndingLaws
+pub mod HostLaws
 pub mod JudgingLaws
 pub mod MasterLaws
 pub mod SourceLaws
+pub mod SpellingLaws
 pub mod SumLaws
 pub mod WritingLaws

@@ -1,9 +1,10 @@
--- The worst of statuses, one by one.
+-- Statuses one by one, and what is printed between them.
 use Rattle.std.proofs.Common.{◌≡◌, ◌∙◌, ◌+◌, ◌<◌, ℕ, List, [], ◌∷◌, ◌++◌, ap, get_or, length, map, refl, subst, sym, take}
 use Rattle.std.proofs.lemmas.List.{take_more}
 use Rattle.std.proofs.lemmas.List.Sums.{fold_push}
-use Rattle.cut_core.proofs.ZipLaws.{zip_more}
-use Rattle.command_core.specs.SumEndings.{HaveWorst, worse}
+use Rattle.std.proofs.KnownBytes.{Appends-nil, Appends-trans}
+use Rattle.command_core.specs.Hosts.{PrintsSome, State}
+use Rattle.command_core.specs.SumEndings.{AllCome, HaveWorst, worse}
 use Rattle.command_core.specs.declared.sum_status.SumStatus.{SumStatus}
 use Rattle.command_core.specs.declared.sum_status.SumStatus.TheVariants.{Done}
 
@@ -12,20 +13,37 @@ map_more : {A B : Type 0} (f : A → B) (xs : List A) (x : A) → map f (xs ++ x
 map_more f [] x = refl
 map_more f (y ∷ ys) x = ap (λ l. f y ∷ l) (map_more f ys x)
 
-module _ {A B : Type 0} (R : B → SumStatus → Type 0) (f : A → B) where
+-- one more comes to a status
+come_more : {A : Type 0} (R : A → State → State → SumStatus → Type 0) (xs : List A) (statuses : List SumStatus) (x : A) (status : SumStatus) (old between new : State)
+    → AllCome R xs statuses old between → R x between new status → AllCome R (xs ++ x ∷ []) (statuses ++ status ∷ []) old new
+come_more R [] [] x status old between new all comes = (new, subst (λ (s : State). R x s new status) all comes, refl)
+come_more R [] (s ∷ ss) x status old between new all comes = absurd all
+come_more R (y ∷ xs) [] x status old between new all comes = absurd all
+come_more R (y ∷ xs) (s ∷ ss) x status old between new all comes = (all.0, all.1, come_more R xs ss x status all.0 between new all.2 comes)
+
+module _ {A B : Type 0} (R : B → State → State → SumStatus → Type 0) (f : A → B) where
   -- none has a status yet
-  pub none_yet : HaveWorst R (map f []) Done
-  none_yet = record { statuses = []; each = tt; is_worst = refl }
+  pub none_yet : (state : State) → HaveWorst R (map f []) state state Done
+  none_yet state = record { statuses = []; each = refl; is_worst = refl }
 
   -- one more has
-  pub one_more : (xs : List A) (x : A) (worst status new : SumStatus) → HaveWorst R (map f xs) worst → R (f x) status → new ≡ worse status worst → HaveWorst R (map f (xs ++ x ∷ [])) new
-  one_more xs x worst status new so_far comes is = subst (λ l. HaveWorst R l new) (sym (map_more f xs x)) (record {
+  pub one_more : (xs : List A) (x : A) (old between next : State) (worst status new : SumStatus) → HaveWorst R (map f xs) old between worst → R (f x) between next status → new ≡ worse status worst → HaveWorst R (map f (xs ++ x ∷ [])) old next new
+  one_more xs x old between next worst status new so_far comes is = subst (λ l. HaveWorst R l old next new) (sym (map_more f xs x)) (record {
     statuses = so_far.statuses ++ status ∷ [];
-    each = zip_more R (map f xs) so_far.statuses (f x) status so_far.each comes;
+    each = come_more R (map f xs) so_far.statuses (f x) status old between next so_far.each comes;
     is_worst = is ∙ ap (worse status) so_far.is_worst ∙ sym (fold_push (λ worst status. worse status worst) Done so_far.statuses status);
   })
 
   -- the next of a list has
-  pub next_has : (xs : List A) (i : ℕ) (d : A) (worst status new : SumStatus) → i < length xs → HaveWorst R (map f (take i xs)) worst → R (f (get_or xs i d)) status → new ≡ worse status worst → HaveWorst R (map f (take (i + 1) xs)) new
-  next_has xs i d worst status new within so_far comes is =
-      subst (λ l. HaveWorst R (map f l) new) (sym (take_more xs i d within)) (one_more (take i xs) (get_or xs i d) worst status new so_far comes is)
+  pub next_has : (xs : List A) (i : ℕ) (d : A) (old between next : State) (worst status new : SumStatus) → i < length xs → HaveWorst R (map f (take i xs)) old between worst → R (f (get_or xs i d)) between next status → new ≡ worse status worst → HaveWorst R (map f (take (i + 1) xs)) old next new
+  next_has xs i d old between next worst status new within so_far comes is =
+      subst (λ l. HaveWorst R (map f l) old next new) (sym (take_more xs i d within)) (one_more (take i xs) (get_or xs i d) old between next worst status new so_far comes is)
+
+-- ---- what is printed
+-- nothing
+pub prints_none : (old new : State) → new ≡ old → PrintsSome old new
+prints_none old new same = subst (λ (s : State). PrintsSome old s) (sym same) ([], (refl, Appends-nil old.printed))
+
+-- some text, and then some more
+pub prints_more : (old between new : State) → PrintsSome old between → PrintsSome between new → PrintsSome old new
+prints_more old between new first second = (first.0 ++ second.0, (second.1.0 ∙ first.1.0, Appends-trans old.printed between.printed new.printed first.0 second.0 first.1.1 second.1.1))

@@ -1,6 +1,7 @@
 -- What a command does to a folder, by the names that it gets. What it says of bytes holds of some that were read, in
 -- any folder, and of those that openings of the names give, if the folder's bytes are known.
-use Rattle.std.specs.Prelude.{◌≡◌, ◌≢◌, ℕ, List, IfSome, IsTrue, Option, None, Some, ◌⊎◌, Result, Ok, Err}
+use Rattle.std.specs.Prelude.{◌≡◌, ◌≢◌, ℕ, List, IfSome, IsTrue, Option, None, Some, ◌⊎◌, Result, Ok, Err, map}
+use Rattle.std.specs.Borrow.{Bor}
 use Rattle.request_core.specs.declared.fault.Fault as calls
 use Rattle.request_core.specs.declared.fault.Fault.TheVariants.{Memory}
 use Rattle.form_core.specs.declared.form.Form.{Form}
@@ -19,11 +20,13 @@ use Rattle.transfer_commands.specs.declared.fault.CommandFault.{CommandFault}
 use Rattle.transfer_commands.specs.declared.fault.CommandFault.TheVariants as faults
 use Rattle.transfer_commands.specs.PartPlaying.{PlayPartComesTo}
 use Rattle.transfer_commands.specs.declared.parts.PartFault.{PartFault}
-use Rattle.command_core.specs.Outcomes.{outcome_of, part_outcome_of, verdict_of}
+use Rattle.command_core.specs.Hosts.{State}
+use Rattle.command_core.specs.Outcomes.{of_words, outcome_of, part_outcome_of, verdict_of}
 use Rattle.command_core.specs.SumEndings.{EndsSums}
 use Rattle.command_core.specs.declared.outcome.Outcome.{Outcome}
-use Rattle.command_core.specs.declared.outcome.Outcome.TheVariants.{Played, Converted, Edited, Info, Summed, Fault, WrongWords, UnknownFormName}
+use Rattle.command_core.specs.declared.outcome.Outcome.TheVariants.{Played, Converted, Edited, Info, Summed, Fault}
 use Rattle.command_core.specs.declared.sum_status.SumStatus.{SumStatus}
+use Rattle.words_core.specs.declared.fault.WordsFault.{WordsFault}
 use Rattle.words_core.specs.declared.task.Task.{Task}
 use Rattle.words_core.specs.declared.task.Task.TheVariants as tasks
 
@@ -102,10 +105,10 @@ IsLeastIfAccepted project takes master (verdicts.Accepted cost) = IsLeastAt proj
 IsLeastIfAccepted project takes master (verdicts.Rejected reason) = Unit {0}
 
 -- a master is accepted by a certificate at this cost, which is that over its windows, or this reason comes first
--- against it
+-- against it, and there is no cost at which it is accepted
 abbrev pub Judges : List ℕ → List (List ℕ) → List ℕ → List ℕ → Verdict → Type 0
 Judges project takes master cert (verdicts.Accepted cost) = Accepts project takes master cert cost × CostsWindows project takes master cost
-Judges project takes master cert (verdicts.Rejected reason) = RejectsFirst project takes master cert reason
+Judges project takes master cert (verdicts.Rejected reason) = RejectsFirst project takes master cert reason × ((cost : ℕ) → Accepts project takes master cert cost → ⊥)
 
 -- the same for whatever certificate was read, if its bytes are known
 abbrev pub JudgesBy : List ℕ → List (List ℕ) → List ℕ → Option (List ℕ) → Verdict → Type 0
@@ -159,7 +162,7 @@ SaysPart P outcome = (came : Result ℕ PartFault) × (outcome ≡ part_outcome_
 
 -- how a command changes the folder: a judgement changes no file, and neither does a refusal, unless a file is played or
 -- converted piece by piece; a failed write changes one file, or two if the first is the master that was cut; and if the
--- folder keeps old files, no fault replaces one by a prefix
+-- folder keeps old files, no fault replaces one by a prefix. `sum` is no command over one folder
 abbrev pub TaskComesTo : Task → View → View → Outcome → Type 0
 TaskComesTo (tasks.Play project input output) old new = Says Played (PlayComesTo project.now input.now output.now old new)
 TaskComesTo (tasks.PlayPart project input output from to) old new = SaysPart (PlayPartComesTo project.now input.now output.now (record { from = from; to = to }) old new)
@@ -167,15 +170,23 @@ TaskComesTo (tasks.Convert form input output) old new = Says Converted (ConvertC
 TaskComesTo (tasks.Edit form project master cert) old new = Says Edited (EditComesTo (cut_into form project.now master.now cert.now) old new)
 TaskComesTo (tasks.Check project master cert) old new = Says verdict_of (CheckComesTo project.now master.now cert.now old new)
 TaskComesTo (tasks.Info file) old new = Says Info (ReportComesTo file.now old new)
-TaskComesTo (tasks.Sum is_check files) old new = λ outcome. (new ≡ old) × ((status : SumStatus) × (outcome ≡ Summed status) × EndsSums is_check files.now status)
+TaskComesTo (tasks.Sum is_check files) old new = λ outcome. ⊥
 
--- the words are no command or name no form, or memory ran out
-abbrev pub IsNoCommand : Outcome → Type 0
-IsNoCommand WrongWords = Unit {0}
-IsNoCommand UnknownFormName = Unit {0}
-IsNoCommand (Fault Memory) = Unit {0}
-IsNoCommand _ = ⊥
+-- ---- what words ask for
+-- an outcome, or out of memory in its place, where the folder's bytes aren't known
+abbrev pub IsOrMemory : View → Outcome → Outcome → Type 0
+IsOrMemory view came outcome = (outcome ≡ came) ⊎ ((outcome ≡ Fault Memory) × (IsTrue view.is_known → ⊥))
 
--- no command was read and nothing changed, or some command came to this
-abbrev pub ComesTo : View → View → Outcome → Type 0
-ComesTo old new outcome = (IsNoCommand outcome × (new ≡ old)) ⊎ ((task : Task) × TaskComesTo task old new outcome)
+-- a command over a folder came to this, and printed nothing
+abbrev pub FolderComesTo : Task → State → State → Outcome → Type 0
+FolderComesTo task old new outcome = (came : Outcome) × TaskComesTo task old.view new.view came × (new.printed ≡ old.printed) × IsOrMemory new.view came outcome
+
+-- `sum` came to this, and printed its lines
+abbrev pub SumsComeTo : Task → State → State → Outcome → Type 0
+SumsComeTo (tasks.Sum is_check files) old new outcome = (status : SumStatus) × (outcome ≡ Summed status) × EndsSums is_check (map (λ (file : Bor (List ℕ)). file.now) files.now) old new status
+SumsComeTo _ old new outcome = ⊥
+
+-- what words ask for came to this: their task, or the fault of words that ask for none, after which nothing changed
+abbrev pub AskedComesTo : Result Task WordsFault → State → State → Outcome → Type 0
+AskedComesTo (Ok task) old new outcome = FolderComesTo task old new outcome ⊎ SumsComeTo task old new outcome
+AskedComesTo (Err fault) old new outcome = (outcome ≡ of_words fault) × (new ≡ old)

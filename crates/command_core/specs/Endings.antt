@@ -1,25 +1,47 @@
 -- What the program's status says of a command whose outcome was printed.
-use Rattle.std.specs.Prelude.{◌≡◌, ◌<◌, ◌⊎◌, ℕ}
-use Rattle.folder_core.specs.Files.{unknown_view}
+use Rattle.std.specs.Prelude.{◌≡◌, ◌<◌, ◌⊎◌, ◌&&◌, ℕ, List, [], ◌∷◌, ◌++◌, Result, if◌then◌else◌, length, nat_lt}
 use Rattle.request_core.specs.declared.fault.Fault.TheVariants.{Memory}
-use Rattle.command_core.specs.Commands.{ComesTo}
-use Rattle.command_core.specs.Outcomes.{status_of}
+use Rattle.words_core.specs.Asked.{IsAskedBy}
+use Rattle.words_core.specs.declared.fault.WordsFault.{WordsFault}
+use Rattle.words_core.specs.declared.task.Task.{Task}
+use Rattle.command_core.specs.Commands.{AskedComesTo}
+use Rattle.command_core.specs.Hosts.{Prints, PrintsPrefix, State, unknown_state}
+use Rattle.command_core.specs.Outcomes.{ShowsOutcome, status_of}
 use Rattle.command_core.specs.declared.outcome.Outcome.{Outcome}
 use Rattle.command_core.specs.declared.outcome.Outcome.TheVariants.{Fault, WriteFailed}
 
--- the outcome once it was printed: it is the same, or memory for its line ran out, or standard output didn't take the
--- line of what was done or judged
-abbrev pub IsReportedAs : Outcome → Outcome → Type 0
-IsReportedAs outcome reported = (reported ≡ outcome) ⊎ ((reported ≡ Fault Memory) ⊎ ((reported ≡ WriteFailed) × (status_of outcome < 2)))
+-- what is printed to standard output of a line: all of it and its end for what was done or judged, nothing for a fault,
+-- which is printed elsewhere, and nothing if it is empty
+abbrev pub answer_text : Outcome → List ℕ → List ℕ
+answer_text outcome line = if nat_lt (status_of outcome) 2 && nat_lt 0 (length line) then line ++ 10 ∷ [] else []
 
--- the status is that of an outcome once it was printed
-abbrev pub EndsAfter : Outcome → ℕ → Type 0
-EndsAfter outcome status = (reported : Outcome) × IsReportedAs outcome reported × (status ≡ status_of reported)
+-- the line of an outcome was printed
+abbrev pub PrintsOutcome : Outcome → State → State → Type 0
+PrintsOutcome outcome old new = (line : List ℕ) × ShowsOutcome outcome line × Prints old new (answer_text outcome line)
 
--- words came to this outcome over a disk, of whose bytes nothing is known, or memory ran out
-abbrev pub ComesToOnDisk : Outcome → Type 0
-ComesToOnDisk outcome = (outcome ≡ Fault Memory) ⊎ ComesTo unknown_view unknown_view outcome
+-- standard output took a part of the line of an outcome at most
+abbrev pub PrintsInPart : Outcome → State → State → Type 0
+PrintsInPart outcome old new = (line : List ℕ) × ShowsOutcome outcome line × PrintsPrefix old new (answer_text outcome line)
 
--- the status is that of an outcome that words came to, once it was printed
+-- the outcome once it was printed: it is the same, or memory for its line ran out and nothing was printed, or standard
+-- output didn't take the line of what was done or judged
+abbrev pub IsReportedAs : Outcome → Outcome → State → State → Type 0
+IsReportedAs outcome reported old new = ((reported ≡ outcome) × PrintsOutcome outcome old new)
+    ⊎ (((reported ≡ Fault Memory) × (new ≡ old)) ⊎ ((reported ≡ WriteFailed) × (status_of outcome < 2) × PrintsInPart outcome old new))
+
+-- what was asked for came to an outcome, it was printed, and the status is that of the outcome that it was printed as
+pub record EndsAsked (asked : Result Task WordsFault) (old new : State) (status : ℕ) : Type 0 where
+  pub outcome : Outcome
+  pub reported : Outcome
+  pub between : State
+  pub comes : AskedComesTo asked old between outcome
+  pub printed : IsReportedAs outcome reported between new
+  pub status_is : status ≡ status_of reported
+
+-- the same for what words ask for
+abbrev pub EndsWords : List (List ℕ) → State → State → ℕ → Type 0
+EndsWords words old new status = (asked : Result Task WordsFault) × IsAskedBy words asked × EndsAsked asked old new status
+
+-- the same for some words, over a disk and an output of which nothing is known
 abbrev pub EndsWith : ℕ → Type 0
-EndsWith status = (outcome : Outcome) × ComesToOnDisk outcome × EndsAfter outcome status
+EndsWith status = (words : List (List ℕ)) × EndsWords words unknown_state unknown_state status

@@ -1,7 +1,9 @@
 pub mod Commands
+pub mod Hosts
 pub mod Masters
 pub mod Outcomes
 pub mod Sources
+pub mod Spelling
 pub mod Summing
 pub mod Writing
 pub mod Endings

@@ -1,10 +1,10 @@
--- The statuses of files that are summed, and of those that are judged by lists.
-use Rattle.std.specs.Prelude.{◌≡◌, ◌≢◌, ◌⊎◌, ℕ, List, [], Bool, true, false, map, fold}
-use Rattle.std.specs.Borrow.{Bor}
-use Rattle.std.specs.List.{AllZip}
+-- The statuses of files that are summed, and of those that are judged by lists, and what is printed of them.
+use Rattle.std.specs.Prelude.{◌≡◌, ◌≢◌, ◌⊎◌, ℕ, List, [], ◌∷◌, ◌++◌, Bool, true, false, codes, fold}
 use Rattle.std.specs.Str.Lines.{lines}
-use Rattle.folder_core.specs.Files.{unknown_view}
-use Rattle.command_core.specs.Summing.{JudgesLine, ShowsSums}
+use Rattle.folder_core.specs.Files.{IsReadOf}
+use Rattle.command_core.specs.Hosts.{Prints, PrintsSome, State}
+use Rattle.command_core.specs.Spelling.{IsSpelled}
+use Rattle.command_core.specs.Summing.{JudgesLine, ShowsSums, name_text}
 use Rattle.command_core.specs.declared.sum_status.SumStatus.{SumStatus}
 use Rattle.command_core.specs.declared.sum_status.SumStatus.TheVariants.{Done, NotAsListed, Failed}
 
@@ -20,31 +20,56 @@ worse NotAsListed Failed = Failed
 abbrev pub worst_of : List SumStatus → SumStatus
 worst_of statuses = fold (λ worst status. worse status worst) Done statuses
 
--- the relation gives each of these a status, and this is the worst
-pub record HaveWorst {A : Type 0} (R : A → SumStatus → Type 0) (xs : List A) (status : SumStatus) : Type 0 where
+-- each of these, one after the other, comes to one of the statuses
+abbrev pub AllCome : {A : Type 0} → (A → State → State → SumStatus → Type 0) → List A → List SumStatus → State → State → Type 0
+AllCome R [] [] old new = new ≡ old
+AllCome R [] (status ∷ statuses) old new = ⊥
+AllCome R (x ∷ xs) [] old new = ⊥
+AllCome R (x ∷ xs) (status ∷ statuses) old new = (between : State) × R x old between status × AllCome R xs statuses between new
+
+-- each of these, one after the other, comes to a status, and this is the worst
+pub record HaveWorst {A : Type 0} (R : A → State → State → SumStatus → Type 0) (xs : List A) (old new : State) (status : SumStatus) : Type 0 where
   pub statuses : List SumStatus
-  pub each : AllZip R xs statuses
+  pub each : AllCome R xs statuses old new
   pub is_worst : status ≡ worst_of statuses
 
--- the status of a file that is summed: that it was done only if bytes that were read of it have sums
-abbrev pub FileComesTo : List ℕ → SumStatus → Type 0
-FileComesTo name status = ((status ≡ Done) × ((line : List ℕ) × ShowsSums name unknown_view unknown_view line)) ⊎ (status ≡ Failed)
+-- a file that is summed: bytes that were read of it have sums and their line is printed, or there is a fault
+abbrev pub FileComesTo : List ℕ → State → State → SumStatus → Type 0
+FileComesTo name old new status = ((status ≡ Done) × ((line : List ℕ) × ShowsSums name old.view old.view line × Prints old new (line ++ 10 ∷ []))) ⊎ ((status ≡ Failed) × (new ≡ old))
 
--- the status of a line of a list: as listed only if it is the line of sums of bytes that were read of some name, and not
--- as listed only if it isn't that line
-abbrev pub LineComesTo : List ℕ → SumStatus → Type 0
-LineComesTo line status = ((name : List ℕ) × (((status ≡ Done) × JudgesLine name line unknown_view unknown_view true)
-    ⊎ ((status ≡ NotAsListed) × JudgesLine name line unknown_view unknown_view false))) ⊎ (status ≡ Failed)
+-- what is printed of a file that was judged: its name, and whether it is as listed
+abbrev pub verdict_text : List ℕ → List ℕ → List ℕ
+verdict_text name verdict = name_text name ++ (verdict ++ 10 ∷ [])
 
--- the status of a list: the worst of those of the lines of some bytes, at least one, or a fault
-abbrev pub ListComesTo : SumStatus → Type 0
-ListComesTo status = ((text : List ℕ) × (text ≢ []) × HaveWorst LineComesTo (lines text) status) ⊎ (status ≡ Failed)
+-- a file was judged by a line of a list: the line is that of the sums of bytes that were read of the file, or it isn't,
+-- and that is printed
+abbrev pub NameComesTo : List ℕ → List ℕ → State → State → SumStatus → Type 0
+NameComesTo name line old new status = ((status ≡ Done) × JudgesLine name line old.view old.view true × Prints old new (verdict_text name (codes ": OK")))
+    ⊎ ((status ≡ NotAsListed) × JudgesLine name line old.view old.view false × Prints old new (verdict_text name (codes ": FAILED")))
 
--- the status of a word of `sum`, which names a list by which files are judged, or a file that is summed
-abbrev pub WordComesTo : Bool → List ℕ → SumStatus → Type 0
-WordComesTo true list status = ListComesTo status
-WordComesTo false name status = FileComesTo name status
+-- a line of a list: the file of some name is judged by it, or there is a fault, after which a file may be printed as
+-- not as listed
+abbrev pub LineComesTo : List ℕ → State → State → SumStatus → Type 0
+LineComesTo line old new status = ((name : List ℕ) × NameComesTo name line old new status)
+    ⊎ ((status ≡ Failed) × ((new ≡ old) ⊎ ((name : List ℕ) × Prints old new (verdict_text name (codes ": FAILED")))))
 
--- the status of `sum` is the worst of those of its words, or a fault
-abbrev pub EndsSums : Bool → List (Bor (List ℕ)) → SumStatus → Type 0
-EndsSums is_check files status = HaveWorst (WordComesTo is_check) (map (λ (file : Bor (List ℕ)). file.now) files) status ⊎ (status ≡ Failed)
+-- the text of a list's bytes is not empty, and the files of all of its lines are judged in their order
+abbrev pub JudgesText : List ℕ → State → State → SumStatus → Type 0
+JudgesText bytes old new status = (text : List ℕ) × IsSpelled bytes text × (text ≢ []) × HaveWorst LineComesTo (lines text) old new status
+
+-- the bytes of a list: the files of its lines are judged, or there is a fault before the first
+abbrev pub BytesComeTo : List ℕ → State → State → SumStatus → Type 0
+BytesComeTo bytes old new status = JudgesText bytes old new status ⊎ ((status ≡ Failed) × (new ≡ old))
+
+-- a list: bytes were read of it by which files are judged, or there is a fault before the first
+abbrev pub ListComesTo : List ℕ → State → State → SumStatus → Type 0
+ListComesTo list old new status = ((bytes : List ℕ) × IsReadOf old.view list bytes × BytesComeTo bytes old new status) ⊎ ((status ≡ Failed) × (new ≡ old))
+
+-- a word of `sum`, which names a list by which files are judged, or a file that is summed
+abbrev pub WordComesTo : Bool → List ℕ → State → State → SumStatus → Type 0
+WordComesTo true list old new status = ListComesTo list old new status
+WordComesTo false name old new status = FileComesTo name old new status
+
+-- the status of `sum` is the worst of those of its words in their order, or standard output didn't take a line
+abbrev pub EndsSums : Bool → List (List ℕ) → State → State → SumStatus → Type 0
+EndsSums is_check names old new status = HaveWorst (WordComesTo is_check) names old new status ⊎ ((status ≡ Failed) × PrintsSome old new)

@@ -18,11 +18,11 @@ pub(crate) struct Remembered {
 
 /// An outcome that was printed.
 #[derive(Drop)]
-pub(crate) struct Shown {
+pub struct Shown {
     /// The outcome, which is a failed write if its line was refused.
-    pub(crate) outcome: Outcome,
+    pub outcome: Outcome,
     /// Why standard output did not take the line.
-    pub(crate) refusal: Option<io::Error>,
+    pub refusal: Option<io::Error>,
 }
 
 /// What there is to explain of what a task came to.

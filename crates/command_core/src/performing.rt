@@ -1,16 +1,16 @@
 //! Commands over the files of a folder.
 
-ghost use Rattle.std.specs.Prelude.{◌≡◌};
+ghost use Rattle.std.specs.Prelude.{◌≡◌, IfErr, IfOk, OnErr};
 ghost use Rattle.command_core.specs.Commands.{CheckComesTo, EditComesTo, TaskComesTo, cut_into};
 ghost use Rattle.command_core.specs.Outcomes.{outcome_of, part_outcome_of, verdict_of};
 ghost use Rattle.command_core.specs.declared.outcome.Outcome.TheVariants as outcomes;
+ghost use Rattle.words_core.specs.declared.task.Task.TheVariants as tasks;
 
 use crate::ending::fault_after;
 use crate::judging::judge_opened;
 use crate::masters::find_named;
 use crate::outcome::Outcome;
 use crate::sources::{cut_of, cut_sources};
-use crate::sum_status::Sum;
 use crate::writing::{write_certificate, write_master};
 use archive_core::{Form, Verdict};
 use folder_core::Folder;
@@ -21,6 +21,15 @@ use transfer_commands::{
 };
 use transfer_core::Span;
 use words_core::Task;
+
+/// What `sum` asks for: files to sum, or if `is_check` is set, lists of sums by which files are judged.
+#[derive(Clone, Copy)]
+pub struct SumTask<'a> {
+    /// Whether files are judged.
+    pub is_check: bool,
+    /// The names of the files or lists.
+    pub files: &'a [&'a str],
+}
 
 /// Does a command over the files of a folder, and returns its outcome: the first fault, if there is one.
 ///
@@ -48,41 +57,50 @@ use words_core::Task;
 /// After a fault of playing, or of such a conversion, the file that was created may hold a prefix of what was due. It
 /// never replaces an old file if the folder keeps old files.
 ///
-/// `sums` does `Sum`, each file in a folder of its own.
-pub fn perform<F: Folder, S: Sum>(alloc: Global, task: Task, folder: &mut F, sums: &S) -> Outcome
-    ensures { TaskComesTo task.entry (F.view folder.old) (F.view folder.new) result }
+/// `sum` reads each of its files in a folder of its own. So for it nothing is done, and Err says what it asks for.
+pub fn perform<'a, F: Folder>(
+    alloc: Global,
+    task: Task<'a>,
+    folder: &mut F,
+) -> Result<Outcome, SumTask<'a>>
+    ensures done { IfOk result (TaskComesTo task.entry (F.view folder.old) (F.view folder.new)) }
+    ensures sums { IfErr result (λ sums. task.entry ≡ tasks.Sum sums.is_check sums.files) }
+    ensures same { OnErr result (F.view folder.new ≡ F.view folder.old) }
 {
     match task {
         Task::Play {
             project,
             input,
             output,
-        } => played(play_file(alloc, folder, project, input, output)),
+        } => Ok(played(play_file(alloc, folder, project, input, output))),
         Task::PlayPart {
             project,
             input,
             output,
             from,
             to,
-        } => played_part(play_part_file(alloc, folder, project, input, output, Span { from, to })),
+        } => {
+            let span = Span { from, to };
+            Ok(played_part(play_part_file(alloc, folder, project, input, output, span)))
+        }
         Task::Convert {
             form,
             input,
             output,
-        } => converted(convert_file(alloc, folder, form, input, output)),
+        } => Ok(converted(convert_file(alloc, folder, form, input, output))),
         Task::Edit {
             form,
             project,
             master,
             cert,
-        } => edited(edit_files(alloc, folder, form, project, master, cert)),
+        } => Ok(edited(edit_files(alloc, folder, form, project, master, cert))),
         Task::Check {
             project,
             master,
             cert,
-        } => judged(check_files(alloc, folder, project, master, cert)),
-        Task::Info { file } => reported(open_file(alloc, folder, file)),
-        Task::Sum { is_check, files } => Outcome::Summed(sums.sum(is_check, files)),
+        } => Ok(judged(check_files(alloc, folder, project, master, cert))),
+        Task::Info { file } => Ok(reported(open_file(alloc, folder, file))),
+        Task::Sum { is_check, files } => Err(SumTask { is_check, files }),
     }
 }
 

@@ -2,7 +2,7 @@
 
 ghost use Rattle.std.specs.Prelude.{◌≡◌, ◌≤◌};
 ghost use Rattle.command_core.specs.Outcomes.{sum_number};
-ghost use Rattle.command_core.specs.SumEndings.{EndsSums, worse};
+ghost use Rattle.command_core.specs.SumEndings.{worse};
 
 /// What the files of `sum` came to.
 #[derive(Clone, Copy)]
@@ -38,11 +38,4 @@ impl SumStatus {
             (worse, _) => worse,
         }
     }
-}
-
-/// What does `sum`, whose lines are printed as it goes.
-pub trait Sum {
-    /// Sums files, or judges files by lists of sums, and returns the worst status.
-    fn sum(&self, is_check: bool, files: &[&str]) -> SumStatus
-        ensures status { EndsSums is_check files.now result };
 }

@@ -29,6 +29,6 @@ returns-in-Ok-came g c =
       judged = λ project files file says held.
           let is : IsFoundIn project files cut found file = record { says = says; held = held_there cut file found held } in
           known_by project files file _ _ (known g (goal.at.returns-in-Ok-came g c).After-check_found-came) v
-          (judges_by project files file _ (Ok v) (e.found project files file is) (e.windows project files file is) (e.rejected project files file says held));
+          (judges_by project files file _ (Ok v) (e.found project files file is) (e.windows project files file is) (e.rejected project files file says held) (e.only project files file says held));
       fault = tt;
     }

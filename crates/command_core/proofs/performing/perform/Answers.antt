@@ -1,19 +1,19 @@
 use Rattle.command_core.proofs.performing.perform.Goals as goal
 
 pub returns-in-Play : goal.returns-in-Play
-returns-in-Play g c = rw c.in-Play.is (c.play_file.result, c.played.ensures, c.play_file.ensures)
+returns-in-Play g c = record { done = rw c.in-Play.is (c.play_file.result, c.played.ensures, c.play_file.ensures); sums = tt; same = tt }
 
 pub returns-in-Convert : goal.returns-in-Convert
-returns-in-Convert g c = rw c.in-Convert.is (c.convert_file.result, c.converted.ensures, c.convert_file.ensures)
+returns-in-Convert g c = record { done = rw c.in-Convert.is (c.convert_file.result, c.converted.ensures, c.convert_file.ensures); sums = tt; same = tt }
 
 pub returns-in-Edit : goal.returns-in-Edit
-returns-in-Edit g c = rw c.in-Edit.is (c.edit_files.result, c.edited.ensures, c.edit_files.ensures)
+returns-in-Edit g c = record { done = rw c.in-Edit.is (c.edit_files.result, c.edited.ensures, c.edit_files.ensures); sums = tt; same = tt }
 
 pub returns-in-Check : goal.returns-in-Check
-returns-in-Check g c = rw c.in-Check.is (c.check_files.result, c.judged.ensures, c.check_files.ensures)
+returns-in-Check g c = record { done = rw c.in-Check.is (c.check_files.result, c.judged.ensures, c.check_files.ensures); sums = tt; same = tt }
 
 pub returns-in-Info : goal.returns-in-Info
-returns-in-Info g c = rw c.in-Info.is (c.open_file.result, c.reported.ensures, c.open_file.ensures)
+returns-in-Info g c = record { done = rw c.in-Info.is (c.open_file.result, c.reported.ensures, c.open_file.ensures); sums = tt; same = tt }
 
 pub returns-in-PlayPart : goal.returns-in-PlayPart
-returns-in-PlayPart g c = rw c.in-PlayPart.is (c.play_part_file.result, c.played_part.ensures, c.play_part_file.ensures)
+returns-in-PlayPart g c = record { done = rw c.in-PlayPart.is (c.play_part_file.result, c.played_part.ensures, c.play_part_file.ensures); sums = tt; same = tt }

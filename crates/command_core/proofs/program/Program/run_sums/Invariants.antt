@@ -1,7 +1,0 @@
-use Rattle.std.proofs.Common.{ℕ, List, map, take}
-use Rattle.std.specs.Borrow.{Bor}
-use Rattle.command_core.specs.SumEndings.{HaveWorst, WordComesTo}
-use Rattle.command_core.proofs.program.Program.run_sums.Given as goal
-
-abbrev pub invariant-loop-file : goal.invariant-loop-file
-invariant-loop-file g l = HaveWorst (WordComesTo l.is_check) (map (λ (file : Bor (List ℕ)). file.now) (take l.file-index l.files)) l.worst

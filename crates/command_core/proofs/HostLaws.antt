@@ -28,5 +28,5 @@ module _ (old opened new : State) (before after : View) (came outcome : Outcome)
     came,
     subst (λ (v : View). TaskComesTo task old.view v came) (sym back.0) (subst (λ (v : View). TaskComesTo task v after came) files comes),
     back.1 ∙ printed,
-    or_memory wanted back same memory known
+    or_memory wanted back same memory known,
   )

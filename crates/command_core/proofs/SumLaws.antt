@@ -1,10 +1,13 @@
 -- Statuses one by one, and what is printed between them.
-use Rattle.std.proofs.Common.{◌≡◌, ◌∙◌, ◌+◌, ◌<◌, ℕ, List, [], ◌∷◌, ◌++◌, ap, get_or, length, map, refl, subst, sym, take}
+use Rattle.std.proofs.Common.{◌≡◌, ◌≢◌, ◌∙◌, ◌+◌, ◌<◌, ℕ, IfOk, List, [], ◌∷◌, ◌++◌, Result, Ok, Err, ap, get_or, inl, length, map, refl, subst, sym, take}
+use Rattle.std.specs.Str.Lines.{lines}
 use Rattle.std.proofs.lemmas.List.{take_more}
 use Rattle.std.proofs.lemmas.List.Sums.{fold_push}
 use Rattle.std.proofs.KnownBytes.{Appends-nil, Appends-trans}
+use Rattle.folder_core.specs.Files.{IsReadOf}
 use Rattle.command_core.specs.Hosts.{PrintsSome, State}
-use Rattle.command_core.specs.SumEndings.{AllCome, HaveWorst, worse}
+use Rattle.command_core.specs.Spelling.{IsSpelled}
+use Rattle.command_core.specs.SumEndings.{AllCome, BytesComeTo, HaveWorst, LineComesTo, ListComesTo, worse}
 use Rattle.command_core.specs.declared.sum_status.SumStatus.{SumStatus}
 use Rattle.command_core.specs.declared.sum_status.SumStatus.TheVariants.{Done}
 
@@ -47,3 +50,14 @@ prints_none old new same = subst (λ (s : State). PrintsSome old s) (sym same) (
 -- some text, and then some more
 pub prints_more : (old between new : State) → PrintsSome old between → PrintsSome between new → PrintsSome old new
 prints_more old between new first second = (first.0 ++ second.0, (second.1.0 ∙ first.1.0, Appends-trans old.printed between.printed new.printed first.0 second.0 first.1.1 second.1.1))
+
+-- ---- lists
+-- the lines of a list's text were judged
+pub of_text : {E : Type 0} (bytes text : List ℕ) (old new : State) (r : Result SumStatus E) → IsSpelled bytes text → text ≢ [] → IfOk r (HaveWorst LineComesTo (lines text) old new) → IfOk r (BytesComeTo bytes old new)
+of_text bytes text old new (Ok status) spelled some judged = inl (text, spelled, some, judged)
+of_text bytes text old new (Err e) spelled some judged = tt
+
+-- the bytes of a list were read
+pub of_list : {E : Type 0} (list bytes : List ℕ) (old between new : State) (r : Result SumStatus E) → IsReadOf old.view list bytes → between ≡ old → IfOk r (BytesComeTo bytes between new) → IfOk r (ListComesTo list old new)
+of_list list bytes old between new (Ok status) read same comes = inl (bytes, read, subst (λ (s : State). BytesComeTo bytes s new status) same comes)
+of_list list bytes old between new (Err e) read same comes = tt

@@ -173,7 +173,7 @@ TaskComesTo (tasks.Info file) old new = Says Info (ReportComesTo file.now old ne
 TaskComesTo (tasks.Sum is_check files) old new = λ outcome. ⊥
 
 -- ---- what words ask for
--- an outcome, or out of memory in its place, where the folder's bytes aren't known
+-- an outcome, or out of memory in its place if the folder's bytes aren't known
 abbrev pub IsOrMemory : View → Outcome → Outcome → Type 0
 IsOrMemory view came outcome = (outcome ≡ came) ⊎ ((outcome ≡ Fault Memory) × (IsTrue view.is_known → ⊥))
 

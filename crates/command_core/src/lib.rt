@@ -30,9 +30,10 @@
 //!
 //! ```text
 //! let task = Task::Convert { form: Form::Dsf, input: "in.dff", output: "out.dsf" };
-//! let outcome = perform(alloc, task, &mut folder);    // Ok, as it is not `sum`
-//! outcome_line(alloc, &outcome?)?     // converted dropped 0
-//! status(&outcome?)                   // 0
+//! match perform(alloc, task, &mut folder) {
+//!     Ok(outcome) => outcome_line(alloc, &outcome)?,   // converted dropped 0; status(&outcome) is 0
+//!     Err(sums) => ..                                   // only for Task::Sum
+//! }
 //! ```
 #![tactic(auto)]
 

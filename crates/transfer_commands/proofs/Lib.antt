@@ -10,3 +10,4 @@ pub mod SumLaws
 pub mod ReportLaws
 pub mod PartLaws
 pub mod GapLaws
+pub mod SkippedLaws

@@ -11,3 +11,4 @@ pub mod SameSumLaws
 pub mod ReportLaws
 pub mod PartLaws
 pub mod GapLaws
+pub mod SkippedLaws

@@ -13,6 +13,7 @@ use Rattle.request_core.specs.declared.span_fault.SpanFault.{SpanFault}
 use Rattle.transfer_core.specs.Spans.{AreFramesOf, FramesRefused, IsSpanOf, SpanRefused}
 use Rattle.transfer_core.specs.Streaming.{PlaysRange, part_range}
 use Rattle.folder_core.specs.Files.{OpensAs, IsPut, IsReadOf, KeepsOthers, View}
+use Rattle.transfer_commands.specs.Gaps.{IsFactorOf}
 use Rattle.transfer_commands.specs.Playing.{EndsPlaying, NamesRead}
 use Rattle.transfer_commands.specs.Reporting.{IsReportOf, IsUnreported}
 use Rattle.transfer_commands.specs.declared.fault.CommandFault.TheVariants.{Call, ReadFailed, WriteFailed}
@@ -58,9 +59,9 @@ pub record LacksSpan (project : List ℕ) (span : Span) (fault : SpanFault) (rat
 abbrev pub FindsSpan : List ℕ → List ℕ → View → Span → ℕ → ℕ → Type 0
 FindsSpan project file_name old span start stop = HoldsOfRead file_name old (HasSpan project span start stop)
 
--- a part was found: it is played by this project, and its frames are those of the span
+-- a part was found: it is played by this project, whose filter has its factor, and its frames are those of the span
 abbrev pub IsFound : List ℕ → List ℕ → View → Span → Part → Type 0
-IsFound project file_name old span part = (part.project.now ≡ project) × FindsSpan project file_name old span part.start part.stop
+IsFound project file_name old span part = (part.project.now ≡ project) × IsFactorOf part.project.now part.factor × FindsSpan project file_name old span part.start part.stop
 
 -- the project plays no frames of a recording with this rate, for this fault
 abbrev pub PlaysNone : List ℕ → calls.Fault → ℕ → ℕ → List MarkContent → Type 0

@@ -11,6 +11,7 @@ use Rattle.request_core.specs.Faults.{IfNamed}
 use Rattle.transfer_core.specs.Playing.{Plays}
 use Rattle.transfer_core.specs.Streaming.{FailsBeforeWriting, OnlyFromOutside, PlaysRange, StreamApplies}
 use Rattle.folder_core.specs.Files.{OpensAs, HadNone, IsGiven, IsPut, IsReadOf, KeepsOthers, View}
+use Rattle.transfer_commands.specs.Gaps.{AreNotNeeded}
 use Rattle.transfer_commands.specs.Outlining.{IsFirstFault}
 use Rattle.transfer_commands.specs.declared.fault.CommandFault.{CommandFault}
 use Rattle.transfer_commands.specs.declared.fault.CommandFault.TheVariants.{Call, ReadFailed, WriteFailed}
@@ -68,6 +69,10 @@ PlayedComesTo project range input output old new (Err ReadFailed) = ⊥
 -- the bytes of a file from its start: those that were read, and those that it has left
 abbrev pub left_in : {R : Type 0} → (R → Option (List ℕ)) → Source R → Option (List ℕ)
 left_in left source = prepend_known source.prefix.items (left source.file)
+
+-- the gaps of a file that is played are not needed for its range
+abbrev pub IsEnough : {R : Type 0} → Source R → Type 0
+IsEnough source = AreNotNeeded source.project.now source.range source.prefix.items source.gaps
 
 -- the same of a file that is played, whichever name it was opened under
 abbrev pub SourceComesTo : {R : Type 0} → (R → Option (List ℕ)) → Source R → List ℕ → View → View → Result ℕ CommandFault → Type 0

@@ -1,12 +1,13 @@
 //! Which bytes of a file's sound are not looked at.
 
-ghost use Rattle.std.specs.Prelude.{◌≡◌, ◌+◌, ◌-◌, ◌*◌, ◌/◌, ◌≤◌, ◌^◌, ◌⊎◌};
+ghost use Rattle.std.specs.Prelude.{◌≡◌, ◌+◌, ◌-◌, ◌*◌, ◌/◌, ◌≤◌, ◌^◌, ◌⊎◌, length};
 ghost use Rattle.dsd_bits.specs.Sounds.{IsSound};
+ghost use Rattle.folder_core.specs.GappedFiles.{left_but_gaps, zeroed_known};
 ghost use Rattle.player_core.specs.Groups.{part_size};
-ghost use Rattle.transfer_commands.specs.Gaps.{HoldNoBitOf, HoldNoneBetween, LieAfter, LieBefore, LieInSound};
+ghost use Rattle.transfer_commands.specs.Gaps.{AreEmpty, HoldNoBitOf, HoldNoneBetween, LieAfter, LieBefore, LieInSound};
 
 use dsd_bits::Sound;
-use folder_core::{Gap, Gaps};
+use folder_core::{Folder, Gap, GappedFile, Gaps};
 
 // A frame reads only bits from so many before its first on, up to as many after its last: filters have at most 4096
 // taps.
@@ -15,8 +16,23 @@ const REACH: u64 = 4096;
 // The bytes of a block of one channel.
 const BLOCK: u64 = 4096;
 
+/// The bytes of a file after a prefix that was read, with zeros for those of the gaps, which the folder passes over if
+/// it can.
+pub(crate) fn rest_but<'a, F: Folder>(
+    folder: &'a F,
+    prefix: &[u8],
+    file: F::In,
+    gaps: Gaps,
+) -> GappedFile<'a, F>
+    ensures { left_but_gaps F.In.remaining result ≡ zeroed_known gaps (length prefix.now) (F.In.remaining file) }
+{
+    GappedFile::new(folder, file, prefix.len() as u64, gaps)
+}
+
 /// No byte.
-pub(crate) fn no_gaps() -> Gaps {
+pub(crate) fn no_gaps() -> Gaps
+    ensures { AreEmpty result }
+{
     let none = Gap { start: 0, stop: 0 };
     Gaps {
         first: none,

@@ -8,11 +8,11 @@ ghost use Rattle.transfer_commands.specs.Outlining.{IsUnoutlined, IsUnoutlinedLe
 ghost use Rattle.transfer_commands.specs.Opening.{left_of};
 
 use crate::fault::CommandFault;
-use crate::gaps::sound_gap;
+use crate::gaps::{rest_but, sound_gap};
 use crate::outlining::{outline_reader, refusal_of};
 use chunk_core::Inlet;
 use dsd_bits::Sound;
-use folder_core::{Folder, GappedFile};
+use folder_core::Folder;
 use sound_core::{Outline, Prefix, read_prefix};
 use std::alloc::Global;
 use std::io::{Cursor, Read};
@@ -89,6 +89,7 @@ fn outline_opened<F: Folder>(
     folder: &F,
     opened: OpenedFile<F::In>,
 ) -> Result<Outline, CommandFault>
+    requires { LeadsToSound opened.prefix.items opened.sound }
     ensures found { IfOk result (OutlinesLeft (left_of F.In.remaining opened)) }
     ensures fault { IfErr result (IsUnoutlinedLeft (left_of F.In.remaining opened)) }
 {
@@ -97,7 +98,6 @@ fn outline_opened<F: Folder>(
         prefix,
         file,
     } = opened;
-    let place = prefix.len() as u64;
-    let rest = GappedFile::new(folder, file, place, sound_gap(&sound));
+    let rest = rest_but(folder, &prefix, file, sound_gap(&sound));
     outline_reader(alloc, Cursor::new(prefix).chain(rest))
 }

@@ -2,8 +2,11 @@
 
 ghost use Rattle.std.specs.Prelude.{◌≡◌, ◌↔◌, IfErr, IfOk, IsTrue};
 ghost use Rattle.folder_core.specs.Files.{IsGiven};
+ghost use Rattle.sound_core.specs.Files.{LeadsToSound};
 ghost use Rattle.transfer_commands.specs.Faults.{of_file};
+ghost use Rattle.transfer_commands.specs.Gaps.{IsFactorOf};
 ghost use Rattle.transfer_commands.specs.Opening.{left_of};
+ghost use Rattle.transfer_commands.specs.Playing.{IsEnough};
 ghost use Rattle.transfer_core.specs.Streaming.{part_range};
 ghost use Rattle.transfer_commands.specs.PartPlaying.{HasSpanInSound, IsFound, IsMark, IsNotInSound, IsUnfound, NamesMark, PlayPartComesTo};
 ghost use Rattle.transfer_commands.specs.declared.fault.CommandFault.TheVariants as commands;
@@ -114,6 +117,7 @@ fn find_part<'a, F: Folder>(
 ) -> Result<FoundPart<'a, F::In>, PartFault>
     ensures same { F.view folder.new ≡ F.view folder.old }
     ensures found { IfOk result (λ f. IsFound project.now input.now (F.view folder.old) span f.part) }
+    ensures states { IfOk result (λ f. LeadsToSound f.opened.prefix.items f.opened.sound) }
     ensures given { IfOk result (λ f. IsGiven (F.view folder.old) input.now (left_of F.In.remaining f.opened)) }
     ensures refused { IfErr result (IsUnfound project.now input.now (F.view folder.old) span) }
 {
@@ -163,6 +167,7 @@ fn part_in<'a>(
     span: Span,
 ) -> Result<Part<'a>, PartFault>
     ensures project { IfOk result (λ part. part.project.now ≡ project.now) }
+    ensures factor { IfOk result (λ part. IsFactorOf part.project.now part.factor) }
     ensures found { IfOk result (λ part. HasSpanInSound project.now sound.now span part.start part.stop) }
     ensures refused { IfErr result (IsNotInSound project.now sound.now span) }
 {
@@ -195,10 +200,13 @@ fn is_mark(place: Option<Place>) -> bool
 
 // The file of a part that was found, to be played. The folder passes over the sound that the part doesn't need.
 fn source_of<R>(found: FoundPart<'_, R>) -> Source<'_, R>
+    requires states { LeadsToSound found.opened.prefix.items found.opened.sound }
+    requires factor { IsFactorOf found.part.project.now found.part.factor }
     ensures project { result.project.now ≡ found.entry.part.project.now }
     ensures range { result.range ≡ part_range found.entry.part.start found.entry.part.stop }
     ensures bytes { result.prefix.items ≡ found.entry.opened.prefix.items }
     ensures file { result.file ≡ found.entry.opened.file }
+    ensures enough { IsEnough result }
 {
     let FoundPart { part, opened } = found;
     let OpenedFile {

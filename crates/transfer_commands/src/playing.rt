@@ -2,12 +2,12 @@
 
 ghost use Rattle.std.specs.Prelude.{◌≡◌, IfErr, IfOk};
 ghost use Rattle.folder_core.specs.Files.{IsReadFault, IsReadOf};
-ghost use Rattle.transfer_commands.specs.Playing.{PlayComesTo, PlaysTo, SourceComesTo, left_in};
+ghost use Rattle.transfer_commands.specs.Playing.{IsEnough, PlayComesTo, PlaysTo, SourceComesTo, left_in};
 
 use crate::fault::CommandFault;
-use crate::gaps::no_gaps;
+use crate::gaps::{no_gaps, rest_but};
 use chunk_core::{Inlet, Outlet};
-use folder_core::{FileFault, Folder, GappedFile, Gaps, hand_back, read_file};
+use folder_core::{FileFault, Folder, Gaps, hand_back, read_file};
 use player_core::FrameRange;
 use std::alloc::Global;
 use std::io::{Cursor, Read, Write};
@@ -24,7 +24,7 @@ pub(crate) struct Source<'a, R> {
     pub(crate) prefix: Vec<u8>,
     /// The file, which has the others left.
     pub(crate) file: R,
-    /// Bytes of the file that no frame reads.
+    /// Bytes of the file that no frame of these reads.
     pub(crate) gaps: Gaps,
 }
 
@@ -77,6 +77,7 @@ pub(crate) fn play_to<F: Folder>(
     source: Source<'_, F::In>,
     output: &str,
 ) -> Result<u64, CommandFault>
+    requires { IsEnough source }
     ensures { SourceComesTo F.In.remaining source.entry output.now (F.view folder.old) (F.view folder.new) result }
 {
     let Ok(wave) = folder.create(output) else {
@@ -100,6 +101,7 @@ fn play_source<F: Folder>(
     source: Source<'_, F::In>,
     wave: F::Out,
 ) -> (Result<u64, Fault>, F::Out)
+    requires { IsEnough source }
     ensures { PlaysTo F.Out.contents source.entry.project.now source.entry.range (left_in F.In.remaining source.entry)
         wave result.1 result.0 }
 {
@@ -110,8 +112,7 @@ fn play_source<F: Folder>(
         file,
         gaps,
     } = source;
-    let place = prefix.len() as u64;
-    let rest = GappedFile::new(folder, file, place, gaps);
+    let rest = rest_but(folder, &prefix, file, gaps);
     play_reader(alloc, project, range, Cursor::new(prefix).chain(rest), wave)
 }
 

@@ -13,6 +13,7 @@ returns-clause-found g c =
     let part = c.in_ok-part-2.part in
     let found = c.in_ok-part-2.ensures in (
       found.project,
+      found.factor,
       found_in_sound c.args.project.now c.args.input.now opened.prefix.items (g.F.Folder.view c.args.folder.now) (g.F.In.Read.remaining opened.file) opened.sound c.args.span c.in_ok-opened-2.ensures.given c.in_ok-opened-2.ensures.states part.start part.stop found.found,
     )
 

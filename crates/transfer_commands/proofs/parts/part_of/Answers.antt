@@ -4,6 +4,7 @@ use Rattle.dsd_bits.specs.Contents.{mark_content}
 use Rattle.transfer_core.specs.Spans.{AreFramesOf, FramesRefused, IsSpanOf, SpanRefused}
 use Rattle.transfer_commands.proofs.ExcerptLaws.{err_says}
 use Rattle.transfer_commands.proofs.FindingLaws.{lacking, unreported_unfound}
+use Rattle.transfer_commands.proofs.SkippedLaws.{factor_said}
 use Rattle.transfer_commands.proofs.parts.part_of.Goals as goal
 
 pub returns-clause-found : goal.returns-clause-found
@@ -15,6 +16,7 @@ returns-clause-found g c =
     let start = c.in_ok-start.start in
     let stop = c.in_ok-start.stop in (
       refl,
+      factor_said c.args.project.now c.rate-rate.result c.count.result frames c.in_ok-frames.ensures.found,
       inl (
         reported,
         record { file = states.file; file_read = states.file_read; is_known = states.is_known },

@@ -48,7 +48,7 @@ has : (g : Over) (c : After-play_to g) → FindsSpan c.in_ok-project.project.ite
 has g c =
     let part = c.in_ok-found.found.part in
     subst (λ (v : View). FindsSpan c.in_ok-project.project.items c.args.input.now v c.args.span part.start part.stop) c.read_project.ensures.same
-    (subst (λ project. FindsSpan project c.args.input.now (g.F.Folder.view c.read_project.new.folder) c.args.span part.start part.stop) c.deref.ensures.value c.in_ok-found.ensures.found.1)
+    (subst (λ project. FindsSpan project c.args.input.now (g.F.Folder.view c.read_project.new.folder) c.args.span part.start part.stop) c.deref.ensures.value c.in_ok-found.ensures.found.2)
 
 pub returns-in_err-play_to : goal.returns-in_err-play_to
 returns-in_err-play_to g c =

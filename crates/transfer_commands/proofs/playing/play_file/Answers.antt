@@ -1,9 +1,12 @@
-use Rattle.std.proofs.Common.{◌≡◌, ◌∙◌, ap, subst, sym}
+use Rattle.std.proofs.Common.{◌≡◌, ◌∙◌, ap, inl, subst, sym}
 use Rattle.std.specs.Io.KnownBytes.{prepend_known}
 use Rattle.folder_core.specs.Files.{IsGiven, View}
 use Rattle.transfer_commands.specs.Playing.{PlayedComesTo}
 use Rattle.transfer_commands.proofs.PlayLaws.{none_read, play_ends}
 use Rattle.transfer_commands.proofs.playing.play_file.Goals as goal
+
+pub play_to-requires : goal.play_to-requires
+play_to-requires g c = inl c.no_gaps.ensures
 
 pub returns : goal.returns
 returns g c =

@@ -3,7 +3,7 @@ use Rattle.std.proofs.Common.{arith, ◌≡◌, ◌≢◌, ◌∙◌, ℕ, List,
 use Rattle.std.proofs.lemmas.Str.{IsUtf8-nil}
 use Rattle.std.specs.Str.{IsUtf8, IsValidUpTo}
 use Rattle.form_core.specs.Infos.{hexadecimal}
-use Rattle.command_core.specs.Spelling.{IsSpelled, Piece, Spells, SpellsUpTo}
+use Rattle.command_core.specs.Spelling.{IsSpelled, SpellsUpTo}
 
 -- a piece is not all that there is of no bytes
 not_empty : (valid : List ℕ) (byte : ℕ) (rest : List ℕ) → [] ≢ valid ++ byte ∷ rest

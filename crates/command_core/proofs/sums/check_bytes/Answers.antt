@@ -1,4 +1,4 @@
-use Rattle.std.proofs.Common.{◌≢◌, [], rules, string_bytes, subst, sym}
+use Rattle.std.proofs.Common.{◌≢◌, [], rules, subst, sym}
 use Rattle.command_core.specs.Spelling.{IsSpelled}
 use Rattle.command_core.proofs.SumLaws.{of_text}
 use Rattle.command_core.proofs.sums.check_bytes.Goals as goal

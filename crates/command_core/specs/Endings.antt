@@ -42,6 +42,7 @@ pub record EndsAsked (asked : Result Task WordsFault) (old new : State) (status 
 abbrev pub EndsWords : List (List ℕ) → State → State → ℕ → Type 0
 EndsWords words old new status = (asked : Result Task WordsFault) × IsAskedBy words asked × EndsAsked asked old new status
 
--- the same for some words, over a disk and an output of which nothing is known
+-- the same for some words, over a disk and an output of which nothing is known: little more than which statuses there
+-- are
 abbrev pub EndsWith : ℕ → Type 0
 EndsWith status = (words : List (List ℕ)) × EndsWords words unknown_state unknown_state status

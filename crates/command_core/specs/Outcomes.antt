@@ -42,7 +42,8 @@ sum_number sums.Done = 0
 sum_number sums.NotAsListed = 1
 sum_number sums.Failed = 2
 
--- done: 0; a master that is rejected, or a file that isn't as listed: 1; a fault: 2; words that are no command or name no form: 3
+-- done: 0; a master that is rejected, or a file that isn't as listed: 1; a fault: 2; words that are no command or name
+-- no form: 3
 abbrev pub status_of : Outcome → ℕ
 status_of (Played n) = 0
 status_of (Converted n) = 0

@@ -28,7 +28,8 @@ pub record Pushed (old new : Pushing) (bytes : List ℕ) (n : ℕ) : Type 0 wher
   pub whole : WaitsWhole old → WaitsWhole new
   pub taps : new.taps ≡ old.taps
 
--- a push of these bytes was refused for this fault: so is each that follows; what is known of the sound stays
+-- a push of these bytes was refused for this fault: so is each that follows once no frame waits; what is known of the
+-- sound stays
 pub record PushRefused (old new : Pushing) (bytes : List ℕ) (fault : PlayFault) : Type 0 where
   pub why : RefusesPush old bytes fault
   pub failed : new.stage ≡ stages.Failed
@@ -71,7 +72,7 @@ pub record Ended (old new : Pushing) : Type 0 where
   pub same : new ≡ old
   pub all : (file : List ℕ) (start : ℕ) (pulled : List ℕ) → PlaysPushedFile file start pulled old → length file ≡ old.place → EndsFile file start pulled new
 
--- an end was refused for this fault: what waits is left, and each call that follows is refused
+-- an end was refused for this fault: what waits is left, and each push, seek and end that follows is refused
 pub record EndRefused (old new : Pushing) (fault : PlayFault) : Type 0 where
   pub why : RefusesEnd old fault
   pub same : new ≡ record old { stage = stages.Failed }

@@ -66,8 +66,8 @@ pub fn convert(alloc: Global, file: &[u8], form: Form) -> Result<Converted, Faul
 /// the first read and the first write; `FileRefused` if the file is no sound in the outline, for example because it was
 /// changed since; `ReadFailed`, `WriteFailed`; `Memory`, also if there are more than `2^62` bytes around the sound of
 /// the new file; `TurnLimit` after `2^40` reads, or at once if the inlet had counted `2^63` reads or bytes, or inlet or
-/// outlet as many failures as they can. There are never more reads, whatever is returned. What was written then is a
-/// prefix of what a file of the outline is converted to.
+/// outlet as many failures as they can. There are never more reads, whatever is returned. If the file is one of the
+/// outline, what was written then is a prefix of what it is converted to.
 pub fn convert_stream<R: Read, W: Write>(
     alloc: Global,
     outline: &Outline,
@@ -81,7 +81,7 @@ pub fn convert_stream<R: Read, W: Write>(
     ensures ok { IfOk result (ConvertsAll R.remaining inlet.old form W.contents outlet.old outlet.new) }
     // If the reader's bytes aren't known, the same holds of what was read, as many bytes as were counted.
     ensures any_reader { IfOk result (Rewrites R.remaining inlet.old inlet.new form W.contents outlet.old outlet.new) }
-    // If it is refused, a prefix was written.
+    // If it is refused, and the reader's file is one of the outline, a prefix was written.
     ensures prefix { OnErr result (StartsFile R.remaining inlet.old outline.now form W.contents outlet.old outlet.new) }
     // A fault that is returned is true.
     ensures refused { IfErr result (ConversionApplies (left_in R.remaining inlet.old) (around_of outline.now) form) }

@@ -4,7 +4,7 @@ use Rattle.std.specs.Str.Lines.{lines}
 use Rattle.folder_core.specs.Files.{IsReadOf}
 use Rattle.command_core.specs.Hosts.{Prints, PrintsSome, State}
 use Rattle.command_core.specs.Spelling.{IsSpelled}
-use Rattle.command_core.specs.Summing.{JudgesLine, ShowsSums, name_text}
+use Rattle.command_core.specs.Summing.{IsNamedIn, JudgesLine, ShowsSums, name_text}
 use Rattle.command_core.specs.declared.sum_status.SumStatus.{SumStatus}
 use Rattle.command_core.specs.declared.sum_status.SumStatus.TheVariants.{Done, NotAsListed, Failed}
 
@@ -47,11 +47,11 @@ abbrev pub NameComesTo : List ℕ → List ℕ → State → State → SumStatus
 NameComesTo name line old new status = ((status ≡ Done) × JudgesLine name line old.view old.view true × Prints old new (verdict_text name (codes ": OK")))
     ⊎ ((status ≡ NotAsListed) × JudgesLine name line old.view old.view false × Prints old new (verdict_text name (codes ": FAILED")))
 
--- a line of a list: the file of some name is judged by it, or there is a fault, after which a file may be printed as
+-- a line of a list: the file of its name is judged by it, or there is a fault, after which the file may be printed as
 -- not as listed
 abbrev pub LineComesTo : List ℕ → State → State → SumStatus → Type 0
-LineComesTo line old new status = ((name : List ℕ) × NameComesTo name line old new status)
-    ⊎ ((status ≡ Failed) × ((new ≡ old) ⊎ ((name : List ℕ) × Prints old new (verdict_text name (codes ": FAILED")))))
+LineComesTo line old new status = ((name : List ℕ) × IsNamedIn line name × NameComesTo name line old new status)
+    ⊎ ((status ≡ Failed) × ((new ≡ old) ⊎ ((name : List ℕ) × IsNamedIn line name × Prints old new (verdict_text name (codes ": FAILED")))))
 
 -- the text of a list's bytes is not empty, and the files of all of its lines are judged in their order
 abbrev pub JudgesText : List ℕ → State → State → SumStatus → Type 0

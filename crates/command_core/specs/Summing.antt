@@ -33,6 +33,10 @@ name_text name = flat_map escape name
 abbrev pub sum_text : Sums → List ℕ → List ℕ
 sum_text sums name = fields_text sums ++ codes "  " ++ name_text name
 
+-- a line ends with two blanks and this name on one line
+abbrev pub IsNamedIn : List ℕ → List ℕ → Type 0
+IsNamedIn line name = (fields : List ℕ) × (line ≡ fields ++ (codes "  " ++ name_text name))
+
 -- bytes that were read of a name have sums whose line this is, and nothing changed
 pub record ShowsSums (name : List ℕ) (old new : View) (line : List ℕ) : Type 0 where
   pub sums : Sums

@@ -1,5 +1,9 @@
 //! The lines of lists of sums.
 
+ghost use Rattle.std.specs.Prelude.{IfOk, IfSome, IsTrue, string_bytes};
+ghost use Rattle.command_core.specs.Summing.{IsNamedIn};
+
+use crate::summing::push_name;
 use dsd_bits::MOST_CHANNELS;
 use std::alloc::{AllocError, Global};
 
@@ -10,11 +14,40 @@ const DIGEST_DIGITS: usize = 64;
 
 /// The name that a line of a list has after its sums, as it was before it was put on one line. None for a line that
 /// has none, or whose sums aren't two numbers and a SHA-256 for each of 1 to 6 channels.
-pub(crate) fn listed_name(alloc: Global, line: &str) -> Result<Option<String>, AllocError> {
+pub(crate) fn listed_name(alloc: Global, line: &str) -> Result<Option<String>, AllocError>
+    ensures { IfOk result (λ found. IfSome found (λ name. IsNamedIn line.now (string_bytes name))) }
+{
+    let Some(name) = name_after_sums(alloc, line)? else {
+        return Ok(None);
+    };
+    // What was read is written again, and compared with the line.
+    if ends_with_name(alloc, line.as_bytes(), name.as_bytes())? {
+        Ok(Some(name))
+    } else {
+        Ok(None)
+    }
+}
+
+// The name that is read of a line after its sums.
+fn name_after_sums(alloc: Global, line: &str) -> Result<Option<String>, AllocError> {
     match line.split_once("  ") {
         Some((prefix, shown)) if are_sums(prefix) => name_of(alloc, shown),
         _ => Ok(None),
     }
+}
+
+// Whether a line ends with two blanks and a name on one line.
+fn ends_with_name(alloc: Global, line: &[u8], name: &[u8]) -> Result<bool, AllocError>
+    ensures { IfOk result (λ ends. IsTrue ends → IsNamedIn line.now name.now) }
+{
+    let mut end = Vec::new(alloc);
+    end.extend_from_slice(b"  ")?;
+    push_name(&mut end, name)?;
+    if line.len() < end.len() {
+        return Ok(false);
+    }
+    let (_, last) = line.split_at(line.len() - end.len());
+    Ok(last == end.as_slice())
 }
 
 // Whether the part of a line before its name has two numbers and the digests of 1 to 6 channels, with one blank between.

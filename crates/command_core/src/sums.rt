@@ -6,7 +6,7 @@ ghost use Rattle.std.specs.Str.Lines.{lines};
 ghost use Rattle.folder_core.specs.Files.{IsReadOf};
 ghost use Rattle.command_core.specs.Hosts.{Prints, PrintsSome};
 ghost use Rattle.command_core.specs.SumEndings.{BytesComeTo, EndsSums, FileComesTo, HaveWorst, LineComesTo, ListComesTo, WordComesTo};
-ghost use Rattle.command_core.specs.Summing.{JudgesLine, ShowsSums, name_text};
+ghost use Rattle.command_core.specs.Summing.{IsNamedIn, JudgesLine, ShowsSums, name_text};
 ghost use Rattle.command_core.specs.declared.sum_status.SumStatus.TheVariants as statuses;
 
 use crate::explaining::Shown;
@@ -146,18 +146,25 @@ fn check_line<H: Host>(
     ensures printed { PrintsSome (H.state host.old) (H.state host.new) }
 {
     match listed_name(host.alloc(), line) {
-        Ok(Some(name)) => check_one(host, Summed::Listed(&name, number, list), line),
+        Ok(Some(name)) => check_one(host, &name, line, number, list),
         Ok(None) => Ok(refuse_list(host, list, number)),
         Err(_) => Ok(tell_fault(host, Fault::Memory.into(), Summed::List(list))),
     }
 }
 
-// Judges a file by its line, and prints whether it is as listed.
-fn check_one<H: Host>(host: &mut H, file: Summed, line: &str) -> Result<SumStatus, Error>
+// Judges the file of a name by the line that has it, and prints whether it is as listed.
+fn check_one<H: Host>(
+    host: &mut H,
+    name: &str,
+    line: &str,
+    number: usize,
+    list: &str,
+) -> Result<SumStatus, Error>
+    requires named { IsNamedIn line.now name.now }
     ensures comes { IfOk result (LineComesTo line.now (H.state host.old) (H.state host.new)) }
     ensures printed { PrintsSome (H.state host.old) (H.state host.new) }
 {
-    let name = name_of(file);
+    let file = Summed::Listed(name, number, list);
     let came = judge_in_folder(host, name, line);
     let Some(shown) = shown_name(host.alloc(), name) else {
         return Ok(tell_fault(host, Fault::Memory.into(), file));

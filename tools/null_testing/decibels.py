@@ -5,20 +5,20 @@ import math
 POWER = 2000
 
 
-def is_at_most(value: int, full: int, hundredths: int) -> bool:
-    """Whether a value above 0 is at most so many hundredths of a dB above full scale."""
-    # Of these powers of ten one is 1.
-    lower, upper = pow(10, max(-hundredths, 0)), pow(10, max(hundredths, 0))
-    return bool(pow(value, POWER) * lower <= pow(full, POWER) * upper)
-
-
 def hundredths_of(value: int, full: int) -> int:
     """The least number of hundredths of a dB to full scale that a value above 0 isn't louder than."""
+    mine, theirs = pow(value, POWER), pow(full, POWER)
+
+    def is_enough(hundredths: int) -> bool:
+        # Of these powers of ten one is 1.
+        lower, upper = pow(10, max(-hundredths, 0)), pow(10, max(hundredths, 0))
+        return bool(mine * lower <= theirs * upper)
+
     # Logarithms in floats are off by less than a hundredth, so few steps are left.
     found = math.ceil(100 * 20 * (math.log10(value) - math.log10(full)))
-    while not is_at_most(value, full, found):
+    while not is_enough(found):
         found += 1
-    while is_at_most(value, full, found - 1):
+    while is_enough(found - 1):
         found -= 1
     return found
 

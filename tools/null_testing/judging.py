@@ -81,14 +81,15 @@ class Channel:
 
     def own(self, first: int, stop: int) -> Numbers:
         """By which way each place is a take's own bit, -1 where it isn't one."""
-        found, is_wrong = np.full(stop - first, -1), np.zeros(stop - first, np.bool_)
+        found, is_wrong, ways = np.full(stop - first, -1), np.zeros(stop - first, np.bool_), set[int]()
         for clip, part, gain in self.clips(first, stop):
             way, before, is_heard = self.ways.index((clip.take, clip.offset)), found[part], gain != 0
             is_wrong[part] |= is_heard & ((gain != GAIN) | ((before != -1) & (before != way)))
             found[part] = np.where(is_heard, way, before)
+            ways.add(way)
         found[is_wrong] = -1
         signs = self.master.signs(self.channel, first, stop)
-        for way in set(np.unique(found).tolist()) - {-1}:
+        for way in ways:
             take, offset = self.ways[way]
             is_other = signs != self.takes[take].signs(self.channel, first + offset, stop + offset)
             found[(found == way) & is_other] = -1

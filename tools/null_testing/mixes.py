@@ -149,7 +149,7 @@ def is_plain(value: object, depth: int = 0) -> bool:
         return -(2**63) <= value < 2**63
     if isinstance(value, (dict, list)):
         inner = value.values() if isinstance(value, dict) else value
-        return depth < MOST_NESTED and all(is_plain(it, depth + 1) for it in inner)
+        return depth <= MOST_NESTED and all(is_plain(it, depth + 1) for it in inner)
     return True
 
 

@@ -1,4 +1,5 @@
 pub mod Commands
+pub mod Laws
 pub mod Masters
 pub mod Outcomes
 pub mod Sources

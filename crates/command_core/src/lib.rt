@@ -35,6 +35,7 @@
 mod ending;
 mod explaining;
 mod judging;
+mod laws;
 mod listing;
 mod masters;
 mod outcome;
@@ -49,6 +50,7 @@ mod writing;
 
 pub use folder_core::{Folder, FolderFault, MemoryFolder, read_files, read_whole};
 pub use form_core::{form_named, name_of};
+pub use laws::converted_shows_same_sums;
 pub use outcome::{Outcome, outcome_line, status};
 pub use performing::perform;
 pub use program::{run, run_program};

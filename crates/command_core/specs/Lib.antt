@@ -1,5 +1,6 @@
 pub mod Commands
 pub mod Hosts
+pub mod Laws
 pub mod Masters
 pub mod Outcomes
 pub mod Sources

@@ -33,9 +33,13 @@ name_text name = flat_map escape name
 abbrev pub sum_text : Sums → List ℕ → List ℕ
 sum_text sums name = fields_text sums ++ codes "  " ++ name_text name
 
--- a line ends with two blanks and this name on one line
+-- a byte of a line of a list: a carriage return and a NUL are written as two
+abbrev pub escape_stray : ℕ → List ℕ
+escape_stray byte = if byte == 13 then 92 ∷ 114 ∷ [] else (if byte == 0 then 92 ∷ 120 ∷ [] else byte ∷ [])
+
+-- a line ends with two blanks and this name on one line, once each of these bytes is written as two
 abbrev pub IsNamedIn : List ℕ → List ℕ → Type 0
-IsNamedIn line name = (fields : List ℕ) × (line ≡ fields ++ (codes "  " ++ name_text name))
+IsNamedIn line name = (fields : List ℕ) × (flat_map escape_stray line ≡ fields ++ (codes "  " ++ name_text name))
 
 -- bytes that were read of a name have sums whose line this is, and nothing changed
 pub record ShowsSums (name : List ℕ) (old new : View) (line : List ℕ) : Type 0 where

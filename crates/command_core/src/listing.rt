@@ -1,7 +1,7 @@
 //! The lines of lists of sums.
 
-ghost use Rattle.std.specs.Prelude.{IfOk, IfSome, IsTrue, string_bytes};
-ghost use Rattle.command_core.specs.Summing.{IsNamedIn};
+ghost use Rattle.std.specs.Prelude.{◌≡◌, ◌++◌, IfOk, IfSome, IsTrue, OnOk, flat_map, string_bytes};
+ghost use Rattle.command_core.specs.Summing.{IsNamedIn, escape_stray};
 
 use crate::summing::push_name;
 use dsd_bits::MOST_CHANNELS;
@@ -36,18 +36,41 @@ fn name_after_sums(alloc: Global, line: &str) -> Result<Option<String>, AllocErr
     }
 }
 
-// Whether a line ends with two blanks and a name on one line.
+// Whether a line ends with two blanks and a name on one line, once no byte of it is left that names have as two.
 fn ends_with_name(alloc: Global, line: &[u8], name: &[u8]) -> Result<bool, AllocError>
     ensures { IfOk result (λ ends. IsTrue ends → IsNamedIn line.now name.now) }
 {
     let mut end = Vec::new(alloc);
     end.extend_from_slice(b"  ")?;
     push_name(&mut end, name)?;
-    if line.len() < end.len() {
+    let shown = shown_line(alloc, line)?;
+    if shown.len() < end.len() {
         return Ok(false);
     }
-    let (_, last) = line.split_at(line.len() - end.len());
+    let (_, last) = shown.split_at(shown.len() - end.len());
     Ok(last == end.as_slice())
+}
+
+// A line with each carriage return and NUL as it is written in a name.
+fn shown_line(alloc: Global, line: &[u8]) -> Result<Vec<u8>, AllocError>
+    ensures { IfOk result (λ shown. shown.items ≡ flat_map escape_stray line.now) }
+{
+    let mut shown = Vec::new(alloc);
+    for byte in line {
+        push_shown(&mut shown, *byte)?;
+    }
+    Ok(shown)
+}
+
+// Appends a byte of a line.
+fn push_shown(shown: &mut Vec<u8>, byte: u8) -> Result<(), AllocError>
+    ensures { OnOk result (shown.new.items ≡ shown.old.items ++ escape_stray byte) }
+{
+    match byte {
+        b'\r' => shown.extend_from_slice(b"\\r"),
+        b'\0' => shown.extend_from_slice(b"\\x"),
+        _ => shown.extend_from_slice(&[byte]),
+    }
 }
 
 // Whether the part of a line before its name has two numbers and the digests of 1 to 6 channels, with one blank between.

@@ -96,10 +96,6 @@ more_whole d s start before bytes given old new p q (Some r) played none on =
 pub nothing_whole : (p : Pushing) → waiting p ≡ [] → WaitsWhole p
 nothing_whole p none = subst (λ xs. AreWholeFrames p.taps p.stated (length xs)) (sym none) (none_whole p.taps p.stated)
 
--- all that is pending
-pub all_wait : (p : Pushing) → p.pulled ≡ 0 → AreWholeFrames p.taps p.stated (length p.pending.items) → WaitsWhole p
-all_wait p none whole = subst (λ n. AreWholeFrames p.taps p.stated (length (drop n p.pending.items))) (sym none) whole
-
 -- what is left after whole frames were pulled
 pub left_whole : (p : Pushing) (n : ℕ) → WaitsWhole p → AreWholeFrames p.taps p.stated n → AreWholeFrames p.taps p.stated (length (drop (p.pulled + n) p.pending.items))
 left_whole p n waits given =

@@ -1,0 +1,4 @@
+pub mod Clips
+pub mod Contents
+pub mod Gains
+pub mod Mixes

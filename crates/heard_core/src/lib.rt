@@ -1,0 +1,2 @@
+//! What is heard: the sound of stored bits at every place, and what a low-pass leaves of errors.
+#![tactic(auto)]

@@ -1,0 +1,6 @@
+pub mod Errors
+pub mod Judged
+pub mod Own
+pub mod Parts
+pub mod Stretches
+pub mod Walks

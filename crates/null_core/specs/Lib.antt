@@ -1,5 +1,6 @@
 pub mod Errors
 pub mod Judged
+pub mod Judging
 pub mod Own
 pub mod Parts
 pub mod Stretches

@@ -1,10 +1,10 @@
 -- Walking along a channel, from one edited span to the next.
-use Rattle.std.specs.Prelude.{◌≡◌, ℕ, ◌+◌, ◌<◌, ◌≤◌, ℤ, Bool, List, length, Option, Some, None, MatchOption, ◌⊎◌}
+use Rattle.std.specs.Prelude.{◌≡◌, ℕ, ◌+◌, ◌<◌, ◌≤◌, ◌↔◌, ◌⊎◌, ℤ, Bool, List, length, Option, Some, None, MatchOption, slice_get}
 use Rattle.null_core.specs.declared.alone.Alone.{Alone}
 use Rattle.null_core.specs.declared.alone.Source.{Source}
 use Rattle.null_core.specs.declared.edited.Span.{Span}
 use Rattle.null_core.specs.declared.own.OwnRun.{OwnRun}
-use Rattle.null_core.specs.Own.{IsAlone, IsEdited, IsOwn, IsOwnAround}
+use Rattle.null_core.specs.Own.{IsAlone, IsEdited, IsHeard, IsOwn, IsOwnAround}
 use Rattle.null_core.specs.Parts.{AskedContent, PartContent}
 
 -- no take's own bits are asked for at a place
@@ -15,10 +15,16 @@ IsNoOnesAlone parts m = (t : ℕ) (o : ℤ) → IsAlone parts t o m → ⊥
 abbrev pub IsNoOnes : List PartContent → List Bool → ℕ → Type 0
 IsNoOnes parts bits m = (t : ℕ) (o : ℤ) → IsOwn parts bits t o m → ⊥
 
--- from a place up to another one the own bits of one source are asked for, or those of none
+-- the parts that are heard at one place are those that are heard at another
+abbrev pub HearSame : List PartContent → ℕ → ℕ → Type 0
+HearSame parts m k = (i : ℕ) (p : PartContent) → slice_get parts i ≡ Some p → IsHeard m p ↔ IsHeard k p
+
+-- from a place up to another one the own bits of one source are asked for, or those of none; if it is one, the same parts
+-- are heard at all these places
 pub record IsAloneFrom (parts : List PartContent) (m : ℕ) (found : Alone) : Type 0 where
   pub some : m < found.until
   pub same : (k : ℕ) → m ≤ k → k < found.until → MatchOption found.source (IsNoOnesAlone parts k) (λ (s : Source). IsAlone parts s.take s.ahead k)
+  pub heard : (s : Source) → found.source ≡ Some s → (k : ℕ) → m ≤ k → k < found.until → HearSame parts m k
 
 -- from a place up to another one the master has the own bits of one source, or those of none; those of one end there
 pub record IsOwnFrom (parts : List PartContent) (bits : List Bool) (m : ℕ) (run : OwnRun) : Type 0 where

@@ -15,13 +15,22 @@ pub struct Source {
     pub ahead: i64,
 }
 
-/// Whose bits are asked for from a place on.
+/// Whose own bits are asked for from a place on.
 #[derive(Clone, Copy)]
 pub struct Alone {
     /// The take whose own bits are asked for, if there is one.
     pub source: Option<Source>,
-    /// The number of a part that is heard there, if there is a source.
-    pub part: usize,
     /// The place up to which this holds.
     pub until: usize,
+}
+
+/// Whose own bits are asked for from place `m` on, and how far at least.
+pub(crate) fn alone_at(parts: &[Part<'_>], m: usize) -> Alone
+    requires { m < 2 ^ 36 }
+    ensures { IsAloneFrom (map part_content parts.now) m result }
+{
+    Alone {
+        source: None,
+        until: m,
+    }
 }

@@ -4,6 +4,8 @@
 mod alone;
 mod asked;
 mod edited;
+mod errors;
+mod judging;
 mod own;
 mod part;
 mod stretch;
@@ -11,6 +13,7 @@ mod stretch;
 pub use alone::{Alone, Source};
 pub use asked::Asked;
 pub use edited::Span;
+pub use judging::judge_channel;
 pub use own::OwnRun;
 pub use part::Part;
 pub use stretch::Stretch;

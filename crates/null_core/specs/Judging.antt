@@ -1,0 +1,46 @@
+-- What is found in a channel.
+use Rattle.std.specs.Prelude.{◌≡◌, ℕ, ◌+◌, ◌-◌, ◌<◌, ◌≤◌, ◌++◌, ℤ, pos, ◌+ℤ◌, ◌-ℤ◌, Bool, List, length, map, MatchOption, MatchResult, Option, Result, Ok, Err, Vec}
+use Rattle.std.specs.declared.alloc.Global.{Global}
+use Rattle.std.specs.List.{range_with_len}
+use Rattle.heard_core.specs.Residuals.{at_place}
+use Rattle.null_core.specs.declared.stretch.Stretch.{Stretch}
+use Rattle.null_core.specs.Errors.{IsLoud, errors, errors_from}
+use Rattle.null_core.specs.Judged.{IsJudged, IsTooLoud}
+use Rattle.null_core.specs.Parts.{AskedContent, reach}
+use Rattle.null_core.specs.Stretches.{AreStretches, AreStretchesTo}
+
+-- P holds of a place and of none before it
+pub record IsFirst (P : ℕ → Type 0) (place : ℕ) : Type 0 where
+  pub here : P place
+  pub before : (earlier : ℕ) → earlier < place → P earlier → ⊥
+
+-- a place from one up to another whose error is too large
+pub record IsLoudIn (a : AskedContent) (bits : List Bool) (from to m : ℕ) : Type 0 where
+  pub after : from ≤ m
+  pub before : m < to
+  pub loud : IsLoud a bits m
+
+-- the errors from one place up to another were appended; or one is too large, and this is the first
+abbrev pub AppendErrors : AskedContent → List Bool → ℕ → ℕ → List ℤ → List ℤ → Option ℕ → Type 0
+AppendErrors a bits from to old new loud = MatchOption loud
+    ((new ≡ old ++ errors_from a bits from (to - from)) × ((m : ℕ) → IsLoudIn a bits from to m → ⊥))
+    (IsFirst (IsLoudIn a bits from to))
+
+-- the errors that a window reads which begins `reach` places before a place, 0 outside of the master
+abbrev pub errors_around : AskedContent → List Bool → ℕ → ℕ → List ℤ
+errors_around a bits n number = map (λ j. at_place (errors a bits) (pos (n + j) -ℤ pos (reach a))) (range_with_len 0 number)
+
+-- no error before a place is too loud
+abbrev pub IsQuietTo : AskedContent → List Bool → ℕ → Type 0
+IsQuietTo a bits end = (m : ℕ) → IsTooLoud a bits m → m < end → ⊥
+
+-- what was found, its stretches as a list
+abbrev pub judged_items : Result (Vec Stretch Global) ℕ → Result (List Stretch) ℕ
+judged_items (Ok stretches) = Ok stretches.items
+judged_items (Err place) = Err place
+
+-- the stretches of a channel, in which no place is too loud; or the first place that is
+abbrev pub JudgesChannel : AskedContent → List Bool → Result (List Stretch) ℕ → Type 0
+JudgesChannel a bits found = MatchResult found
+    (λ stretches. AreStretches a bits stretches × ((m : ℕ) → IsTooLoud a bits m → ⊥))
+    (IsFirst (IsTooLoud a bits))

@@ -1,6 +1,7 @@
 pub mod Errors
 pub mod Judged
 pub mod Judging
+pub mod Mixing
 pub mod Own
 pub mod Parts
 pub mod Stretches

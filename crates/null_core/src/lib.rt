@@ -6,6 +6,7 @@ mod asked;
 mod edited;
 mod errors;
 mod judging;
+mod mixing;
 mod own;
 mod part;
 mod stretch;

@@ -1,6 +1,6 @@
 //! The sound of stored bits at every place.
 
-ghost use Rattle.std.specs.Prelude.{◌≡◌, ◌+◌, ◌^◌, ◌≤◌, IfOk, OnOk, length};
+ghost use Rattle.std.specs.Prelude.{◌≡◌, ◌+◌, ◌^◌, ◌≤◌, IfOk, OnOk, length, unsigned_abs, slice_index_or, pos, ℕ, ◌<◌};
 ghost use Rattle.clip_core.specs.Mixes.{AreTaps};
 ghost use Rattle.heard_core.specs.Sounds.{decoded_from};
 
@@ -26,7 +26,7 @@ impl Model for Decoder {
 }
 
 impl Decoder {
-    ghost use Rattle.std.specs.Prelude.{◌≡◌, ◌+◌, ◌^◌, ◌≤◌, IfOk, OnOk, length};
+    ghost use Rattle.std.specs.Prelude.{◌≡◌, ◌+◌, ◌^◌, ◌≤◌, IfOk, OnOk, length, unsigned_abs, slice_index_or, pos, ℕ, ◌<◌};
     ghost use Rattle.clip_core.specs.Mixes.{AreTaps};
     ghost use Rattle.heard_core.specs.Sounds.{decoded_from};
 
@@ -41,7 +41,8 @@ impl Decoder {
     /// Decode.
     pub fn decode(&self, alloc: Global, bits: &Bits, first: usize, sound: &mut [i32]) -> Result<(), AllocError>
         requires { first + length sound.old ≤ length bits.now }
-        ensures { OnOk result (sound.new ≡ decoded_from self.now bits.now first (length sound.old)) }
+        ensures bound { OnOk result ((i : ℕ) → i < length sound.new → unsigned_abs (slice_index_or sound.new i (pos 0)) ≤ 2 ^ 28) }
+        ensures sound { OnOk result (sound.new ≡ decoded_from self.now bits.now first (length sound.old)) }
     {
         Err(AllocError)
     }

@@ -1,3 +1,4 @@
+pub mod Asking
 pub mod Errors
 pub mod Judged
 pub mod Judging

@@ -1,11 +1,13 @@
 //! The mix at some places.
 
-ghost use Rattle.std.specs.Prelude.{◌≡◌, ◌-◌, ◌^◌, ◌≤◌, EachIndex, IfOk, length, map, pos, slice_index_or, unsigned_abs};
-ghost use Rattle.std.specs.List.{range_with_len};
-ghost use Rattle.null_core.specs.Mixing.{AreFewParts, mixes_from};
-ghost use Rattle.null_core.specs.Parts.{part_content};
+ghost use Rattle.std.specs.Prelude.{◌≡◌, ◌+◌, ◌-◌, ◌^◌, ◌<◌, ◌≤◌, ◌*ℤ◌, EachIndex, IfOk, OnOk, length, map, pos, slice_index_or, unsigned_abs};
+ghost use Rattle.clip_core.specs.Gains.{ArePoints, gain};
+ghost use Rattle.clip_core.specs.Lines.{IsLineOf, IsOnLine, line_gain, until};
+ghost use Rattle.null_core.specs.Mixing.{AreFewParts, AreSmall, IsGained, IsPartAdded, mixes_from};
+ghost use Rattle.null_core.specs.Parts.{IsPart, part_content};
 
 use crate::part::Part;
+use clip_core::{Line, Point, line_at};
 use std::alloc::{AllocError, Global};
 
 /// The mix at the places from `from` up to `to`: what all parts add there. Err is out of memory.
@@ -21,5 +23,87 @@ pub(crate) fn mix_between(
     ensures mix { IfOk result (λ mixed. mixed.items ≡ mixes_from (map part_content parts.now) from (to - from)) }
     ensures bound { IfOk result (λ mixed. EachIndex mixed.items (λ i. unsigned_abs (slice_index_or mixed.items i (pos 0)) ≤ 2 ^ 60)) }
 {
-    Err(AllocError)
+    let mut sound = vec![in alloc; 0; to - from]?;
+    let mut mixed = vec![in alloc; 0; to - from]?;
+    for part in parts {
+        add_part(alloc, part, from, &mut sound, &mut mixed)?;
+    }
+    Ok(mixed)
+}
+
+// Adds what a part adds to the mix at the places from `from` on. The sound is a place to work in.
+fn add_part(
+    alloc: Global,
+    part: &Part<'_>,
+    from: usize,
+    sound: &mut [i32],
+    mixed: &mut [i64],
+) -> Result<(), AllocError>
+    requires long { length sound.old ≡ length mixed.old }
+    requires inside { from + length mixed.old ≤ 2 ^ 36 }
+    requires small { AreSmall (2 ^ 61) mixed.old }
+    ensures { OnOk result (IsPartAdded (part_content part.now) from mixed.old mixed.new) }
+{
+    let low = from.max(part.at);
+    let high = (from + mixed.len()).min(part.at + part.size);
+    if high <= low {
+        return Ok(());
+    }
+    let k = low - part.at;
+    let heard = &mut sound[..high - low];
+    part.decoder.decode(alloc, part.bits, part.start + k, heard)?;
+    add_gained(part.points, k, heard, &mut mixed[low - from..high - from]);
+    Ok(())
+}
+
+// Adds sound times the gain, from place `k` of a clip on.
+fn add_gained(points: &[Point], k: usize, sound: &[i32], mixed: &mut [i64])
+    requires points { ArePoints points.now }
+    requires long { length sound.now ≡ length mixed.old }
+    requires inside { k + length sound.now ≤ 2 ^ 36 }
+    requires sound { AreSmall (2 ^ 28) sound.now }
+    requires small { AreSmall (2 ^ 61) mixed.old }
+    ensures { IsGained (gain points.now) k sound.now mixed.old mixed.new }
+{
+    let mut done = 0;
+    while done < sound.len() {
+        let line = line_at(points, k + done);
+        let end = sound.len().min(line.until() - k);
+        add_line(line, k + done, &sound[done..end], &mut mixed[done..end]);
+        done = end;
+    }
+}
+
+// The same for places of one line.
+fn add_line(line: Line, k: usize, sound: &[i32], mixed: &mut [i64])
+    requires begun { line.from.place ≤ k }
+    requires on { k + length sound.now ≤ until line }
+    requires long { length sound.now ≡ length mixed.old }
+    requires sound { AreSmall (2 ^ 28) sound.now }
+    requires small { AreSmall (2 ^ 61) mixed.old }
+    ensures { IsGained (line_gain line) k sound.now mixed.old mixed.new }
+{
+    if sound.is_empty() {
+        return;
+    }
+    if line.is_level() {
+        let gain = line.gain_at(k);
+        for i in 0..sound.len() {
+            mixed[i] += times(gain, sound[i]);
+        }
+    } else {
+        for i in 0..sound.len() {
+            mixed[i] += times(line.gain_at(k + i), sound[i]);
+        }
+    }
+}
+
+// Sound times a gain.
+fn times(gain: i32, sound: i32) -> i64
+    requires gain { unsigned_abs gain ≤ 2 ^ 26 }
+    requires sound { unsigned_abs sound ≤ 2 ^ 28 }
+    ensures value { result ≡ gain *ℤ sound }
+    ensures bound { unsigned_abs result ≤ 2 ^ 54 }
+{
+    i64::from(gain) * i64::from(sound)
 }

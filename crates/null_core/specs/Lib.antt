@@ -1,5 +1,6 @@
 pub mod Asking
 pub mod Errors
+pub mod Holding
 pub mod Judged
 pub mod Judging
 pub mod Mixing

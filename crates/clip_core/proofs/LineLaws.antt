@@ -4,6 +4,8 @@ use Rattle.std.proofs.lemmas.Int.{ints, unsigned_abs-mul, fits_signed_from_abs, 
 use Rattle.std.proofs.lemmas.Nat.{div_below, mul-le}
 use Rattle.std.proofs.Math.Nat.{div-le_of_le-mul, zero-div}
 use Rattle.std.specs.Int.{int_div_euclid}
+use Rattle.clip_core.specs.declared.gain.Point.{Point}
+use Rattle.clip_core.specs.Gains.{IsLine, on_line}
 
 -- a fall that is rounded down is no more than the whole fall
 fallen : (fall run most : ℕ) → 0 < run → fall ≤ most * run → (d : ℕ) × (int_div_euclid (neg_ℤ (pos fall)) (pos run) ≡ neg_ℤ (pos d)) × (d ≤ most)
@@ -41,3 +43,20 @@ rise_kept rise r places run small inside short is =
     let all : to_z w64 run ≡ pos run = omega (arith, ints) in
     let most = mul-le (unsigned_abs rise) places (2 ^ 27) (2 ^ 36 - 1) small (omega arith) in
     rw (e, before, all, kept_wide (rise *ℤ pos places) (rw (unsigned_abs-mul rise (pos places)) (omega (arith, most)))) refl
+
+-- the gain on a line is within its ends' limits
+pub on_line_in : (p q : Point) → IsLine p q → (k : ℕ) → p.place ≤ k → k < q.place → unsigned_abs (on_line p q k) ≤ 2 ^ 26
+on_line_in p q fine k from to = gain_in p.gain q.gain (q.gain -ℤ p.gain) (k - p.place) (q.place - p.place) (2 ^ 26) refl (omega (arith, from, to)) fine.first.gain_fits fine.last.gain_fits
+
+-- 32 bits suffice for the gain
+pub gain_is : (p q : Point) → IsLine p q → (k : ℕ) → p.place ≤ k → k < q.place → (risen : ℤ) → risen ≡ int_div_euclid (to_z w32 (of_z w32 (to_z w32 (of_z w32 q.gain) -ℤ to_z w32 (of_z w32 p.gain))) *ℤ pos (k - p.place)) (pos (q.place - p.place)) → to_z w32 (of_z w32 p.gain) +ℤ to_z w32 (of_z w32 risen) ≡ on_line p q k
+gain_is p q fine k from to risen is =
+    let first = fine.first.gain_fits in
+    let last = fine.last.gain_fits in
+    let rise = q.gain -ℤ p.gain in
+    let low : unsigned_abs rise ≤ 2 ^ 27 = omega (arith, ints, first, last) in
+    let back : to_z w32 (of_z w32 (to_z w32 (of_z w32 q.gain) -ℤ to_z w32 (of_z w32 p.gain))) ≡ rise =
+        rw (kept q.gain (omega (arith, last)), kept p.gain (omega (arith, first))) (kept rise (omega (arith, low))) in
+    let value : risen ≡ int_div_euclid (rise *ℤ pos (k - p.place)) (pos (q.place - p.place)) = is ∙ ap (λ z. int_div_euclid (z *ℤ pos (k - p.place)) (pos (q.place - p.place))) back in
+    let small : unsigned_abs risen ≤ 2 ^ 27 = rw value (omega (arith, risen_in rise (k - p.place) (q.place - p.place) (omega (arith, from, to)), low)) in
+    rw (kept p.gain (omega (arith, first)), kept risen (omega (arith, small)), value) refl

@@ -146,68 +146,74 @@ module _ (points rest : List Point) (n : ℕ) (long : length rest + n ≡ length
   ]
 
 -- the line by the points before a place, and those after it
-module _ (points : List Point) (fine : ArePoints points) (k n : ℕ) (below : k < 2 ^ 36) (parts : IsParted points k n) where
-  module _ (before after : List Point) (long : length before ≡ n) (rest : length after + n ≡ length points) (same : (k : ℕ) (d : Point) → k < n → get_or before k d ≡ get_or points k d) (tail : (k : ℕ) (d : Point) → get_or after k d ≡ get_or points (n + k) d) where
-    pub between : (a b : Point) → Some a ≡ slice_get before (length before - 1) → Some b ≡ slice_get after 0 → IsLineAt points k a b
-    between a b last first =
-        let here = last_some points before n parts.bound long same a last in
-        let next = first_some points after n rest tail b first in
-        let one : n - 1 + 1 ≡ n = omega (arith, here.0) in
-        record {
-          limits = record {
-            first = point_of points fine (n - 1) a here.1;
-            last = point_of points fine n b next;
-            rising = omega (arith, parts.before (n - 1) a (omega (arith, here.0)) here.1, parts.after n b (omega arith) next);
-          };
-          begun = parts.before (n - 1) a (omega (arith, here.0)) here.1;
-          not_ended = parts.after n b (omega arith) next;
-          gains = λ j from to. sym (gain_between points fine.rising (n - 1) a b here.1 (rw one next) j from to);
-        }
+pub record AreAround (points : List Point) (k n : ℕ) (before after : List Point) : Type 0 where
+  pub parts : IsParted points k n
+  pub long : length before ≡ n
+  pub rest : length after + n ≡ length points
+  pub same : (i : ℕ) (d : Point) → i < n → get_or before i d ≡ get_or points i d
+  pub tail : (i : ℕ) (d : Point) → get_or after i d ≡ get_or points (n + i) d
 
-    pub ended : (a : Point) → Some a ≡ slice_get before (length before - 1) → None ≡ slice_get after 0 → IsLineAt points k a (record { place = 2 ^ 36; gain = to_z w32 (of_z w32 a.gain) })
-    ended a last none =
-        let here = last_some points before n parts.bound long same a last in
-        let end = first_none points after n rest tail none in
-        let from = parts.before (n - 1) a (omega (arith, here.0)) here.1 in
-        let point = point_of points fine (n - 1) a here.1 in
-        rw (kept a.gain (omega (arith, point.gain_fits))) (record {
-          limits = record {
-            first = point;
-            last = record { place_fits = omega arith; gain_fits = point.gain_fits };
-            rising = omega (arith, from, below);
-          };
-          begun = from;
-          not_ended = below;
-          gains = λ j after to. level_gain a.place (2 ^ 36) a.gain j ∙ sym (gain_ended points fine.rising (n - 1) a here.1 (omega (arith, here.0, end)) j after);
-        })
+module _ (points : List Point) (fine : ArePoints points) (k n : ℕ) (below : k < 2 ^ 36) (before after : List Point) (around : AreAround points k n before after) where
+  pub between : (a b : Point) → Some a ≡ slice_get before (length before - 1) → Some b ≡ slice_get after 0 → IsLineAt points k a b
+  between a b last first =
+      let here = last_some points before n around.parts.bound around.long around.same a last in
+      let next = first_some points after n around.rest around.tail b first in
+      let one : n - 1 + 1 ≡ n = omega (arith, here.0) in
+      record {
+        limits = record {
+          first = point_of points fine (n - 1) a here.1;
+          last = point_of points fine n b next;
+          rising = omega (arith, around.parts.before (n - 1) a (omega (arith, here.0)) here.1, around.parts.after n b (omega arith) next);
+        };
+        begun = around.parts.before (n - 1) a (omega (arith, here.0)) here.1;
+        not_ended = around.parts.after n b (omega arith) next;
+        gains = λ j from to. sym (gain_between points fine.rising (n - 1) a b here.1 (rw one next) j from to);
+      }
 
-    pub started : (a : Point) → None ≡ slice_get before (length before - 1) → Some a ≡ slice_get after 0 → IsLineAt points k (record { place = 0; gain = to_z w32 (of_z w32 a.gain) }) a
-    started a none first =
-        let zero : n ≡ 0 = last_none points before n parts.bound long same none in
-        let here = first_some points after n rest tail a first in
-        let to = parts.after n a (omega arith) here in
-        let point = point_of points fine n a here in
-        rw (kept a.gain (omega (arith, point.gain_fits))) (record {
-          limits = record {
-            first = record { place_fits = omega arith; gain_fits = point.gain_fits };
-            last = point;
-            rising = omega (arith, to);
-          };
-          begun = omega arith;
-          not_ended = to;
-          gains = λ j from less. level_gain 0 a.place a.gain j ∙ sym (gain_started points a j (subst (λ m. slice_get points m ≡ Some a) zero here) less);
-        })
+  pub ended : (a : Point) → Some a ≡ slice_get before (length before - 1) → None ≡ slice_get after 0 → IsLineAt points k a (record { place = 2 ^ 36; gain = to_z w32 (of_z w32 a.gain) })
+  ended a last none =
+      let here = last_some points before n around.parts.bound around.long around.same a last in
+      let end = first_none points after n around.rest around.tail none in
+      let from = around.parts.before (n - 1) a (omega (arith, here.0)) here.1 in
+      let point = point_of points fine (n - 1) a here.1 in
+      rw (kept a.gain (omega (arith, point.gain_fits))) (record {
+        limits = record {
+          first = point;
+          last = record { place_fits = omega arith; gain_fits = point.gain_fits };
+          rising = omega (arith, from, below);
+        };
+        begun = from;
+        not_ended = below;
+        gains = λ j after to. level_gain a.place (2 ^ 36) a.gain j ∙ sym (gain_ended points fine.rising (n - 1) a here.1 (omega (arith, here.0, end)) j after);
+      })
 
-    pub free : None ≡ slice_get before (length before - 1) → None ≡ slice_get after 0 → IsLineAt points k (record { place = 0; gain = full_gain }) (record { place = 2 ^ 36; gain = full_gain })
-    free none end =
-        let empty : length points ≡ 0 = omega (arith, last_none points before n parts.bound long same none, first_none points after n rest tail end) in
-        record {
-          limits = record {
-            first = record { place_fits = omega arith; gain_fits = omega arith };
-            last = record { place_fits = omega arith; gain_fits = omega arith };
-            rising = omega arith;
-          };
-          begun = omega arith;
-          not_ended = below;
-          gains = λ j from to. level_gain 0 (2 ^ 36) full_gain j ∙ sym (gain_free points empty j);
-        }
+  pub started : (a : Point) → None ≡ slice_get before (length before - 1) → Some a ≡ slice_get after 0 → IsLineAt points k (record { place = 0; gain = to_z w32 (of_z w32 a.gain) }) a
+  started a none first =
+      let zero : n ≡ 0 = last_none points before n around.parts.bound around.long around.same none in
+      let here = first_some points after n around.rest around.tail a first in
+      let to = around.parts.after n a (omega arith) here in
+      let point = point_of points fine n a here in
+      rw (kept a.gain (omega (arith, point.gain_fits))) (record {
+        limits = record {
+          first = record { place_fits = omega arith; gain_fits = point.gain_fits };
+          last = point;
+          rising = omega (arith, to);
+        };
+        begun = omega arith;
+        not_ended = to;
+        gains = λ j from less. level_gain 0 a.place a.gain j ∙ sym (gain_started points a j (subst (λ m. slice_get points m ≡ Some a) zero here) less);
+      })
+
+  pub free : None ≡ slice_get before (length before - 1) → None ≡ slice_get after 0 → IsLineAt points k (record { place = 0; gain = full_gain }) (record { place = 2 ^ 36; gain = full_gain })
+  free none end =
+      let empty : length points ≡ 0 = omega (arith, last_none points before n around.parts.bound around.long around.same none, first_none points after n around.rest around.tail end) in
+      record {
+        limits = record {
+          first = record { place_fits = omega arith; gain_fits = omega arith };
+          last = record { place_fits = omega arith; gain_fits = omega arith };
+          rising = omega arith;
+        };
+        begun = omega arith;
+        not_ended = below;
+        gains = λ j from to. level_gain 0 (2 ^ 36) full_gain j ∙ sym (gain_free points empty j);
+      }

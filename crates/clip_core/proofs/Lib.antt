@@ -1,2 +1,3 @@
+mod ClipLaws
 mod LineLaws
 mod PointLaws

@@ -33,23 +33,27 @@ pub fn line_at(points: &[Point], k: usize) -> Line
             from: *from,
             to: *to,
         },
-        (Some(last), None) => level(last.gain, last.place, MOST_PLACES),
-        (None, Some(first)) => level(first.gain, 0, first.place),
-        (None, None) => level(FULL_GAIN, 0, MOST_PLACES),
-    }
-}
-
-// A line of one gain.
-fn level(gain: i32, from: usize, to: usize) -> Line
-    requires gain { unsigned_abs gain ≤ 2 ^ 26 }
-    requires places { from < to }
-    requires end { to ≤ 2 ^ 36 }
-    ensures from { result.from ≡ record { place = from; gain = gain } }
-    ensures to { result.to ≡ record { place = to; gain = gain } }
-{
-    Line {
-        from: Point { place: from, gain },
-        to: Point { place: to, gain },
+        (Some(last), None) => Line {
+            from: *last,
+            to: Point {
+                place: MOST_PLACES,
+                ..*last
+            },
+        },
+        (None, Some(first)) => Line {
+            from: Point { place: 0, ..*first },
+            to: *first,
+        },
+        (None, None) => Line {
+            from: Point {
+                place: 0,
+                gain: FULL_GAIN,
+            },
+            to: Point {
+                place: MOST_PLACES,
+                gain: FULL_GAIN,
+            },
+        },
     }
 }
 

@@ -1,0 +1,3 @@
+mod ClipLaws
+mod LineLaws
+mod PointLaws

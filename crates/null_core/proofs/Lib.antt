@@ -1,2 +1,4 @@
 pub mod UnitLaws
 pub mod ErrorLaws
+pub mod GainLaws
+pub mod MidLaws

@@ -1,6 +1,6 @@
 //! The mix at some places.
 
-ghost use Rattle.std.specs.Prelude.{◌≡◌, ◌+◌, ◌-◌, ◌^◌, ◌<◌, ◌≤◌, ◌*ℤ◌, EachIndex, IfOk, OnOk, length, map, pos, slice_index_or, unsigned_abs};
+ghost use Rattle.std.specs.Prelude.{◌≡◌, ◌+◌, ◌-◌, ◌^◌, ◌<◌, ◌≤◌, ◌+ℤ◌, ◌*ℤ◌, EachIndex, IfOk, OnOk, length, map, pos, slice_index_or, unsigned_abs};
 ghost use Rattle.clip_core.specs.Gains.{ArePoints, gain};
 ghost use Rattle.clip_core.specs.Lines.{IsLineOf, IsOnLine, line_gain, until};
 ghost use Rattle.null_core.specs.Mixing.{AreFewParts, AreSmall, IsGained, IsPartAdded, mixes_from};
@@ -89,13 +89,23 @@ fn add_line(line: Line, k: usize, sound: &[i32], mixed: &mut [i64])
     if line.is_level() {
         let gain = line.gain_at(k);
         for i in 0..sound.len() {
-            mixed[i] += times(gain, sound[i]);
+            mixed[i] = with_sound(mixed[i], gain, sound[i]);
         }
     } else {
         for i in 0..sound.len() {
-            mixed[i] += times(line.gain_at(k + i), sound[i]);
+            mixed[i] = with_sound(mixed[i], line.gain_at(k + i), sound[i]);
         }
     }
+}
+
+// A mix and sound times a gain.
+fn with_sound(mixed: i64, gain: i32, sound: i32) -> i64
+    requires mixed { unsigned_abs mixed ≤ 2 ^ 61 }
+    requires gain { unsigned_abs gain ≤ 2 ^ 26 }
+    requires sound { unsigned_abs sound ≤ 2 ^ 28 }
+    ensures { result ≡ mixed +ℤ (gain *ℤ sound) }
+{
+    mixed + times(gain, sound)
 }
 
 // Sound times a gain.

@@ -188,9 +188,9 @@ pub fn push_part(
 }
 
 /// The sums at a run of places before they are rounded, by the tables of the same decimator: the convolution at place
-/// `first` (in bits), and at each place a factor after the one before. Each is what [`crate::sum_at`] returns. Places may
-/// be before the first whole window and after the last bit: what is outside the recording counts 0. It takes no memory.
-/// A few thousand sums at a time stay in the cache.
+/// `first` (in bits), and at each place a factor after the one before. Each is what [`crate::sum_at`] returns. Places
+/// may be before the first whole window and after the last bit: what is outside the recording counts 0. It takes no
+/// memory. A few thousand sums at a time stay in the cache.
 pub fn fill_sums(sums: &mut [i32], taps: &Taps, tables: &Tables, bits: &Bits, first: usize)
     requires tables { tables.now ≡ aligned taps.now.taps taps.now.delay }
     requires places { ArePlayable taps.now first (length sums.old) }

@@ -1,2 +1,4 @@
+pub mod DecoderView
+pub mod Pieces
 pub mod Residuals
 pub mod Sounds

@@ -2,7 +2,9 @@
 #![tactic(auto)]
 
 mod decoder;
+mod piece;
 mod residuals;
+mod sums;
 
 pub use decoder::Decoder;
 pub use residuals::Audible;

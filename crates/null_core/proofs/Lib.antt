@@ -2,3 +2,5 @@ pub mod UnitLaws
 pub mod ErrorLaws
 pub mod GainLaws
 pub mod MidLaws
+pub mod PartLaws
+pub mod SmallLaws

@@ -44,6 +44,7 @@ fn add_part(
     requires small { AreSmall (2 ^ 61) mixed.old }
     ensures { OnOk result (IsPartAdded (part_content part.now) from mixed.old mixed.new) }
 {
+    let _held = part.bits.len();
     let low = from.max(part.at);
     let high = (from + mixed.len()).min(part.at + part.size);
     if high <= low {

@@ -1,0 +1,4 @@
+pub mod ConvLaws
+pub mod DecodedLaws
+pub mod PartLaws
+pub mod PieceLaws

@@ -1,12 +1,13 @@
 -- The points of a channel, and the ends of clips.
-use Rattle.std.proofs.Common.{◌≡◌, ℕ, zero, ◌+◌, ◌<◌, ◌≤◌, ◌^◌, List, [], ◌∷◌, All, length, get_or, map, ap, subst, sym, inl, inr, ltb, true, Vec, Global, ◌∙◌, arith}
+use Rattle.std.proofs.Common.{◌≡◌, ℕ, ◌+◌, ◌<◌, ◌≤◌, ◌^◌, List, [], All, length, get_or, map, drop, max, ap, subst, sym, inl, inr, ltb, true, Vec, Global, ◌∙◌, arith}
 use Rattle.std.proofs.lemmas.Bool.{cases_lt, ltb-true}
-use Rattle.std.proofs.lemmas.List.{get_or_past, get_or-map, length-map}
+use Rattle.std.proofs.lemmas.List.{at_drop_more, get_or_past, get_or-map, length-map}
+use Rattle.std.specs.Ordering.{nat_cmp, ord_max}
 use Rattle.clip_core.specs.declared.clip.Clip.{Clip}
 use Rattle.clip_core.specs.declared.gain.Point.{Point}
-use Rattle.clip_core.specs.Clips.{AreGains, ArePointsGiven, GainContent, alike, clip_content, each, full, points_of}
-use Rattle.clip_core.specs.Gains.{ArePoints, IsPoint}
-use Rattle.clip_core.specs.Mixes.{clip_end}
+use Rattle.clip_core.specs.Clips.{AreGains, GainContent, alike, clip_content, each, full, points_of}
+use Rattle.clip_core.specs.Gains.{ArePoints}
+use Rattle.clip_core.specs.Mixes.{clip_end, mix_length}
 
 no_points : ArePoints []
 no_points = record { few = omega arith; each = λ i d inside. absurd (omega arith); rising = λ i p q here next. cc }
@@ -29,3 +30,15 @@ pub end_within : (clips : List Clip) → All (λ c. clip_end c ≤ 2 ^ 36) (map 
 end_within clips fine i clip inside is =
     let there = get_or-map clip_content clips i clip (clip_content clip) inside in
     subst (λ (c : Clip). c.at + c.length ≤ 2 ^ 36) (sym is) (subst (λ c. clip_end c ≤ 2 ^ 36) there (fine i (clip_content clip) (omega (arith, inside, length-map clips clip_content))))
+
+-- the greater of two numbers
+pub greater : (a b : ℕ) → ord_max nat_cmp a b ≡ max a b
+greater a b = grind arith
+
+-- one clip more
+pub longest_so_far : (clips : List Clip) (i : ℕ) (clip : Clip) (n : ℕ) → i < length clips → clip ≡ get_or clips i clip → max (max n (clip.at + clip.length)) (mix_length (map clip_content (drop (i + 1) clips))) ≡ max n (mix_length (map clip_content (drop i clips)))
+longest_so_far clips i clip n inside is =
+    let left = at_drop_more (λ xs. mix_length (map clip_content xs)) clips i clip inside in
+    let more : max (clip.at + clip.length) (mix_length (map clip_content (drop (i + 1) clips))) ≡ mix_length (map clip_content (drop i clips)) =
+    ap (λ (c : Clip). max (c.at + c.length) (mix_length (map clip_content (drop (i + 1) clips)))) is ∙ sym left in
+    omega (arith, more)

@@ -1,5 +1,5 @@
 -- How much a line rises or falls.
-use Rattle.std.proofs.Common.{◌≡◌, ℕ, zero, suc, ◌+◌, ◌-◌, ◌*◌, ◌/◌, ◌<◌, ◌≤◌, ◌^◌, ℤ, pos, negsuc, ◌+ℤ◌, ◌-ℤ◌, ◌*ℤ◌, neg_ℤ, unsigned_abs, refl, ap, ◌∙◌, arith, mul-le-mul_left, to_z, of_z, w32, w64}
+use Rattle.std.proofs.Common.{◌≡◌, ℕ, zero, suc, ◌-◌, ◌*◌, ◌/◌, ◌<◌, ◌≤◌, ◌^◌, ℤ, pos, negsuc, ◌+ℤ◌, ◌-ℤ◌, ◌*ℤ◌, neg_ℤ, unsigned_abs, refl, ap, ◌∙◌, arith, mul-le-mul_left, FitsSigned, to_z, of_z, w32, w64}
 use Rattle.std.proofs.lemmas.Int.{ints, unsigned_abs-mul, fits_signed_from_abs, to_z-of_z}
 use Rattle.std.proofs.lemmas.Nat.{div_below, mul-le}
 use Rattle.std.proofs.Math.Nat.{div-le_of_le-mul, zero-div}
@@ -36,13 +36,23 @@ pub kept_wide : (z : ℤ) → unsigned_abs z < 2 ^ 63 → to_z w64 (of_z w64 z) 
 kept_wide z h = to_z-of_z w64 z (fits_signed_from_abs w64 z h)
 
 -- 64 bits suffice for the rise
-pub rise_kept : (rise r : ℤ) (places run : ℕ) → unsigned_abs rise ≤ 2 ^ 27 → places < run → run ≤ 2 ^ 36 → r ≡ to_z w32 (of_z w32 rise) → int_div_euclid (to_z w64 (of_z w64 (to_z w64 (of_z w64 r) *ℤ to_z w64 places))) (to_z w64 run) ≡ int_div_euclid (rise *ℤ pos places) (pos run)
-rise_kept rise r places run small inside short is =
-    let e : to_z w64 (of_z w64 r) ≡ rise = ap (λ z. to_z w64 (of_z w64 z)) (is ∙ kept rise (omega arith)) ∙ kept_wide rise (omega arith) in
-    let before : to_z w64 places ≡ pos places = omega (arith, ints) in
-    let all : to_z w64 run ≡ pos run = omega (arith, ints) in
-    let most = mul-le (unsigned_abs rise) places (2 ^ 27) (2 ^ 36 - 1) small (omega arith) in
-    rw (e, before, all, kept_wide (rise *ℤ pos places) (rw (unsigned_abs-mul rise (pos places)) (omega (arith, most)))) refl
+module _ (rise r : ℤ) (places run : ℕ) (small : unsigned_abs rise ≤ 2 ^ 27) (inside : places < run) (short : run ≤ 2 ^ 36) (is : r ≡ to_z w32 (of_z w32 rise)) where
+  factors : to_z w64 (of_z w64 r) *ℤ to_z w64 places ≡ rise *ℤ pos places
+  factors =
+      let e : to_z w64 (of_z w64 r) ≡ rise = ap (λ z. to_z w64 (of_z w64 z)) (is ∙ kept rise (omega arith)) ∙ kept_wide rise (omega arith) in
+      let before : to_z w64 places ≡ pos places = omega (arith, ints) in
+      λ j. e j *ℤ before j
+
+  product_in : unsigned_abs (rise *ℤ pos places) < 2 ^ 63
+  product_in = let most = mul-le (unsigned_abs rise) places (2 ^ 27) (2 ^ 36 - 1) small (omega arith) in rw (unsigned_abs-mul rise (pos places)) (omega (arith, most))
+
+  pub product_fits : FitsSigned w64 (to_z w64 (of_z w64 r) *ℤ to_z w64 places)
+  product_fits = rw factors (fits_signed_from_abs w64 (rise *ℤ pos places) product_in)
+
+  pub rise_kept : int_div_euclid (to_z w64 (of_z w64 (to_z w64 (of_z w64 r) *ℤ to_z w64 places))) (to_z w64 run) ≡ int_div_euclid (rise *ℤ pos places) (pos run)
+  rise_kept =
+      let all : to_z w64 run ≡ pos run = omega (arith, ints) in
+      rw (factors, all, kept_wide (rise *ℤ pos places) product_in) refl
 
 -- the gain on a line is within its ends' limits
 pub on_line_in : (p q : Point) → IsLine p q → (k : ℕ) → p.place ≤ k → k < q.place → unsigned_abs (on_line p q k) ≤ 2 ^ 26
@@ -56,7 +66,7 @@ gain_is p q fine k from to risen is =
     let rise = q.gain -ℤ p.gain in
     let low : unsigned_abs rise ≤ 2 ^ 27 = omega (arith, ints, first, last) in
     let back : to_z w32 (of_z w32 (to_z w32 (of_z w32 q.gain) -ℤ to_z w32 (of_z w32 p.gain))) ≡ rise =
-        rw (kept q.gain (omega (arith, last)), kept p.gain (omega (arith, first))) (kept rise (omega (arith, low))) in
+    rw (kept q.gain (omega (arith, last)), kept p.gain (omega (arith, first))) (kept rise (omega (arith, low))) in
     let value : risen ≡ int_div_euclid (rise *ℤ pos (k - p.place)) (pos (q.place - p.place)) = is ∙ ap (λ z. int_div_euclid (z *ℤ pos (k - p.place)) (pos (q.place - p.place))) back in
     let small : unsigned_abs risen ≤ 2 ^ 27 = rw value (omega (arith, risen_in rise (k - p.place) (q.place - p.place) (omega (arith, from, to)), low)) in
     rw (kept p.gain (omega (arith, first)), kept risen (omega (arith, small)), value) refl

@@ -1,5 +1,5 @@
 -- The straight lines on which the gain of a clip is.
-use Rattle.std.specs.Prelude.{◌≡◌, ℕ, ◌^◌, ◌<◌, ◌≤◌, ℤ, List}
+use Rattle.std.specs.Prelude.{◌≡◌, ℕ, ◌<◌, ◌≤◌, ℤ, List}
 use Rattle.clip_core.specs.declared.gain.Point.{Point}
 use Rattle.clip_core.specs.declared.line.Line.{Line}
 use Rattle.clip_core.specs.Gains.{gain, on_line}

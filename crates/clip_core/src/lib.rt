@@ -16,4 +16,4 @@ pub use clip::Clip;
 pub use gain::{Gains, Point};
 pub use line::Line;
 pub use lines::line_at;
-pub use mix::{mix_length, Mix};
+pub use mix::{Mix, mix_length};

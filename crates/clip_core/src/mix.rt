@@ -31,7 +31,8 @@ pub struct Mix {
 /// How many places clips have in the mix, up to the last end of one. Each ends at most at `2^36`.
 pub fn mix_length(clips: &[Clip]) -> usize
     requires { All (λ c. clip_end c ≤ 2 ^ 36) (map clip_content clips.now) }
-    ensures { result ≡ mix_length (map clip_content clips.now) }
+    ensures value { result ≡ mix_length (map clip_content clips.now) }
+    ensures bound { result ≤ 2 ^ 36 }
 {
     let mut length = 0;
     for clip in clips {

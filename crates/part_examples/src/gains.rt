@@ -6,7 +6,8 @@ const FULL: i32 = 1 << 24;
 
 const NO_PLACE: usize = 1 << 36;
 
-// The gain at a place of a clip that has these points. None where they aren't within their limits.
+// The gain at a place of a clip that has no point, one or two. None where the points or the place aren't within their
+// limits.
 fn gain_of_none(k: usize) -> Option<i32> {
     if k >= NO_PLACE {
         return None;
@@ -76,7 +77,11 @@ fn is_on_line(row: &Row) -> bool {
 
 #[test]
 fn gains_are_on_lines_rounded_down(rt: HostRuntime) {
-    assert!(rt; ROWS.iter().all(|row| is_on_line(row)), "a row of two points");
+    let mut are_on_lines = true;
+    for row in ROWS {
+        are_on_lines = are_on_lines && is_on_line(row);
+    }
+    assert!(rt; are_on_lines, "a row of two points");
 }
 
 #[test]

@@ -1,4 +1,4 @@
-use Rattle.std.proofs.Common.{rules, ◌≡◌, nat_le, sym, subst}
+use Rattle.std.proofs.Common.{rules, nat_le, sym, subst}
 use Rattle.std.proofs.lemmas.Fn.{always_returns_same}
 use Rattle.clip_core.proofs.PointLaws.{AreAround, IsLineAt, IsParted, between, ended, free, is_parted, parted, started}
 use Rattle.clip_core.proofs.lines.line_at.Goals as goal

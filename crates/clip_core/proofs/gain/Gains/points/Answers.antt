@@ -13,5 +13,5 @@ returns-in-Some c =
     let inside = subst (λ (xs : List (Vec Point Global)). true ≡ ltb c.args.channel (length xs)) lists found.0 in
     let value = subst (λ (xs : List (Vec Point Global)). points ≡ get_or xs c.args.channel points) lists found.1 in
     let is : c.as_slice-in-Some.result.now ≡ points_of (gain_content c.args.self.now) c.args.channel =
-        rw c.in-Each.is (c.as_slice-in-Some.ensures.value ∙ list_of c.in-Each.lists.items c.args.channel points inside value) in
+    rw c.in-Each.is (c.as_slice-in-Some.ensures.value ∙ list_of c.in-Each.lists.items c.args.channel points inside value) in
     record { points = is; within = λ fine. subst ArePoints (sym is) (points_within (gain_content c.args.self.now) c.args.channel fine) }

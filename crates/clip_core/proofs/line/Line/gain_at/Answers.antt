@@ -1,4 +1,4 @@
-use Rattle.std.proofs.Common.{◌≡◌, ◌^◌, ◌≤◌, ◌+ℤ◌, unsigned_abs, ◌∙◌, arith, w32, to_z, of_z}
+use Rattle.std.proofs.Common.{◌≡◌, ◌^◌, ◌≤◌, ◌+ℤ◌, unsigned_abs, arith, w32, to_z, of_z}
 use Rattle.std.proofs.lemmas.Int.{fits_signed_from_abs}
 use Rattle.clip_core.specs.Lines.{line_gain}
 use Rattle.clip_core.proofs.LineLaws.{gain_is, kept, on_line_in}

@@ -1,2 +1,5 @@
+pub mod AudibleView
+pub mod Laws
+pub mod Products
 pub mod Residuals
 pub mod Sounds

@@ -1,2 +1,9 @@
 //! What is heard: the sound of stored bits at every place, and what a low-pass leaves of errors.
 #![tactic(auto)]
+
+mod laws;
+mod products;
+mod residuals;
+
+pub use laws::windows_are_residuals;
+pub use residuals::Audible;

@@ -1,0 +1,3 @@
+pub mod DotLaws
+pub mod LaneLaws
+pub mod WindowLaws

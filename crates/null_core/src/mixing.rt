@@ -1,6 +1,6 @@
 //! The mix at some places.
 
-ghost use Rattle.std.specs.Prelude.{◌≡◌, ◌+◌, ◌-◌, ◌^◌, ◌<◌, ◌≤◌, ◌+ℤ◌, ◌*ℤ◌, EachIndex, IfOk, OnOk, length, map, pos, slice_index_or, unsigned_abs};
+ghost use Rattle.std.specs.Prelude.{◌≡◌, ◌+◌, ◌-◌, ◌^◌, ◌<◌, ◌≤◌, ◌+ℤ◌, ◌*ℤ◌, EachIndex, IfOk, length, map, pos, slice_index_or, unsigned_abs};
 ghost use Rattle.clip_core.specs.Gains.{ArePoints, gain};
 ghost use Rattle.clip_core.specs.Lines.{IsLineOf, IsOnLine, line_gain, until};
 ghost use Rattle.null_core.specs.Mixing.{AreFewParts, AreSmall, IsGained, IsPartAdded, mixes_from};
@@ -26,35 +26,28 @@ pub(crate) fn mix_between(
     let mut sound = vec![in alloc; 0; to - from]?;
     let mut mixed = vec![in alloc; 0; to - from]?;
     for part in parts {
-        add_part(alloc, part, from, &mut sound, &mut mixed)?;
+        add_part(part, from, &mut sound, &mut mixed);
     }
     Ok(mixed)
 }
 
 // Adds what a part adds to the mix at the places from `from` on. The sound is a place to work in.
-fn add_part(
-    alloc: Global,
-    part: &Part<'_>,
-    from: usize,
-    sound: &mut [i32],
-    mixed: &mut [i64],
-) -> Result<(), AllocError>
+fn add_part(part: &Part<'_>, from: usize, sound: &mut [i32], mixed: &mut [i64])
     requires long { length sound.old ≡ length mixed.old }
     requires inside { from + length mixed.old ≤ 2 ^ 36 }
     requires small { AreSmall (2 ^ 61) mixed.old }
-    ensures { OnOk result (IsPartAdded (part_content part.now) from mixed.old mixed.new) }
+    ensures { IsPartAdded (part_content part.now) from mixed.old mixed.new }
 {
     let _held = part.bits.len();
     let low = from.max(part.at);
     let high = (from + mixed.len()).min(part.at + part.size);
     if high <= low {
-        return Ok(());
+        return;
     }
     let k = low - part.at;
     let heard = &mut sound[..high - low];
-    part.decoder.decode(alloc, part.bits, part.start + k, heard)?;
+    part.decoder.decode(part.bits, part.start + k, heard);
     add_gained(part.points, k, heard, &mut mixed[low - from..high - from]);
-    Ok(())
 }
 
 // Adds sound times the gain, from place `k` of a clip on.

@@ -8,4 +8,4 @@ use Rattle.null_core.proofs.mixing.add_part.Goals as goal
 pub returns : goal.returns
 returns c =
     let long : length (take (c.min-high.result - c.max-low.result) c.args.sound.now) ≡ c.min-high.result - c.max-low.result = length-take-le (c.min-high.result - c.max-low.result) c.args.sound.now (omega (arith, c.min-high.ensures, c.max-low.ensures, c.requires.long)) in
-    part_added (part_content c.args.part.now) c.args.from c.max-low.result c.min-high.result c.args.mixed.now c.decode.new.sound c.add_gained.new.mixed c.max-low.ensures c.min-high.ensures (omega (arith, c.if-high-low.false)) (c.in_ok-decode.ensures.sound ∙ ap (decoded_from c.args.part.now.decoder.now c.args.part.now.bits.now (c.args.part.now.start + (c.max-low.result - c.args.part.now.at))) long) c.add_gained.ensures
+    part_added (part_content c.args.part.now) c.args.from c.max-low.result c.min-high.result c.args.mixed.now c.decode.new.sound c.add_gained.new.mixed c.max-low.ensures c.min-high.ensures (omega (arith, c.if-high-low.false)) (c.decode.ensures.value ∙ ap (decoded_from c.args.part.now.decoder.now c.args.part.now.bits.now (c.args.part.now.start + (c.max-low.result - c.args.part.now.at))) long) c.add_gained.ensures

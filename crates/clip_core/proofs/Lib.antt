@@ -1,3 +1,3 @@
 mod ClipLaws
-mod LineLaws
+pub mod LineLaws
 mod PointLaws

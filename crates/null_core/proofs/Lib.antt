@@ -3,4 +3,5 @@ pub mod ErrorLaws
 pub mod GainLaws
 pub mod MidLaws
 pub mod PartLaws
+pub mod MixLaws
 pub mod SmallLaws

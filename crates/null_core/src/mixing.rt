@@ -1,6 +1,6 @@
 //! The mix at some places.
 
-ghost use Rattle.std.specs.Prelude.{◌≡◌, ◌+◌, ◌-◌, ◌^◌, ◌<◌, ◌≤◌, ◌+ℤ◌, ◌*ℤ◌, EachIndex, IfOk, length, map, pos, slice_index_or, unsigned_abs};
+ghost use Rattle.std.specs.Prelude.{◌≡◌, ◌+◌, ◌-◌, ◌^◌, ◌<◌, ◌≤◌, ◌+ℤ◌, ◌*ℤ◌, IfOk, length, map, pos, replicate, slice_index_or, unsigned_abs};
 ghost use Rattle.clip_core.specs.Gains.{ArePoints, gain};
 ghost use Rattle.clip_core.specs.Lines.{IsLineOf, IsOnLine, line_gain, until};
 ghost use Rattle.null_core.specs.Mixing.{AreFewParts, AreSmall, IsGained, IsPartAdded, mixes_from};
@@ -21,14 +21,28 @@ pub(crate) fn mix_between(
     requires in_order { from ≤ to }
     requires inside { to ≤ 2 ^ 36 }
     ensures mix { IfOk result (λ mixed. mixed.items ≡ mixes_from (map part_content parts.now) from (to - from)) }
-    ensures bound { IfOk result (λ mixed. EachIndex mixed.items (λ i. unsigned_abs (slice_index_or mixed.items i (pos 0)) ≤ 2 ^ 60)) }
+    ensures bound { IfOk result (λ mixed. AreSmall (2 ^ 60) mixed.items) }
 {
-    let mut sound = vec![in alloc; 0; to - from]?;
-    let mut mixed = vec![in alloc; 0; to - from]?;
-    for part in parts {
-        add_part(part, from, &mut sound, &mut mixed);
-    }
+    let mut sound = Vec::new(alloc);
+    sound.resize(to - from, 0)?;
+    let mut mixed = Vec::new(alloc);
+    mixed.resize(to - from, 0)?;
+    add_parts(parts, from, &mut sound, &mut mixed);
     Ok(mixed)
+}
+
+// Makes zeros the mix at the places from `from` on. The sound is a place to work in.
+fn add_parts(parts: &[Part<'_>], from: usize, sound: &mut [i32], mixed: &mut [i64])
+    requires parts { AreFewParts (map part_content parts.now) }
+    requires long { length sound.old ≡ length mixed.old }
+    requires inside { from + length mixed.old ≤ 2 ^ 36 }
+    requires zeros { mixed.old ≡ replicate (length mixed.old) (pos 0) }
+    ensures mix { mixed.new ≡ mixes_from (map part_content parts.now) from (length mixed.old) }
+    ensures bound { AreSmall (2 ^ 60) mixed.new }
+{
+    for part in parts {
+        add_part(part, from, sound, mixed);
+    }
 }
 
 // Adds what a part adds to the mix at the places from `from` on. The sound is a place to work in.

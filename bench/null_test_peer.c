@@ -47,22 +47,15 @@ struct clip {
     struct points points[CHANNELS];
 };
 
-// Places of a channel where each clip's gain is constant, or those where one rises or falls.
-struct piece {
-    int64_t first, stop;
-    int is_constant, way;
-};
-
 struct range {
     int64_t first, stop;
 };
 
-// What is known of a channel: its pieces, the run of own bits that is read, and the places that aren't judged.
+// What is known of a channel: where the run of own bits begins that is read, and its way, -1 for none; and the places
+// that aren't judged.
 struct channel {
-    struct piece *pieces;
-    int64_t number, piece, begin, own_number, own_room;
+    int64_t begin, way, number, room;
     struct range *own;
-    int way;
 };
 
 struct stretch {
@@ -75,7 +68,7 @@ static struct taps audible, decoders[16];
 static struct clip clips[1024], *heard[1024];
 static struct channel channels[CHANNELS];
 static struct stretch *stretches;
-static int64_t take_number, decoder_number, clip_number, stretch_number, stretch_room, unit, limit, every;
+static int64_t take_number, decoder_number, clip_number, heard_number, stretch_number, stretch_room, unit, limit, every;
 static int64_t reach;
 static uint8_t turned[256];
 
@@ -185,7 +178,7 @@ static int64_t number_of(FILE *plan) {
 
 // Taps in the order of the bits that they meet: the last one first.
 static void read_taps(FILE *plan, struct taps *it) {
-    it->number = number_of(plan), it->groups = (it->number + 7) / 8;
+    it->number = number_of(plan), it->groups = (it->number + 31) / 32 * 4;
     it->taps = room(8 * it->groups * (int64_t)sizeof *it->taps);
     for (int64_t k = it->number; k > 0; k--) it->taps[k - 1] = (int32_t)number_of(plan);
 }
@@ -269,133 +262,93 @@ static int fill_gains(const struct points *it, int64_t k, int64_t number, int64_
 
 // Where a master is judged.
 
-static int in_order(const void *a, const void *b) {
-    int64_t first = *(const int64_t *)a, second = *(const int64_t *)b;
-    return (first > second) - (first < second);
-}
-
 // The first clip of a take and an offset stands for both; -1 is none.
-static int way_of(const struct clip *it) {
-    int way = 0;
+static int64_t way_of(const struct clip *it) {
+    int64_t way = 0;
     while (clips[way].take != it->take || clips[way].offset != it->offset) way++;
     return way;
 }
 
-// By which way a place can be own, of clips that are there.
-static int way_at(uint32_t channel, struct clip *const *there, int64_t number, int64_t m) {
-    int way = -1;
-    for (int64_t i = 0; i < number; i++) {
-        const struct points *points = &there[i]->points[channel];
-        int64_t gain = gain_after(points, passed(points, m - there[i]->at), m - there[i]->at);
+// By which way a place can be own, of the clips that were noted.
+static int64_t way_at(uint32_t channel, int64_t m) {
+    int64_t way = -1;
+    for (int64_t i = 0; i < heard_number; i++) {
+        const struct points *points = &heard[i]->points[channel];
+        int64_t k = m - heard[i]->at, gain = gain_after(points, passed(points, k), k);
         if (gain == 0) continue;
-        int its = way_of(there[i]);
+        int64_t its = way_of(heard[i]);
         if (gain != FULL_GAIN || (way != -1 && way != its)) return -1;
         way = its;
     }
     return way;
 }
 
-// The clips at a place.
-static int64_t clips_at(int64_t m, struct clip **there) {
-    int64_t number = 0;
-    for (int64_t k = 0; k < clip_number; k++)
-        if (clips[k].at <= m && m < clips[k].stop) there[number++] = &clips[k];
-    return number;
-}
-
-static void make_pieces(uint32_t channel) {
-    struct channel *it = &channels[channel];
-    int64_t number = 0, at = 0, places = 0;
-    for (int64_t k = 0; k < clip_number; k++) places += 2 + clips[k].points[channel].number;
-    int64_t *ends = room((places + 1) * (int64_t)sizeof *ends);
-    for (int64_t k = 0; k < clip_number; k++) {
-        const struct clip *clip = &clips[k];
+// Notes the clips at a place, and says whether a gain rises or falls there. The place after it where one of them ends, or
+// another or a part of its gains begins, is left in `next`.
+static int look(uint32_t channel, int64_t m, int64_t *next) {
+    int is_varying = 0;
+    heard_number = 0;
+    for (struct clip *clip = clips; clip < clips + clip_number; clip++) {
         const struct points *points = &clip->points[channel];
-        ends[number++] = clip->at, ends[number++] = clip->stop;
-        for (int64_t i = 0; i < points->number; i++)
-            if (clip->at + points->places[i] < clip->stop) ends[number++] = clip->at + points->places[i];
+        if (clip->at > m) *next = least(*next, clip->at);
+        if (clip->at > m || clip->stop <= m) continue;
+        int64_t after = passed(points, m - clip->at);
+        *next = least(*next, after < points->number ? least(clip->stop, clip->at + points->places[after]) : clip->stop);
+        is_varying |= after > 0 && after < points->number && points->gains[after] != points->gains[after - 1];
+        heard[heard_number++] = clip;
     }
-    qsort(ends, (size_t)number, sizeof *ends, in_order);
-    it->pieces = room((number + 1) * (int64_t)sizeof *it->pieces);
-    for (int64_t i = 0; i < number; at = ends[i++])
-        if (ends[i] > at) {
-            struct piece piece = {at, ends[i], 1, -1};
-            int64_t there = clips_at(at, heard);
-            for (int64_t j = 0; j < there; j++) {
-                const struct points *points = &heard[j]->points[channel];
-                int64_t after = passed(points, at - heard[j]->at);
-                if (after > 0 && after < points->number && points->gains[after] != points->gains[after - 1]) piece.is_constant = 0;
-            }
-            piece.way = way_at(channel, heard, there, at);
-            it->pieces[it->number++] = piece;
-        }
-    it->way = -1;
-    free(ends);
+    return is_varying;
 }
 
 // Ends a run of own bits before a place, and notes which places aren't judged for it.
 static void end_run(struct channel *it, int64_t stop) {
     int64_t low = it->begin == 0 ? 0 : it->begin + reach, high = stop == master.count ? stop : stop - reach;
-    if (it->way != -1 && low < high) {
-        if (it->own_number == it->own_room) {
-            it->own_room = 2 * it->own_room + 64;
-            it->own = larger(it->own, it->own_room * (int64_t)sizeof *it->own);
-        }
-        it->own[it->own_number++] = (struct range){low, high};
-    }
+    if (it->way == -1 || low >= high) return;
+    if (it->number == it->room) it->own = larger(it->own, (it->room = 2 * it->room + 64) * (int64_t)sizeof *it->own);
+    it->own[it->number++] = (struct range){low, high};
 }
 
-static void go_on(struct channel *it, int64_t m, int way) {
+static void go_on(struct channel *it, int64_t m, int64_t way) {
     if (way == it->way) return;
     end_run(it, m);
     it->way = way, it->begin = m;
 }
 
-// The 64 bits from one on. The byte after them is read too.
-static inline uint64_t word(const uint8_t *bytes, int64_t bit) {
+// The 64 bits from one of the first byte on.
+static inline uint64_t word(const uint8_t *at, int64_t shift) {
     uint64_t value;
-    memcpy(&value, bytes + bit / 8, 8);
-    value = __builtin_bswap64(value);
-    return bit % 8 ? value << bit % 8 | bytes[bit / 8 + 8] >> (8 - bit % 8) : value;
+    memcpy(&value, at, 8);
+    return __builtin_bswap64(value) << shift | at[8] >> (8 - shift);
 }
 
 // Compares the bits of a channel with those of a take: each other one ends a run.
-static void compare(uint32_t channel, int way, int64_t first, int64_t stop) {
-    static uint8_t mine[SCANNED / 8 + 24], theirs[SCANNED / 8 + 24];
+static void compare(uint32_t channel, int64_t way, int64_t first, int64_t stop) {
+    static uint8_t mine[SCANNED / 8 + 16], theirs[SCANNED / 8 + 16];
     struct channel *it = &channels[channel];
-    int64_t other = first + clips[way].offset, from = first % 8, their = other % 8;
-    fetch(&master, channel, first / 8, (stop - first) / 8 + 16, mine);
-    fetch(&takes[clips[way].take], channel, other / 8, (stop - first) / 8 + 16, theirs);
+    int64_t low = first / 8 * 8, bytes = (stop - low + 7) / 8, other = low + clips[way].offset, shift = other & 7;
+    fetch(&master, channel, low / 8, bytes, mine);
+    fetch(&takes[clips[way].take], channel, other >> 3, bytes + 1, theirs);
     go_on(it, first, way);
-    for (int64_t m = 0; m < stop - first; m += 64) {
-        uint64_t differ = word(mine, from + m) ^ word(theirs, their + m);
-        if (stop - first - m < 64) differ &= ~(UINT64_MAX >> (stop - first - m));
-        for (; differ; differ &= UINT64_MAX >> __builtin_clzll(differ) >> 1) {
-            int64_t place = first + m + __builtin_clzll(differ);
+    for (int64_t i = 0; i < bytes; i += 8)
+        for (uint64_t differ = word(mine + i, 0) ^ word(theirs + i, shift); differ;) {
+            int64_t at = __builtin_clzll(differ), place = low + 8 * i + at;
+            differ &= UINT64_MAX >> at >> 1;
+            if (place < first || place >= stop) continue;
             end_run(it, place);
             it->begin = place + 1;
         }
-    }
 }
 
 // Finds the runs of own bits in the next places of a channel.
 static void scan(uint32_t channel, int64_t first, int64_t stop) {
-    struct channel *it = &channels[channel];
-    while (first < stop) {
-        struct piece *piece = &it->pieces[it->piece];
-        int64_t end = least(stop, piece->stop);
-        if (piece->is_constant && piece->way != -1) compare(channel, piece->way, first, end);
-        else if (piece->is_constant) go_on(it, first, -1);
-        else {
-            int64_t there = clips_at(first, heard);
-            for (int64_t m = first; m < end; m++) {
-                int way = way_at(channel, heard, there, m);
-                if (way == -1) go_on(it, m, -1);
-                else compare(channel, way, m, m + 1);
-            }
+    for (int64_t end = stop; first < stop; end = stop) {
+        int is_varying = look(channel, first, &end);
+        for (int64_t m = first; m < end; m = first) {
+            int64_t way = way_at(channel, m);
+            first = is_varying ? m + 1 : end;
+            if (way == -1) go_on(&channels[channel], m, -1);
+            else compare(channel, way, m, first);
         }
-        first = end;
-        if (first == piece->stop) it->piece++;
     }
 }
 
@@ -423,10 +376,10 @@ static void decode(const struct clip *clip, uint32_t channel, int64_t first, int
         windows[i] = (uint8_t)((at[0] << 8 | at[1]) >> (8 - (i + shift) % 8));
     }
     memset(sounds, 0, sizeof sounds);
-    for (int64_t g = 0; g < it->groups; g++) {
-        const int32_t *table = it->table[g];
-        const uint8_t *window = windows + 8 * g;
-        for (int64_t n = 0; n < number; n++) sounds[n] += table[window[n]];
+    for (int64_t g = 0; g < it->groups; g += 4) {
+        const int32_t(*table)[256] = it->table + g;
+        const uint8_t *at = windows + 8 * g;
+        for (int64_t n = 0; n < number; n++) sounds[n] += table[0][at[n]] + table[1][at[n + 8]] + table[2][at[n + 16]] + table[3][at[n + 24]];
     }
     for (int64_t n = 0; n < number; n++) {
         int64_t low = begin + n;
@@ -471,6 +424,9 @@ static void make_errors(uint32_t channel, int64_t first, int64_t stop) {
     errors_first = first, errors_stop = stop;
 }
 
+// The errors that a tap meets.
+static const int32_t *row_of(int64_t k) { return rows + k % every * row_size + k / every; }
+
 // Sums the residuals of places that are `every` apart, and keeps the greatest.
 static void sum_residuals(struct stretch *it, int64_t first, int64_t number) {
     int64_t size = (number - 1) * every + audible.number;
@@ -479,10 +435,10 @@ static void sum_residuals(struct stretch *it, int64_t first, int64_t number) {
     for (int64_t phase = 0; phase < every; phase++)
         for (int64_t i = phase, j = phase * row_size; i < size; i += every) rows[j++] = errors[i];
     memset(sums, 0, sizeof sums);
-    for (int64_t k = 0; k < audible.number; k++) {
-        const int32_t *row = rows + k % every * row_size + k / every;
-        int64_t tap = audible.taps[k];
-        for (int64_t n = 0; n < number; n++) sums[n] += tap * row[n];
+    for (int64_t k = 0; k < 8 * audible.groups; k += 4) {
+        const int32_t *a = row_of(k), *b = row_of(k + 1), *c = row_of(k + 2), *d = row_of(k + 3);
+        int64_t p = audible.taps[k], q = audible.taps[k + 1], r = audible.taps[k + 2], s = audible.taps[k + 3];
+        for (int64_t n = 0; n < number; n++) sums[n] += p * a[n] + q * b[n] + r * c[n] + s * d[n];
     }
     for (int64_t n = 0; n < number; n++) {
         int64_t residual = sums[n] < 0 ? -sums[n] : sums[n];
@@ -511,8 +467,8 @@ static void judge_channel(uint32_t channel) {
     int64_t place = 0;
     errors_first = errors_stop = 0;
     end_run(it, master.count);
-    for (int64_t i = 0; i <= it->own_number; i++) {
-        struct range own = i < it->own_number ? it->own[i] : (struct range){master.count, master.count};
+    for (int64_t i = 0; i <= it->number; i++) {
+        struct range own = i < it->number ? it->own[i] : (struct range){master.count, master.count};
         int64_t first = (place + every - 1) / every * every, last = (own.first - 1) / every * every;
         if (own.first > place && first <= last) {
             if (every <= audible.number) judge(channel, first, last);
@@ -584,11 +540,11 @@ int main(int given, char **arguments) {
     for (int64_t d = 0; d < decoder_number; d++) longest = most(longest, decoders[d].number);
     if (master.rate != takes[0].rate || master.channels != takes[0].channels) return rejected("MasterShape");
     if (master.count != length) return rejected("MasterLength");
-    packed = room((DECODED + longest) / 8 + 16), windows = room(DECODED + longest + 16);
+    packed = room((DECODED + longest) / 8 + 16), windows = room(DECODED + longest + 32);
     errors = room((JUDGED * every + audible.number) * (int64_t)sizeof *errors);
-    row_size = JUDGED + audible.number / every + 2, rows = room(every * row_size * (int64_t)sizeof *rows);
+    row_size = JUDGED + 8 * audible.groups / every + 2, rows = room(every * row_size * (int64_t)sizeof *rows);
 
-    for (uint32_t c = 0; c < master.channels; c++) make_pieces(c);
+    for (uint32_t c = 0; c < master.channels; c++) channels[c].way = -1;
     for (int64_t first = 0; first < length; first += SCANNED)
         for (uint32_t c = 0; c < master.channels; c++) scan(c, first, least(length, first + SCANNED));
     for (uint32_t c = 0; c < master.channels; c++) judge_channel(c);

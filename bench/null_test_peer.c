@@ -1,12 +1,13 @@
 // Makes the null test of docs/NULL_TEST.md, as a C programmer would write it: files are mapped, own bits are compared 64
-// at a time, takes are decoded by a table of 256 sums for each eight taps, and residuals are summed in 64 bits, a tap at a
-// time over a block of places. It prints what `tools/null_test` prints of the same mix, byte by byte.
+// at a time, takes are decoded by a table of 256 sums for each eight taps, and residuals are summed in 64 bits. Both sums
+// take four tables or taps at a time over a block of places. It prints what `tools/null_test` prints of the same mix, byte
+// by byte, and its status is the same.
 //
 // null_test_peer PLAN MASTER, where PLAN is what bench/null_test writes of a mix without faults: the number of takes and
-// their names, a line each; then, as numbers, `unit`, `limit` and `every`; the taps of `audible`, their number first; the
-// number of decoders, and the taps of each in the same way; the number of clips, and for each its take, decoder, start,
-// at and length, the number of its lists of points (none, one for all channels, or one for each), and for each list the
-// number of points, and each point's place and gain. The status is that of `tools/null_test`.
+// their names, a line each; then `unit`, `limit` and `every`; the taps of `audible`, their number first; the number of
+// decoders, and the taps of each in the same way; the number of clips, and for each its take, decoder, start, at and
+// length, the number of its lists of points (none, one for all channels, or one for each), and for each list the number of
+// points, and each point's place and gain.
 #include <fcntl.h>
 #include <inttypes.h>
 #include <math.h>
@@ -20,9 +21,10 @@
 #define CHANNELS 6
 #define FULL_GAIN (INT64_C(1) << 24)
 #define LOUD (INT64_C(1) << 31)
-#define JUDGED 2048  // places that are judged at a time
-#define DECODED 4096 // places that are decoded at a time
-#define SCANNED (1 << 18) // places that are compared at a time
+// How many places are judged, decoded and compared at a time.
+#define JUDGED 2048
+#define DECODED 4096
+#define SCANNED (1 << 18)
 
 // A file's sound: bytes of the channels in turn in DSDIFF, blocks of 4096 bytes in DSF.
 struct recording {
@@ -42,8 +44,9 @@ struct points {
     int64_t number, *places, *gains;
 };
 
+// The first clip of a take and an offset is the way of all.
 struct clip {
-    int64_t take, decoder, start, at, stop, offset;
+    int64_t take, decoder, at, stop, offset, way;
     struct points points[CHANNELS];
 };
 
@@ -51,10 +54,10 @@ struct range {
     int64_t first, stop;
 };
 
-// What is known of a channel: where the run of own bits begins that is read, and its way, -1 for none; and the places
-// that aren't judged.
+// What is known of a channel: the way of the run of own bits that is read, -1 for none, and where it begins; and the
+// places that aren't judged.
 struct channel {
-    int64_t begin, way, number, room;
+    int64_t way, begin, number;
     struct range *own;
 };
 
@@ -68,8 +71,7 @@ static struct taps audible, decoders[16];
 static struct clip clips[1024], *heard[1024];
 static struct channel channels[CHANNELS];
 static struct stretch *stretches;
-static int64_t take_number, decoder_number, clip_number, heard_number, stretch_number, stretch_room, unit, limit, every;
-static int64_t reach;
+static int64_t take_number, decoder_number, clip_number, heard_number, stretch_number, unit, limit, every, reach;
 static uint8_t turned[256];
 
 // The errors of places of one channel, the same by their remainders, and what they are made by.
@@ -83,8 +85,10 @@ static void *room(int64_t size) {
     return made;
 }
 
-static void *larger(void *old, int64_t size) {
-    void *made = realloc(old, (size_t)size);
+// An array that has room for one more: its size doubles.
+static void *larger(void *old, int64_t number, int64_t size) {
+    if (number & (number - 1)) return old;
+    void *made = realloc(old, (size_t)((2 * number + 1) * size));
     if (!made) exit(2);
     return made;
 }
@@ -187,7 +191,7 @@ static void make_table(struct taps *it) {
     it->table = room(it->groups * (int64_t)sizeof *it->table);
     for (int64_t g = 0; g < it->groups; g++)
         for (int byte = 0; byte < 256; byte++)
-            for (int k = 0; k < 8; k++) it->table[g][byte] += byte >> (7 - k) & 1 ? it->taps[8 * g + k] : -it->taps[8 * g + k];
+            for (int k = 0; k < 8; k++) it->table[g][byte] += it->taps[8 * g + k] * ((byte >> (7 - k) & 1) * 2 - 1);
 }
 
 static struct points read_points(FILE *plan) {
@@ -198,8 +202,10 @@ static struct points read_points(FILE *plan) {
 }
 
 static void read_clip(FILE *plan, struct clip *it) {
-    it->take = number_of(plan), it->decoder = number_of(plan), it->start = number_of(plan), it->at = number_of(plan);
-    it->stop = it->at + number_of(plan), it->offset = it->start - it->at;
+    int64_t start;
+    it->take = number_of(plan), it->decoder = number_of(plan), start = number_of(plan), it->at = number_of(plan);
+    it->stop = it->at + number_of(plan), it->offset = start - it->at;
+    while (clips[it->way].take != it->take || clips[it->way].offset != it->offset) it->way++;
     int64_t lists = number_of(plan);
     for (int64_t i = 0; i < lists; i++) it->points[i] = read_points(plan);
     if (lists == 1)
@@ -228,8 +234,6 @@ static void read_plan(const char *name) {
 
 // Gains.
 
-static int64_t floor_of(int64_t a, int64_t b) { return a / b - (a % b < 0); }
-
 // How many points are at a place or before it.
 static int64_t passed(const struct points *it, int64_t k) {
     int64_t low = 0, high = it->number;
@@ -244,10 +248,9 @@ static int64_t passed(const struct points *it, int64_t k) {
 // The gain at a place, after so many points.
 static inline int64_t gain_after(const struct points *it, int64_t i, int64_t k) {
     if (!it->number) return FULL_GAIN;
-    if (i == 0) return it->gains[0];
-    if (i == it->number) return it->gains[i - 1];
-    int64_t p = it->places[i - 1], a = it->gains[i - 1];
-    return a + floor_of((it->gains[i] - a) * (k - p), it->places[i] - p);
+    if (i == 0 || i == it->number) return it->gains[i ? i - 1 : 0];
+    int64_t run = it->places[i] - it->places[i - 1], above = (it->gains[i] - it->gains[i - 1]) * (k - it->places[i - 1]);
+    return it->gains[i - 1] + above / run - (above % run < 0);
 }
 
 // Fills in the gains from a place on, and says whether one isn't 0.
@@ -262,21 +265,12 @@ static int fill_gains(const struct points *it, int64_t k, int64_t number, int64_
 
 // Where a master is judged.
 
-// The first clip of a take and an offset stands for both; -1 is none.
-static int64_t way_of(const struct clip *it) {
-    int64_t way = 0;
-    while (clips[way].take != it->take || clips[way].offset != it->offset) way++;
-    return way;
-}
-
-// By which way a place can be own, of the clips that were noted.
+// By which way a place can be own, of the clips that were noted; -1 if by none.
 static int64_t way_at(uint32_t channel, int64_t m) {
     int64_t way = -1;
     for (int64_t i = 0; i < heard_number; i++) {
-        const struct points *points = &heard[i]->points[channel];
-        int64_t k = m - heard[i]->at, gain = gain_after(points, passed(points, k), k);
-        if (gain == 0) continue;
-        int64_t its = way_of(heard[i]);
+        int64_t gain, its = heard[i]->way;
+        if (!fill_gains(&heard[i]->points[channel], m - heard[i]->at, 1, &gain)) continue;
         if (gain != FULL_GAIN || (way != -1 && way != its)) return -1;
         way = its;
     }
@@ -304,7 +298,7 @@ static int look(uint32_t channel, int64_t m, int64_t *next) {
 static void end_run(struct channel *it, int64_t stop) {
     int64_t low = it->begin == 0 ? 0 : it->begin + reach, high = stop == master.count ? stop : stop - reach;
     if (it->way == -1 || low >= high) return;
-    if (it->number == it->room) it->own = larger(it->own, (it->room = 2 * it->room + 64) * (int64_t)sizeof *it->own);
+    it->own = larger(it->own, it->number, sizeof *it->own);
     it->own[it->number++] = (struct range){low, high};
 }
 
@@ -314,7 +308,7 @@ static void go_on(struct channel *it, int64_t m, int64_t way) {
     it->way = way, it->begin = m;
 }
 
-// The 64 bits from one of the first byte on.
+// 64 bits, from one of the first byte on.
 static inline uint64_t word(const uint8_t *at, int64_t shift) {
     uint64_t value;
     memcpy(&value, at, 8);
@@ -354,17 +348,6 @@ static void scan(uint32_t channel, int64_t first, int64_t stop) {
 
 // Residuals.
 
-// The sound at a bit of a take, tap by tap: for the edges.
-static int32_t plain(const struct recording *take, const struct taps *it, int64_t first) {
-    int32_t sum = 0;
-    int64_t begin = most(first, 0) / 8 * 8;
-    for (int64_t j = 0; j < it->number; j++) {
-        int64_t bit = first + j;
-        if (bit >= 0 && bit < take->count) sum += packed[(bit - begin) / 8] >> (7 - bit % 8) & 1 ? it->taps[j] : -it->taps[j];
-    }
-    return sum;
-}
-
 // The sounds of a take from a bit on.
 static void decode(const struct clip *clip, uint32_t channel, int64_t first, int64_t number) {
     const struct recording *take = &takes[clip->take];
@@ -379,17 +362,19 @@ static void decode(const struct clip *clip, uint32_t channel, int64_t first, int
     for (int64_t g = 0; g < it->groups; g += 4) {
         const int32_t(*table)[256] = it->table + g;
         const uint8_t *at = windows + 8 * g;
-        for (int64_t n = 0; n < number; n++) sounds[n] += table[0][at[n]] + table[1][at[n + 8]] + table[2][at[n + 16]] + table[3][at[n + 24]];
+        for (int64_t n = 0; n < number; n++)
+            sounds[n] += table[0][at[n]] + table[1][at[n + 8]] + table[2][at[n + 16]] + table[3][at[n + 24]];
     }
+    // Tap by tap where some lie outside of the take.
     for (int64_t n = 0; n < number; n++) {
-        int64_t low = begin + n;
-        if (low >= 0 && low + it->number <= take->count) continue;
-        fetch(take, channel, most(low, 0) / 8, it->number / 8 + 2, packed);
-        sounds[n] = plain(take, it, low);
+        if (begin + n >= 0 && begin + n + it->number <= take->count) continue;
+        sounds[n] = 0;
+        for (int64_t j = n; j < n + it->number; j++)
+            if (begin + j >= 0 && begin + j < take->count) sounds[n] += it->taps[j - n] * ((windows[j] >> 7) * 2 - 1);
     }
 }
 
-// Finds the errors of places of the master.
+// Finds the errors of places, 0 outside of the master.
 static void find_errors(uint32_t channel, int64_t first, int64_t stop, int32_t *out) {
     int64_t number = stop - first;
     memset(mixed, 0, sizeof mixed);
@@ -399,10 +384,11 @@ static void find_errors(uint32_t channel, int64_t first, int64_t stop, int32_t *
         decode(clip, channel, low + clip->offset, high - low);
         for (int64_t i = 0; i < high - low; i++) mixed[low - first + i] += gains[i] * sounds[i];
     }
-    fetch(&master, channel, first / 8, number / 8 + 2, packed);
+    fetch(&master, channel, first >> 3, number / 8 + 2, packed);
     for (int64_t i = 0; i < number; i++) {
-        int64_t bit = first % 8 + i, sign = (packed[bit / 8] >> (7 - bit % 8) & 1) * 2 - 1;
+        int64_t bit = (first & 7) + i, sign = (packed[bit / 8] >> (7 - bit % 8) & 1) * 2 - 1;
         int64_t error = (sign * unit * FULL_GAIN - mixed[i] + (1 << 22)) >> 23;
+        if (first + i < 0 || first + i >= master.count) error = 0;
         if (error >= LOUD || error <= -LOUD) {
             printf("rejected TooLoud %" PRIu32 " %" PRId64 "\n", channel, first + i);
             exit(1);
@@ -415,12 +401,8 @@ static void find_errors(uint32_t channel, int64_t first, int64_t stop, int32_t *
 static void make_errors(uint32_t channel, int64_t first, int64_t stop) {
     int64_t kept = first >= errors_first && first < errors_stop ? errors_stop - first : 0;
     memmove(errors, errors + (first - errors_first) * (kept > 0), (size_t)kept * sizeof *errors);
-    for (int64_t at = first + kept, end; at < stop; at = end) {
-        end = least(stop, at + DECODED);
-        int64_t low = least(most(at, 0), end), high = most(least(end, master.count), low);
-        memset(errors + (at - first), 0, (size_t)(end - at) * sizeof *errors);
-        if (low < high) find_errors(channel, low, high, errors + (low - first));
-    }
+    for (int64_t at = first + kept; at < stop; at += DECODED)
+        find_errors(channel, at, least(stop, at + DECODED), errors + (at - first));
     errors_first = first, errors_stop = stop;
 }
 
@@ -450,10 +432,7 @@ static void sum_residuals(struct stretch *it, int64_t first, int64_t number) {
 static void judge(uint32_t channel, int64_t first, int64_t last) {
     struct stretch *it = stretch_number ? &stretches[stretch_number - 1] : NULL;
     if (!it || it->channel != channel || first - it->last - 1 >= audible.number) {
-        if (stretch_number == stretch_room) {
-            stretch_room = 2 * stretch_room + 64;
-            stretches = larger(stretches, stretch_room * (int64_t)sizeof *stretches);
-        }
+        stretches = larger(stretches, stretch_number, sizeof *stretches);
         it = &stretches[stretch_number++];
         *it = (struct stretch){channel, first, last, -1, first};
     }
@@ -489,8 +468,9 @@ static int is_at_most(int64_t value, int64_t full, int64_t power) {
     return mine <= theirs;
 }
 
-// A value in dB, in hundredths, rounded towards louder. Only whole powers of ten are met exactly.
+// Prints a residual and its level, rounded towards louder. Of the levels with two decimals only powers of ten can be met.
 static void print_level(int64_t value, int64_t full) {
+    printf("%" PRId64 " dBFS ", value);
     if (!value) {
         printf("-inf");
         return;
@@ -508,7 +488,7 @@ static int print_answer(void) {
     for (int64_t k = 0; k < audible.number; k++) sum += audible.taps[k];
     int64_t full = 2 * unit * sum;
     for (const struct stretch *it = stretches; it < stretches + stretch_number; it++) {
-        printf("channel %" PRIu32 " first %" PRId64 " last %" PRId64 " residual %" PRId64 " dBFS ", it->channel, it->first, it->last, it->residual);
+        printf("channel %" PRIu32 " first %" PRId64 " last %" PRId64 " residual ", it->channel, it->first, it->last);
         print_level(it->residual, full);
         printf(" place %" PRId64 "\n", it->place);
         greatest = most(greatest, it->residual);
@@ -518,15 +498,10 @@ static int print_answer(void) {
         printf("rejected Residual %" PRIu32 " %" PRId64 "\n", loud->channel, loud->place);
         return 1;
     }
-    printf("accepted residual %" PRId64 " dBFS ", greatest);
+    printf("accepted residual ");
     print_level(greatest, full);
     printf("\n");
     return 0;
-}
-
-static int rejected(const char *reason) {
-    printf("rejected %s\n", reason);
-    return 1;
 }
 
 int main(int given, char **arguments) {
@@ -536,10 +511,15 @@ int main(int given, char **arguments) {
     read_plan(arguments[1]);
     read_recording(&master, arguments[2]);
     int64_t length = 0, longest = 0;
+    const char *reason = NULL;
     for (int64_t k = 0; k < clip_number; k++) length = most(length, clips[k].stop);
     for (int64_t d = 0; d < decoder_number; d++) longest = most(longest, decoders[d].number);
-    if (master.rate != takes[0].rate || master.channels != takes[0].channels) return rejected("MasterShape");
-    if (master.count != length) return rejected("MasterLength");
+    if (master.count != length) reason = "Length";
+    if (master.rate != takes[0].rate || master.channels != takes[0].channels) reason = "Shape";
+    if (reason) {
+        printf("rejected Master%s\n", reason);
+        return 1;
+    }
     packed = room((DECODED + longest) / 8 + 16), windows = room(DECODED + longest + 32);
     errors = room((JUDGED * every + audible.number) * (int64_t)sizeof *errors);
     row_size = JUDGED + 8 * audible.groups / every + 2, rows = room(every * row_size * (int64_t)sizeof *rows);

@@ -3,7 +3,7 @@
 // take four tables or taps at a time over a block of places. It prints what `tools/null_test` prints of the same mix, byte
 // by byte, and its status is the same.
 //
-// null_test_peer PLAN MASTER, where PLAN is what bench/null_test writes of a mix without faults: the number of takes and
+// null_test_peer PLAN MASTER, where PLAN is what bench/nulltest writes of a mix without faults: the number of takes and
 // their names, a line each; then `unit`, `limit` and `every`; the taps of `audible`, their number first; the number of
 // decoders, and the taps of each in the same way; the number of clips, and for each its take, decoder, start, at and
 // length, the number of its lists of points (none, one for all channels, or one for each), and for each list the number of

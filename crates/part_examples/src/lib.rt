@@ -22,6 +22,8 @@ mod costs;
 #[cfg(test)]
 mod decimation;
 #[cfg(test)]
+mod decoding;
+#[cfg(test)]
 mod devices;
 pub mod fixtures;
 #[cfg(test)]

@@ -125,24 +125,24 @@ read_says t x known read =
     let unit_fits : x.unit ≤ 2 ^ 28 = omega (arith, unit.2) in
     let every_fits : x.every ≤ 64 = omega (arith, every.2) in
     let limits : IsMixing x =
-        record {
-          some_unit = unit.1;
-          unit_fits = unit_fits;
-          audible_fits = audible.1;
-          audible_sum = audible.2;
-          limit_fits = limit.2;
-          some_every = every.1;
-          every_fits = every_fits;
-          some_takes = takes.1.0;
-          few_takes = takes.1.1;
-          some_decoders = parts.some_decoders;
-          few_decoders = parts.few_decoders;
-          decoders_fit = All-from_recursion (AreTaps (2 ^ 28)) x.decoders decoders_fit;
-          some_clips = parts.some_clips;
-          few_clips = parts.few_clips;
-          each_fits = All-from_recursion (IsClipWithin (length x.takes) (length x.decoders)) x.clips each_fits;
-          apart = parts.apart;
-        } in
+    record {
+      some_unit = unit.1;
+      unit_fits = unit_fits;
+      audible_fits = audible.1;
+      audible_sum = audible.2;
+      limit_fits = limit.2;
+      some_every = every.1;
+      every_fits = every_fits;
+      some_takes = takes.1.0;
+      few_takes = takes.1.1;
+      some_decoders = parts.some_decoders;
+      few_decoders = parts.few_decoders;
+      decoders_fit = All-from_recursion (AreTaps (2 ^ 28)) x.decoders decoders_fit;
+      some_clips = parts.some_clips;
+      few_clips = parts.few_clips;
+      each_fits = All-from_recursion (IsClipWithin (length x.takes) (length x.decoders)) x.clips each_fits;
+      apart = parts.apart;
+    } in
     record { no_others = known; unit = unit.0; audible = audible.0; limit = limit.0; every = every.0; takes = takes.0; decoders = parts.decoders_said; clips = parts.clips_said; limits = limits }
 
 pub mix_ok : (d : Data) (x : MixContent) → mix_of d ≡ Ok x → SaysTable IsMixTable d x
@@ -168,7 +168,7 @@ mix_again t x h =
     let unit : x.unit < 2 ^ 28 + 1 = omega (arith, h.limits.unit_fits) in
     let every : x.every < 65 = omega (arith, h.limits.every_fits) in
     let parts : SaysParts (length x.takes) t x.decoders x.clips =
-        record { decoders_said = h.decoders; some_decoders = h.limits.some_decoders; few_decoders = h.limits.few_decoders; clips_said = h.clips; some_clips = h.limits.some_clips; few_clips = h.limits.few_clips; apart = h.limits.apart } in
+    record { decoders_said = h.decoders; some_decoders = h.limits.some_decoders; few_decoders = h.limits.few_decoders; clips_said = h.clips; some_clips = h.limits.some_clips; few_clips = h.limits.few_clips; apart = h.limits.apart } in
     rw (
       table_again keys.Mix tables.Mix mix_keys t h.no_others,
       number_again keys.Unit tables.Mix 1 (2 ^ 28 + 1) t x.unit h.unit h.limits.some_unit unit,

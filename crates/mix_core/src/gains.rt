@@ -24,7 +24,11 @@ pub const MAX_GAIN: u32 = 1 << 26;
 
 /// The gains of a clip: those at `gain`, else those at `gains`, full gain if both are left out.
 #[tactic(auto, unfolding(crate::specs::ReadingGains::gains_at, crate::specs::ReadingGains::lists_at))]
-pub(crate) fn gains_at(alloc: Global, table: &toml::Table, clip: Table) -> Result<Gains, ProjectFault>
+pub(crate) fn gains_at(
+    alloc: Global,
+    table: &toml::Table,
+    clip: Table,
+) -> Result<Gains, ProjectFault>
     ensures { Gives gain_content result (gains_at clip (table_view table.now)) }
 {
     let Some(value) = find(table, Key::Gain) else {
@@ -91,7 +95,12 @@ fn each_list(alloc: Global, values: &[Value], clip: Table) -> Result<Vec<Vec<Poi
 
 // The points that a value is: 1 to 4096, each at a greater place than the one before.
 #[tactic(auto, unfolding(crate::specs::ReadingGains::points_of))]
-fn points_of(alloc: Global, value: &Value, key: Key, clip: Table) -> Result<Vec<Point>, ProjectFault>
+fn points_of(
+    alloc: Global,
+    value: &Value,
+    key: Key,
+    clip: Table,
+) -> Result<Vec<Point>, ProjectFault>
     ensures { Gives (λ v. v.items) result (points_of key clip (view value.now)) }
 {
     let values = value.as_array().ok_or(ProjectFault::WrongKind(key, clip))?;

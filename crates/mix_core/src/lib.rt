@@ -71,7 +71,8 @@ pub use clip_table::CLIP_KEYS;
 pub use gains::{MAX_GAIN, MAX_POINTS};
 pub use laws::{one_mix, read_as_said};
 pub use mix_table::{
-    DECODER_KEYS, MAX_CLIPS, MAX_DECODER_SUM, MAX_DECODERS, MAX_EVERY, MAX_LIMIT, MAX_UNIT, MIX_KEYS,
+    DECODER_KEYS, MAX_CLIPS, MAX_DECODER_SUM, MAX_DECODERS, MAX_EVERY, MAX_LIMIT, MAX_UNIT,
+    MIX_KEYS,
 };
 pub use numbers::{MAX_AUDIBLE_SUM, MAX_TAPS};
 pub use overlap::MAX_OVERLAPPING;

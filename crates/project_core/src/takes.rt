@@ -15,7 +15,11 @@ pub const MAX_TAKES: usize = 16;
 
 /// The names of the takes at `takes`: 1 to 16. Refusals, in this order: `MissingKey`, `WrongKind`, `OutOfLimit`.
 #[tactic(auto, unfolding(crate::specs::ReadingTakes::takes_at))]
-pub fn takes_at(alloc: Global, table: &toml::Table, place: Table) -> Result<Vec<String>, ProjectFault>
+pub fn takes_at(
+    alloc: Global,
+    table: &toml::Table,
+    place: Table,
+) -> Result<Vec<String>, ProjectFault>
     ensures { Gives (λ v. map string_bytes v.items) result (takes_at place (table_view table.now)) }
 {
     let takes = texts_at(alloc, table, Key::Takes, place)?;

@@ -1,12 +1,11 @@
 -- A clip is read exactly where its table says it.
-use Rattle.std.proofs.Common.{◌≡◌, ℕ, ◌+◌, ◌-◌, ◌≤◌, ◌<◌, ◌^◌, Result, Ok, Err, refl, arith}
+use Rattle.std.proofs.Common.{◌≡◌, ℕ, ◌+◌, ◌-◌, ◌≤◌, ◌<◌, ◌^◌, Result, Ok, refl, arith}
 use Rattle.toml.specs.Data.{Data, table, Members, get_member}
 use Rattle.clip_core.specs.Clips.{ClipContent, GainContent, IsClipWithin}
 use Rattle.project_core.specs.declared.key.Key.TheVariants as keys
 use Rattle.project_core.specs.declared.key.Table.TheVariants as tables
 use Rattle.project_core.specs.declared.fault.ProjectFault.{ProjectFault}
 use Rattle.project_core.specs.Keys.{key_name}
-use Rattle.project_core.specs.Reading.{table_of}
 use Rattle.project_core.specs.ReadingTakes.{take_number_at}
 use Rattle.project_core.specs.Steps.{◌>>=◌}
 use Rattle.project_core.proofs.TableLaws.{SaysTable, bind_ok, table_ok}

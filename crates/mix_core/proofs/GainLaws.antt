@@ -1,7 +1,7 @@
 -- The gains of a clip are read exactly where a table says them.
 use Rattle.std.proofs.Common.{◌≡◌, ◌≢◌, ℕ, zero, suc, ◌+◌, ◌-◌, ◌≤◌, ◌<◌, ◌^◌, ℤ, pos, Bool, true, false, ◌&&◌, cond, leb, List, [], ◌∷◌, drop, get_or, length, map, Option, Some, None, Ok, Err, refl, sym, ap, subst, ◌∙◌, add-one, arith, unsigned_abs}
 use Rattle.std.specs.Prelude.{All, nat_le, slice_get}
-use Rattle.std.specs.List.{AllByRecursion, AllZip, list_all}
+use Rattle.std.specs.List.{list_all}
 use Rattle.std.specs.Option.{ok_or}
 use Rattle.std.proofs.lemmas.Bool.{and_parts, le-leb, leb-true, lt-ltb}
 use Rattle.std.proofs.lemmas.List.Elements.{All-cons, All-from_recursion, All-nil, All-head, recursion_from_All}

@@ -1,4 +1,3 @@
-use Rattle.std.proofs.Common.{◌≡◌}
 use Rattle.std.proofs.lemmas.Result.{err_from_is_err_and}
 use Rattle.project_core.proofs.Each.{values_go_on, values_end, values_done}
 use Rattle.mix_core.specs.ReadingGains.{point_of}

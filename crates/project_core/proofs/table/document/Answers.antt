@@ -4,8 +4,8 @@ use Rattle.std.proofs.lemmas.Bool.{cases_Bool, false≢true}
 use Rattle.std.proofs.lemmas.Str.{is_utf8-from_IsUtf8, IsUtf8-from_is_utf8}
 use Rattle.toml.specs.Parse.{parse_document}
 use Rattle.project_core.specs.declared.fault.ProjectFault.TheVariants.{NotToml}
-use Rattle.project_core.specs.ReadingProject.{document}
-use Rattle.project_core.proofs.reading.document.Goals as goal
+use Rattle.project_core.specs.Reading.{document}
+use Rattle.project_core.proofs.table.document.Goals as goal
 
 refused : (bytes : List ℕ) → (IsUtf8 bytes → parse_document bytes ≡ None) → document bytes ≡ Err NotToml
 unfolding document

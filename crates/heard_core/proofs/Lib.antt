@@ -1,3 +1,5 @@
 pub mod DotLaws
 pub mod LaneLaws
+pub mod LevelLaws
+pub mod NaturalLaws
 pub mod WindowLaws

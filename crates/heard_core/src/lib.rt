@@ -2,6 +2,7 @@
 #![tactic(auto)]
 
 mod laws;
+mod naturals;
 mod products;
 mod residuals;
 

@@ -1,0 +1,16 @@
+-- Levels in hundredths of a decibel to full scale.
+use Rattle.std.specs.Prelude.{ℕ, ◌+◌, ◌*◌, ◌^◌, ◌≤◌, ℤ, pos, negsuc, ◌-ℤ◌}
+
+-- 20 * log10(value / full) is at most k / 100 where value ^ 2000 is at most full ^ 2000 * 10 ^ k
+unfoldable pub strength : ℕ → ℕ
+strength x = x ^ 2000
+
+-- a value is at most some hundredths of a decibel to full scale
+abbrev pub IsAtMost : ℕ → ℕ → ℤ → Type 0
+IsAtMost value full (pos n) = strength value ≤ strength full * 10 ^ n
+IsAtMost value full (negsuc n) = strength value * 10 ^ (n + 1) ≤ strength full
+
+-- the level of a value in hundredths of a decibel to full scale, rounded towards louder
+pub record IsLevel (value full : ℕ) (k : ℤ) : Type 0 where
+  pub enough : IsAtMost value full k
+  pub least : IsAtMost value full (k -ℤ pos 1) → ⊥

@@ -5,10 +5,18 @@ use Rattle.std.specs.Prelude.{ℕ, ◌+◌, ◌*◌, ◌^◌, ◌≤◌, ℤ, po
 unfoldable pub strength : ℕ → ℕ
 strength x = x ^ 2000
 
+-- no value of 64 bits is as many hundredths of a decibel above another or below it
+unfoldable pub limit : ℕ
+limit = 40000
+
+-- a number is at most another times a power of ten
+abbrev pub IsAtMostScaled : ℕ → ℕ → ℤ → Type 0
+IsAtMostScaled x y (pos n) = x ≤ y * 10 ^ n
+IsAtMostScaled x y (negsuc n) = x * 10 ^ (n + 1) ≤ y
+
 -- a value is at most some hundredths of a decibel to full scale
 abbrev pub IsAtMost : ℕ → ℕ → ℤ → Type 0
-IsAtMost value full (pos n) = strength value ≤ strength full * 10 ^ n
-IsAtMost value full (negsuc n) = strength value * 10 ^ (n + 1) ≤ strength full
+IsAtMost value full k = IsAtMostScaled (strength value) (strength full) k
 
 -- the level of a value in hundredths of a decibel to full scale, rounded towards louder
 pub record IsLevel (value full : ℕ) (k : ℤ) : Type 0 where

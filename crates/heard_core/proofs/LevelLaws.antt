@@ -1,6 +1,6 @@
 -- Levels and powers of ten.
-use Rattle.std.proofs.Common.{◌≡◌, ◌≢◌, ◌+◌, ◌-◌, ◌*◌, ◌<◌, ◌≤◌, ◌^◌, ℕ, zero, suc, ℤ, pos, negsuc, refl, ap, sym, ◌∙◌, arith, add-one}
-use Rattle.std.proofs.Math.Nat.{mul-le-mul_left, mul-le-mul_right}
+use Rattle.std.proofs.Common.{◌≡◌, ◌≢◌, ◌+◌, ◌*◌, ◌<◌, ◌≤◌, ◌^◌, ℕ, zero, suc, ℤ, pos, negsuc, refl, ap, sym, ◌∙◌, arith, add-one}
+use Rattle.std.proofs.Math.Nat.{mul-le-mul_right}
 use Rattle.std.proofs.lemmas.Nat.{mul-pow, pow-add}
 use native.Mathlib.Nat.{pow-suc, pow-zero, pow-le-pow_left, pow-lt-pow_left}
 use Rattle.std.proofs.Common.{[], ◌∷◌, ◌/◌, ◌%◌, Bool, false, List, subst}

@@ -1,11 +1,11 @@
 -- Natural numbers in limbs.
-use Rattle.std.proofs.Common.{[], ◌∷◌, ◌++◌, ◌≡◌, ◌≢◌, ◌+◌, ◌-◌, ◌*◌, ◌/◌, ◌%◌, ◌<◌, ◌≤◌, ◌^◌, ℕ, zero, suc, List, length, take, get_or, refl, ap, sym, ◌∙◌, arith, add-one, Bool, inl, inr}
+use Rattle.std.proofs.Common.{[], ◌∷◌, ◌++◌, ◌≡◌, ◌+◌, ◌*◌, ◌/◌, ◌%◌, ◌<◌, ◌≤◌, ◌^◌, ℕ, zero, suc, List, length, take, get_or, refl, ap, sym, ◌∙◌, arith, add-one, Bool, inl, inr}
 use Rattle.std.specs.Prelude.{◌↔◌, IsTrue}
 use Rattle.std.proofs.Common.{Fits}
 use Rattle.std.specs.Int.{w64}
 use Rattle.std.proofs.lemmas.Bool.{cases_lt}
 use Rattle.std.proofs.Math.ListN.{set}
-use Rattle.std.proofs.Math.Nat.{mul-le-mul_left, mul-le-mul_right}
+use Rattle.std.proofs.Math.Nat.{mul-le-mul_right}
 use Rattle.std.proofs.Math.Seq.{take-suc-set}
 use Rattle.std.proofs.lemmas.Nat.{mul-le}
 use Rattle.std.proofs.lemmas.List.{length-take-le}
@@ -68,17 +68,21 @@ carried a b n m w less below = omega (arith, mul-le-mul_right w less)
 pub next_at_most : (n m w a b : ℕ) (t r : Bool) → n < w → m < w → (IsTrue t ↔ (n ≤ m)) → (IsTrue t → (IsTrue r ↔ (a ≤ b))) → ((IsTrue t → ⊥) → (IsTrue r ↔ (a < b))) → (IsTrue r ↔ (n + a * w ≤ m + b * w))
 next_at_most n m w a b t r below below' so_far up past = elim (cases_lt m n) [
   | inl more ↦
-      let no : IsTrue t → ⊥ = λ x. absurd (omega (arith, so_far.0 x)) in
-      (λ x. carried a b n m w ((past no).0 x) below, λ l. elim (cases_lt a b) [
-        | inl less ↦ (past no).1 less
-        | inr above ↦ absurd (omega (arith, mul-le-mul_right w above))
-      ])
+      let no : IsTrue t → ⊥ = λ x. absurd (omega (arith, so_far.0 x)) in (
+        λ x. carried a b n m w ((past no).0 x) below,
+        λ l. elim (cases_lt a b) [
+          | inl less ↦ (past no).1 less
+          | inr above ↦ absurd (omega (arith, mul-le-mul_right w above))
+        ],
+      )
   | inr least ↦
-      let yes = so_far.1 least in
-      (λ x. omega (arith, least, mul-le-mul_right w ((up yes).0 x)), λ l. elim (cases_lt b a) [
-        | inl above ↦ absurd (omega (arith, mul-le-mul_right w above))
-        | inr less ↦ (up yes).1 less
-      ])
+      let yes = so_far.1 least in (
+        λ x. omega (arith, least, mul-le-mul_right w ((up yes).0 x)),
+        λ l. elim (cases_lt b a) [
+          | inl above ↦ absurd (omega (arith, mul-le-mul_right w above))
+          | inr less ↦ (up yes).1 less
+        ],
+      )
 ]
 
 -- one limb more of two numbers

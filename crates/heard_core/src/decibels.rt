@@ -1,11 +1,12 @@
 //! Levels in hundredths of a decibel to full scale.
 
-ghost use Rattle.std.specs.Prelude.{◌≡◌, ◌*◌, ◌^◌, ◌≤◌, ◌↔◌, ◌+ℤ◌, ◌<ℤ◌, IfOk, IsTrue, negsuc, pos};
-ghost use Rattle.heard_core.specs.Levels.{IsAtMostScaled, IsLevel, limit, strength};
+ghost use Rattle.std.specs.Prelude.{◌≡◌, ◌*◌, ◌^◌, ◌≤◌, ◌++◌, ◌↔◌, ◌+ℤ◌, ◌<ℤ◌, IfOk, IsTrue, OnOk, codes, negsuc, pos, string_bytes, ℤ};
+ghost use Rattle.heard_core.specs.Levels.{IsAtMostScaled, IsLevel, level_text, limit, strength};
 ghost use Rattle.heard_core.specs.Naturals.{natural};
 
 use crate::naturals::{is_at_most, multiply_by_power};
 use std::alloc::{AllocError, Global};
+use std::fmt::Write;
 
 // The greatest power of ten that a limb holds, and its exponent.
 const TENS: u64 = 10_000_000_000_000_000_000;
@@ -34,6 +35,32 @@ pub fn hundredths(alloc: Global, value: u64, full: u64) -> Result<i64, AllocErro
         }
     }
     Ok(high)
+}
+
+/// Appends a value's level as it is printed: in decibels to full scale, with two decimals, rounded towards louder. That
+/// of nothing is `-inf`.
+pub fn push_level(alloc: Global, text: &mut String, value: u64, full: u64) -> Result<(), AllocError>
+    requires { 1 ≤ full }
+    ensures nothing { value ≡ 0 → OnOk result (string_bytes text.new ≡ string_bytes text.old ++ codes "-inf") }
+    ensures level { 1 ≤ value → OnOk result ((k : ℤ) × IsLevel value full k × (string_bytes text.new ≡ string_bytes text.old ++ level_text k)) }
+{
+    if value == 0 {
+        return text.push_str("-inf");
+    }
+    let level = hundredths(alloc, value, full)?;
+    push_hundredths(text, level)
+}
+
+// Appends a number of hundredths.
+fn push_hundredths(text: &mut String, level: i64) -> Result<(), AllocError>
+    ensures { OnOk result (string_bytes text.new ≡ string_bytes text.old ++ level_text level) }
+{
+    if level < 0 {
+        text.push_str("-")?;
+    }
+    let size = level.unsigned_abs();
+    let (whole, tenths, hundredths) = (size / 100, size / 10 % 10, size % 10);
+    write!(text, "{whole}.{tenths}{hundredths}")
 }
 
 // A level that is below each level of two numbers of 64 bits.

@@ -7,6 +7,6 @@ mod naturals;
 mod products;
 mod residuals;
 
-pub use decibels::hundredths;
+pub use decibels::{hundredths, push_level};
 pub use laws::windows_are_residuals;
 pub use residuals::Audible;

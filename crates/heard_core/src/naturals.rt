@@ -43,7 +43,11 @@ fn multiply_limbs(limbs: &mut [u64], factor: u64) -> u64
 }
 
 /// Multiplies a number by a power.
-pub(crate) fn multiply_by_power(limbs: &mut Vec<u64>, factor: u64, exponent: usize) -> Result<(), AllocError>
+pub(crate) fn multiply_by_power(
+    limbs: &mut Vec<u64>,
+    factor: u64,
+    exponent: usize,
+) -> Result<(), AllocError>
     ensures { IfOk result (λ _. natural limbs.new.items ≡ natural limbs.old.items * factor ^ exponent) }
 {
     for _ in 0..exponent {

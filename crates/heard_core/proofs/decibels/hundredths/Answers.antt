@@ -1,6 +1,5 @@
-use Rattle.std.proofs.Common.{◌≡◌, ◌∙◌, ℕ, ℤ, pos, negsuc, ◌-ℤ◌, ap, arith, refl, subst, sym, to_z, of_z, w64}
+use Rattle.std.proofs.Common.{◌≡◌, ◌∙◌, ℤ, pos, negsuc, ◌-ℤ◌, ap, arith, refl, subst, sym, to_z, of_z, w64}
 use Rattle.std.proofs.lemmas.Int.{ints, to_z-of_z}
-use Rattle.std.specs.Prelude.{◌<ℤ◌}
 use Rattle.heard_core.specs.Levels.{IsAtMost, limit}
 use Rattle.heard_core.specs.Naturals.{natural}
 use Rattle.heard_core.proofs.LevelLaws.{above_lowest, at_most_limit, measured, not_measured}

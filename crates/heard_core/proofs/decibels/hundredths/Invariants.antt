@@ -1,4 +1,4 @@
-use Rattle.std.proofs.Common.{ℤ, pos, negsuc, ◌-ℤ◌, unsigned_abs}
+use Rattle.std.proofs.Common.{◌-ℤ◌, unsigned_abs}
 use Rattle.std.specs.Prelude.{◌<ℤ◌}
 use Rattle.heard_core.specs.Levels.{IsAtMost}
 use Rattle.heard_core.proofs.decibels.hundredths.Given as goal

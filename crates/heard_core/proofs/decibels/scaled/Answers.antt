@@ -1,4 +1,4 @@
-use Rattle.std.proofs.Common.{◌≡◌, ◌∙◌, ◌*◌, ◌^◌, ◌/◌, ap}
+use Rattle.std.proofs.Common.{◌∙◌, ◌*◌, ◌^◌, ◌/◌, ap}
 use Rattle.heard_core.specs.Naturals.{natural}
 use Rattle.heard_core.proofs.LevelLaws.{in_limbs}
 use Rattle.heard_core.proofs.decibels.scaled.Goals as goal

@@ -1,5 +1,4 @@
-use Rattle.std.proofs.Common.{◌≡◌, ◌∙◌, ◌*◌, ◌^◌, ◌+◌, ℕ, ap, arith}
-use Rattle.heard_core.specs.Levels.{strength}
+use Rattle.std.proofs.Common.{ap}
 use Rattle.heard_core.specs.Naturals.{natural}
 use Rattle.heard_core.proofs.LevelLaws.{is_strength}
 use Rattle.heard_core.proofs.decibels.strength_of.Goals as goal

@@ -1,4 +1,4 @@
-use Rattle.std.proofs.Common.{◌≡◌, ◌≤◌, ap, arith, length, take}
+use Rattle.std.proofs.Common.{◌≡◌, ap, arith, take}
 use Rattle.std.proofs.lemmas.List.{take_all}
 use Rattle.heard_core.specs.Naturals.{natural}
 use Rattle.heard_core.proofs.NaturalLaws.{compared, limb_fits}

@@ -1,4 +1,4 @@
-use Rattle.std.proofs.Common.{◌≡◌, ◌+◌, ◌*◌, ◌^◌, ◌∙◌, ◌++◌, [], ◌∷◌, arith, ap, length}
+use Rattle.std.proofs.Common.{◌+◌, ◌*◌, ◌^◌, ◌∙◌, ◌++◌, [], ◌∷◌, arith, ap}
 use Rattle.std.proofs.lemmas.List.{take-append-le, take_all}
 use Rattle.heard_core.specs.Naturals.{base, natural}
 use Rattle.heard_core.proofs.NaturalLaws.{natural_push}

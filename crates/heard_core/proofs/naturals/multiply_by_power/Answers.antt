@@ -1,5 +1,3 @@
-use Rattle.std.proofs.Common.{◌≡◌, ◌+◌, ◌*◌, ◌^◌, ◌∙◌, ap, add-one, arith}
-use native.Mathlib.Nat.{pow-suc}
 use Rattle.heard_core.specs.Naturals.{natural}
 use Rattle.heard_core.proofs.NaturalLaws.{next_power}
 use Rattle.heard_core.proofs.naturals.multiply_by_power.Goals as goal

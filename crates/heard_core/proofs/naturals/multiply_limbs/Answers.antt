@@ -1,4 +1,4 @@
-use Rattle.std.proofs.Common.{◌≡◌, ◌≢◌, ◌+◌, ◌*◌, ◌<◌, ◌∙◌, ap, arith, get_or, get_or-set_other, length}
+use Rattle.std.proofs.Common.{◌≢◌, arith, get_or, get_or-set_other}
 use Rattle.heard_core.proofs.NaturalLaws.{next_product}
 use Rattle.heard_core.proofs.naturals.multiply_limbs.Goals as goal
 

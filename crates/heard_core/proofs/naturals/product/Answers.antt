@@ -1,4 +1,4 @@
-use Rattle.std.proofs.Common.{◌≡◌, ◌<◌, ◌+◌, ◌*◌, ◌∙◌, arith}
+use Rattle.std.proofs.Common.{◌<◌, ◌+◌, ◌*◌, ◌∙◌, arith}
 use Rattle.heard_core.proofs.NaturalLaws.{limbs_fit, two_limbs}
 use Rattle.heard_core.proofs.naturals.product.Goals as goal
 

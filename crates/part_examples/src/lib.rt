@@ -29,6 +29,8 @@ mod formats;
 #[cfg(test)]
 mod refusals;
 #[cfg(test)]
+mod residuals;
+#[cfg(test)]
 mod streams;
 #[cfg(test)]
 mod texts;

@@ -1,5 +1,5 @@
 -- Laws of sums of products.
-use Rattle.std.proofs.Common.{[], ◌∷◌, ◌++◌, ◌≡◌, ◌+◌, ◌-◌, ◌*◌, ◌<◌, ◌≤◌, ◌^◌, ℕ, zero, suc, List, ℤ, pos, ◌+ℤ◌, ◌*ℤ◌, length, take, drop, get_or, reverse, unsigned_abs, sum_by, refl, ap, ap₂, sym, ◌∙◌, arith, add-one, subst, to_z, of_z, w32, w64, FitsSigned}
+use Rattle.std.proofs.Common.{[], ◌∷◌, ◌≡◌, ◌+◌, ◌-◌, ◌*◌, ◌<◌, ◌≤◌, ◌^◌, ℕ, zero, suc, List, ℤ, pos, ◌+ℤ◌, ◌*ℤ◌, length, take, drop, get_or, reverse, unsigned_abs, sum_by, refl, ap, ap₂, sym, ◌∙◌, arith, add-one, subst, to_z, of_z, w32, w64, FitsSigned}
 use Rattle.std.specs.List.{All}
 use Rattle.std.proofs.Math.Nat.{mul-le-mul_left}
 use Rattle.std.proofs.lemmas.Int.{fits_signed_from_abs, ints, to_z-of_z, unsigned_abs-mul}
@@ -123,7 +123,7 @@ window_group xs ys i p =
     ap (λ n. dot (take n xs) (drop p ys)) next
     ∙ dot_split m (take (m + 8) xs) (drop p ys)
     ∙ (λ j. dot (take-take m (m + 8) xs (omega arith) j) (drop p ys)
-          +ℤ dot ((drop-take m 8 xs ∙ ap (take 8) (sym (take_rest xs m))) j) ((drop-drop m p ys ∙ ap (λ n. drop n ys) turned ∙ sym (drop-drop p m ys) ∙ ap (drop p) (sym (take_rest ys m))) j))
+    +ℤ dot ((drop-take m 8 xs ∙ ap (take 8) (sym (take_rest xs m))) j) ((drop-drop m p ys ∙ ap (λ n. drop n ys) turned ∙ sym (drop-drop p m ys) ∙ ap (drop p) (sym (take_rest ys m))) j))
 
 pub small_taps : (xs : List ℤ) → sum_by unsigned_abs xs < 2 ^ 31 → All IsSmall xs
 small_taps xs small = All-from_get_or IsSmall xs (pos 0) (λ i l. small_tap xs i small l)

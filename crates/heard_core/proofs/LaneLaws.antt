@@ -68,13 +68,15 @@ lanes_are (s ∷ ss) (t ∷ ts) (e ∷ es) l m fs ft fe =
     let one = lane_is s t e fs.0 ft.0 fe.0 in
     let rest : ℤ = total (lanes ss ts es) in
     let swap : (s +ℤ t *ℤ e) +ℤ rest ≡ rest +ℤ (s +ℤ t *ℤ e) = omega (arith, ints) in
-    let join : (total ss +ℤ dot ts es) +ℤ (s +ℤ t *ℤ e) ≡ (s +ℤ total ss) +ℤ (t *ℤ e +ℤ dot ts es) = omega (arith, ints) in
-    (omega (arith, r.0), (subst (FitsSigned w64) (sym one) (SFits-int_wrap w64 (s +ℤ t *ℤ e)), r.1),
-     ap (λ z. int_wrap w64 (z +ℤ rest)) one
-     ∙ int_wrap-add_left w64 (s +ℤ t *ℤ e) rest
-     ∙ ap (int_wrap w64) swap
-     ∙ int_wrap-add_same w64 rest (total ss +ℤ dot ts es) (s +ℤ t *ℤ e) r.2
-     ∙ ap (int_wrap w64) join)
+    let join : (total ss +ℤ dot ts es) +ℤ (s +ℤ t *ℤ e) ≡ (s +ℤ total ss) +ℤ (t *ℤ e +ℤ dot ts es) = omega (arith, ints) in (
+      omega (arith, r.0),
+      (subst (FitsSigned w64) (sym one) (SFits-int_wrap w64 (s +ℤ t *ℤ e)), r.1),
+      ap (λ z. int_wrap w64 (z +ℤ rest)) one
+          ∙ int_wrap-add_left w64 (s +ℤ t *ℤ e) rest
+          ∙ ap (int_wrap w64) swap
+          ∙ int_wrap-add_same w64 rest (total ss +ℤ dot ts es) (s +ℤ t *ℤ e) r.2
+          ∙ ap (int_wrap w64) join,
+    )
 
 -- the first eight of them
 first_small : (xs : List ℤ) → All IsSmall xs → Each1 IsSmall (take 8 xs)

@@ -1,12 +1,11 @@
 -- The residual of a window is a sum of products, and the residual at a place.
-use Rattle.std.proofs.Common.{[], ◌∷◌, ◌≡◌, ◌+◌, ◌-◌, ◌*◌, ◌/◌, ◌%◌, ◌<◌, ◌≤◌, ℕ, zero, suc, List, ℤ, pos, ◌+ℤ◌, ◌-ℤ◌, ◌*ℤ◌, map, length, length-drop, drop, take, get_or, reverse, refl, ap, ap₂, sym, ◌∙◌, arith, add-one}
-use Rattle.std.specs.List.{range_with_len}
+use Rattle.std.proofs.Common.{[], ◌∷◌, ◌≡◌, ◌+◌, ◌-◌, ◌*◌, ◌/◌, ◌%◌, ◌≤◌, ℕ, List, ℤ, pos, ◌+ℤ◌, ◌-ℤ◌, ◌*ℤ◌, length, length-drop, drop, take, get_or, reverse, refl, ap, ap₂, sym, ◌∙◌, arith}
 use Rattle.std.proofs.lemmas.Int.{ints}
 use Rattle.std.proofs.lemmas.List.{drop-drop, get_or-drop, get_or-reverse, length-reverse, take_rest}
 use Rattle.std.proofs.lemmas.List.FromFn.{fill_by_all, get_or-map-range_with_len, length-map-range_with_len}
 use Rattle.dsd_bits.specs.Sums.{sum_below}
 use Rattle.fir_core.proofs.SumOrder.{sum_below_first, sum_below_same, sum_below_turned}
-use Rattle.heard_core.specs.Laws.{AreAround, WindowsAreResiduals, residuals_from}
+use Rattle.heard_core.specs.Laws.{AreAround, WindowsAreResiduals}
 use Rattle.heard_core.specs.Products.{dot}
 use Rattle.heard_core.specs.Residuals.{at_place, residual, window_residual, window_residuals}
 
@@ -26,8 +25,8 @@ window_is_dot taps errors p within =
     let long : length (reverse taps) ≤ length (drop p errors) = omega (arith, length-reverse taps, length-drop p errors) in
     sym (sum_below_turned n f)
     ∙ sum_below_same n (λ k. f (n - 1 - k)) g
-      (λ k l. let place : p + (n - ((n - 1 - k) + 1)) ≡ p + k = omega arith in
-          ap₂ ◌*ℤ◌ (sym (get_or-reverse taps k (pos 0) l)) (ap (λ j. get_or errors j (pos 0)) place ∙ sym (get_or-drop p errors k (pos 0))))
+    (λ k l. let place : p + (n - ((n - 1 - k) + 1)) ≡ p + k = omega arith in
+    ap₂ ◌*ℤ◌ (sym (get_or-reverse taps k (pos 0) l)) (ap (λ j. get_or errors j (pos 0)) place ∙ sym (get_or-drop p errors k (pos 0))))
     ∙ ap (λ m. sum_below m g) (sym (length-reverse taps))
     ∙ sym (dot_is_sum (reverse taps) (drop p errors) long)
 
@@ -37,7 +36,7 @@ window_is_residual taps errors es first p odd around within =
     let n = length taps in
     sum_below_same n (λ k. get_or taps k (pos 0) *ℤ get_or es (p + (n - (k + 1))) (pos 0)) (λ k. get_or taps k (pos 0) *ℤ at_place errors (pos (first + p + n / 2) -ℤ pos k))
     (λ k l. let place : pos (first + (p + (n - (k + 1)))) -ℤ pos (n / 2) ≡ pos (first + p + n / 2) -ℤ pos k = omega (arith, ints) in
-        ap (λ z. get_or taps k (pos 0) *ℤ z) (around (p + (n - (k + 1))) (omega arith) ∙ ap (at_place errors) place))
+    ap (λ z. get_or taps k (pos 0) *ℤ z) (around (p + (n - (k + 1))) (omega arith) ∙ ap (at_place errors) place))
 
 pub windows_are_residuals : WindowsAreResiduals
 windows_are_residuals taps errors es first step number odd around within =

@@ -1,6 +1,8 @@
 pub mod AudibleView
 pub mod DecoderView
 pub mod Laws
+pub mod Levels
+pub mod Naturals
 pub mod Pieces
 pub mod Products
 pub mod Residuals

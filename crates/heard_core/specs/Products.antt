@@ -1,5 +1,5 @@
 -- Sums of products, and sums in eight parts that wrap.
-use Rattle.std.specs.Prelude.{◌≡◌, ℕ, ◌<◌, ◌^◌, ℤ, pos, ◌+ℤ◌, ◌*ℤ◌, List, [], ◌∷◌, All, length, slice_index_or, unsigned_abs, FitsSigned}
+use Rattle.std.specs.Prelude.{◌≡◌, ℕ, ◌<◌, ◌^◌, ℤ, pos, ◌+ℤ◌, ◌*ℤ◌, List, [], ◌∷◌, length, slice_index_or, unsigned_abs, FitsSigned}
 use Rattle.std.specs.Int.{int_wrap, w64}
 use Rattle.std.specs.Simd.Lanes.{Each1}
 

@@ -57,7 +57,9 @@ fn finish(parts: [i64; 8], taps: &[i32], errors: &[i32]) -> i64
     requires small_errors { All IsSmall errors.now }
     ensures { IsSumOf parts (dot taps.now errors.now) result }
 {
-    i64x8::from_array(parts).reduce_sum().wrapping_add(sum_plainly(taps, errors))
+    i64x8::from_array(parts)
+        .reduce_sum()
+        .wrapping_add(sum_plainly(taps, errors))
 }
 
 /// The sums of the products of taps and the errors of neighbouring windows.
@@ -77,7 +79,11 @@ pub(crate) fn sum_windows<const N: usize>(taps: &[i32], errors: &[i32], step: us
     }
     let mut sums = [0; N];
     for w in 0..N {
-        sums[w] = finish(parts[w], &taps[8 * groups..], &errors[w * step + 8 * groups..]);
+        sums[w] = finish(
+            parts[w],
+            &taps[8 * groups..],
+            &errors[w * step + 8 * groups..],
+        );
     }
     sums
 }

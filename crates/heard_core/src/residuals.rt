@@ -72,7 +72,13 @@ impl Audible {
 
 // Writes the sums of neighbouring windows from window `first` on.
 #[inline(never)]
-fn put_windows<const N: usize>(taps: &[i32], errors: &[i32], step: usize, sums: &mut [i64], first: usize)
+fn put_windows<const N: usize>(
+    taps: &[i32],
+    errors: &[i32],
+    step: usize,
+    sums: &mut [i64],
+    first: usize,
+)
     requires some { 1 ≤ N }
     requires few { N ≤ 8 }
     requires room { first + N ≤ length sums.old }

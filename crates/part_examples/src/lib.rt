@@ -35,6 +35,8 @@ mod mixes;
 #[cfg(test)]
 mod refusals;
 #[cfg(test)]
+mod residuals;
+#[cfg(test)]
 mod streams;
 #[cfg(test)]
 mod texts;

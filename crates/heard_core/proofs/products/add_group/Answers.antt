@@ -1,4 +1,4 @@
-use Rattle.std.proofs.Common.{◌≡◌, ◌∙◌, ◌≢◌, ◌+◌, ◌*◌, ◌<◌, ◌≤◌, ℤ, ℕ, [], List, arith, drop, get_or, length, below_more, get_or-set_other, take}
+use Rattle.std.proofs.Common.{◌∙◌, ◌≢◌, ◌*◌, arith, drop, below_more, get_or-set_other, take}
 use Rattle.std.proofs.Math.ListN.{length-set}
 use Rattle.heard_core.specs.Products.{dot}
 use Rattle.heard_core.proofs.LaneLaws.{one_added}
@@ -15,7 +15,7 @@ loop-w-preserved g c =
       done = below_more _ _
           (λ v h. let ne : v ≢ w = omega arith in rw get_or-set_other (c.loop-w.invariant.done v h))
           (one_added w _ (dot ts (drop (w * c.args.step) c.args.errors.now)) c.args.sums.now now c.add_eight.result (omega (arith, c.loop-w.invariant.long))
-           (dot_rest ts (w * c.args.step) c.args.errors.now) (c.loop-w.invariant.rest w (omega arith)) c.add_eight.ensures);
+          (dot_rest ts (w * c.args.step) c.args.errors.now) (c.loop-w.invariant.rest w (omega arith)) c.add_eight.ensures);
       rest = λ v h. let ne : v ≢ w = omega arith in rw get_or-set_other (c.loop-w.invariant.rest v (omega arith));
     }
 

@@ -1,4 +1,4 @@
-use Rattle.std.proofs.Common.{◌≡◌, ◌≢◌, ◌∙◌, ◌+◌, ◌-◌, ◌*◌, ◌/◌, ◌<◌, ◌≤◌, ℕ, arith, below_more, drop, get_or, get_or-set_other, get_or-set_same, length, length-drop, pos, subst, sym, sum_by, take, to_z, of_z, unsigned_abs, w64}
+use Rattle.std.proofs.Common.{◌≡◌, ◌≢◌, ◌∙◌, ◌*◌, ◌/◌, ◌<◌, ℕ, arith, below_more, drop, get_or-set_other, get_or-set_same, length, length-drop, subst, sym, take, to_z, of_z, unsigned_abs, w64}
 use Rattle.std.proofs.Math.ListN.{length-set}
 use Rattle.std.proofs.lemmas.Int.{to_z-of_z}
 use Rattle.std.proofs.lemmas.List.{take_rest}
@@ -17,11 +17,22 @@ pub add_group-requires : goal.add_group-requires
 add_group-requires g c =
     let ts = c.args.taps.now in
     let es = c.args.errors.now in
-    let m = 8 * c.loop-i.i in
-    (omega (arith, c.requires.few), (c.requires.few, (rw (take_rest ts m) (omega (arith, length-drop m ts)),
-     ((λ w h. rw (take_rest es m) (omega (arith, length-drop m es, c.requires.room w h))),
-      (subst (All IsSmall) (sym (take_rest ts m)) (All-drop IsSmall m ts (small_taps ts c.requires.small_taps)),
-       subst (All IsSmall) (sym (take_rest es m)) (All-drop IsSmall m es c.requires.small_errors))))))
+    let m = 8 * c.loop-i.i in (
+      omega (arith, c.requires.few),
+      (
+        c.requires.few,
+        (
+          rw (take_rest ts m) (omega (arith, length-drop m ts)),
+          (
+            (λ w h. rw (take_rest es m) (omega (arith, length-drop m es, c.requires.room w h))),
+            (
+              subst (All IsSmall) (sym (take_rest ts m)) (All-drop IsSmall m ts (small_taps ts c.requires.small_taps)),
+              subst (All IsSmall) (sym (take_rest es m)) (All-drop IsSmall m es c.requires.small_errors),
+            ),
+          ),
+        ),
+      ),
+    )
 
 pub finish-requires-clause-small_taps : goal.finish-requires-clause-small_taps
 finish-requires-clause-small_taps g c =

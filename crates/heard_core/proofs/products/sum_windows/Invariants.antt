@@ -1,4 +1,4 @@
-use Rattle.std.proofs.Common.{◌≡◌, ℕ, ◌+◌, ◌*◌, ◌<◌, drop, get_or, length, pos, take}
+use Rattle.std.proofs.Common.{◌≡◌, ℕ, ◌*◌, ◌<◌, drop, get_or, length, pos, take}
 use Rattle.heard_core.specs.Products.{AreSums, dot}
 use Rattle.heard_core.proofs.products.sum_windows.Given as goal
 

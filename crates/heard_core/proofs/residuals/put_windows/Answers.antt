@@ -1,8 +1,8 @@
-use Rattle.std.proofs.Common.{◌≡◌, ◌≢◌, ◌∙◌, ◌+◌, ◌-◌, ◌*◌, ◌<◌, ◌≤◌, ℕ, ap, arith, drop, get_or, get_or-set_other, get_or-set_same, inl, inr, length, length-drop, pos, subst, sym, take, to_z, of_z, w64}
+use Rattle.std.proofs.Common.{◌≡◌, ◌≢◌, ◌∙◌, ◌+◌, ◌*◌, ◌<◌, ap, arith, drop, get_or, get_or-set_other, get_or-set_same, inl, inr, length, length-drop, pos, subst, sym, to_z, of_z, w64}
 use Rattle.std.specs.List.{All}
 use Rattle.std.proofs.Math.ListN.{set}
 use Rattle.std.proofs.lemmas.Bool.{cases_lt}
-use Rattle.std.proofs.lemmas.List.{drop-drop, take_rest}
+use Rattle.std.proofs.lemmas.List.{take_rest}
 use Rattle.std.proofs.lemmas.List.Elements.{All-drop}
 use Rattle.heard_core.specs.Products.{IsSmall, dot}
 use Rattle.heard_core.proofs.DotLaws.{dot_small, wide_back}
@@ -12,10 +12,19 @@ use Rattle.heard_core.proofs.residuals.put_windows.Goals as goal
 pub sum_windows-made-requires : goal.sum_windows-made-requires
 sum_windows-made-requires g c =
     let es = c.args.errors.now in
-    let p = c.args.first * c.args.step in
-    (omega (arith, c.requires.few), (c.requires.some, (c.requires.few,
-     ((λ w h. rw (take_rest es p) (omega (arith, length-drop p es, c.requires.within (c.args.first + w) (omega (arith, c.requires.room))))),
-      (c.requires.small_taps, subst (All IsSmall) (sym (take_rest es p)) (All-drop IsSmall p es c.requires.small_errors))))))
+    let p = c.args.first * c.args.step in (
+      omega (arith, c.requires.few),
+      (
+        c.requires.some,
+        (
+          c.requires.few,
+          (
+            (λ w h. rw (take_rest es p) (omega (arith, length-drop p es, c.requires.within (c.args.first + w) (omega (arith, c.requires.room))))),
+            (c.requires.small_taps, subst (All IsSmall) (sym (take_rest es p)) (All-drop IsSmall p es c.requires.small_errors)),
+          ),
+        ),
+      ),
+    )
 
 pub loop-w-preserved : goal.loop-w-preserved
 loop-w-preserved g c =

@@ -1,4 +1,4 @@
-use Rattle.std.proofs.Common.{◌≡◌, ◌∙◌, ◌*◌, ◌<◌, ◌≤◌, ◌^◌, ap, arith, drop, get_or, length, pos, reverse, sum_by, sym, unsigned_abs}
+use Rattle.std.proofs.Common.{◌≡◌, ◌∙◌, ◌*◌, ◌<◌, ◌^◌, ap, arith, drop, length, pos, reverse, sum_by, sym, unsigned_abs}
 use Rattle.std.proofs.lemmas.List.{reverse-reverse}
 use Rattle.std.proofs.lemmas.List.Elements.{All-drop, All-from_get_or}
 use Rattle.std.proofs.lemmas.List.FromFn.{fill_by_all}

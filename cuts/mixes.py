@@ -1,0 +1,177 @@
+"""The mix of a project: what was asked for, as a text for the null test (docs/NULL_TEST.md).
+
+A mix has the original takes, and none of the bits that these scripts made. Its sound is what `measuring` compares
+masters with: the takes' sounds, switched, faded, or changed as the seam of a cut says (`clips`). All numbers are whole:
+the low-passes of `hearing` are scaled so that they are as exact as the text allows."""
+import textwrap
+from functools import cached_property, lru_cache
+
+import numpy as np
+import tomlkit
+
+from cuts import hearing
+from cuts.clips import BITS, LOW, REST, WHOLE, Clip, Decoder, clips_of
+from cuts.crossfades import SPLIT
+from cuts.gains import FULL, Points
+from cuts.hearing import Band, lowpass
+from cuts.projects import Project
+from cuts.times import clock
+from dsdarc_scripts.explained import shown_name
+
+MOST_TAPS = 65_535
+MOST_CLIPS = 1024
+MOST_EVERY = 64
+MOST_AUDIBLE = (1 << 31) - 1  # what the absolute values of taps add up to at most
+MOST_DECODER = 1 << 28
+DENSE = 2_822_400  # places a second that are judged at least
+WIDER = 500  # Hz by which a low-pass is made wider until it hasn't too many taps
+WIDTH = 116  # letters of a line of numbers
+
+
+@lru_cache
+def passing(rate: int, band: Band) -> np.ndarray:
+    """The low-pass of a band, or the narrowest one that hasn't too many taps."""
+    passed, stopped = band
+    while len(taps := lowpass(rate, passed, stopped)) > MOST_TAPS:
+        stopped += WIDER
+    return taps
+
+
+def centered(taps: np.ndarray, count: int) -> np.ndarray:
+    """That many taps: with zeros around those that there are, or the middle ones of them."""
+    more = (count - len(taps)) // 2
+    return np.pad(taps, more) if more >= 0 else taps[-more:more]
+
+
+@lru_cache
+def response(rate: int, decoder: Decoder) -> np.ndarray:
+    """The taps of a decoder. Those of a whole sound add up to 1."""
+    part, band = decoder
+    if part == BITS:
+        return np.ones(1)
+    whole = passing(rate, band)
+    if part == WHOLE:
+        return whole
+    both = np.convolve(passing(rate, SPLIT), whole)
+    low = centered(both, min(len(both), MOST_TAPS))
+    return low if part == LOW else centered(whole, len(low)) - low
+
+
+def summing(taps: np.ndarray, total: int) -> np.ndarray:
+    """Taps that add up to 1 as whole numbers that add up to another number."""
+    found = np.rint(taps * total).astype(np.int64)
+    found[len(found) // 2] += total - found.sum()
+    return found
+
+
+class Mix:
+    """The mix of a project. Its clips have the numbers of the project's takes; `takes` are those that it names."""
+
+    def __init__(self, project: Project) -> None:
+        self.rate, self.length = project.rate, project.length()
+        self.reach = len(passing(self.rate, (hearing.PASSED, hearing.STOPPED))) // 2
+        self.every = min(max(self.rate // DENSE, 1), MOST_EVERY)
+        self.clips = clips_of(project, self.reach)
+        self.decoders = list(dict.fromkeys(it.decoder for it in self.clips))
+        made = {it for it, record in enumerate(project.records) if record or project.shifts[it]}
+        heard = {it.take for it in self.clips}
+        self.takes = [it for it in range(len(project.names)) if it in heard or it not in made]
+        self.names = [project.names[it] for it in self.takes]
+
+    @cached_property
+    def unit(self) -> int:
+        """Full scale of decoded sounds."""
+        rows = [response(self.rate, it) for it in self.decoders]
+        return min(int((MOST_DECODER - 2 * len(it)) / np.abs(it).sum()) for it in rows)
+
+    @cached_property
+    def audible(self) -> np.ndarray:
+        """The taps of the low-pass of what can be heard."""
+        taps = passing(self.rate, (hearing.PASSED, hearing.STOPPED))
+        return summing(taps, int((MOST_AUDIBLE - 2 * len(taps)) / np.abs(taps).sum()))
+
+    @cached_property
+    def taps(self) -> dict[Decoder, np.ndarray]:
+        """The taps of each decoder."""
+        return {it: self.taps_of(it) for it in self.decoders}
+
+    def taps_of(self, decoder: Decoder) -> np.ndarray:
+        """The taps of a decoder. Those of both parts of a sound add up to those of the whole."""
+        part, band = decoder
+        if part != REST:
+            return summing(response(self.rate, decoder), self.unit)
+        low, whole = self.taps_of((LOW, band)), self.taps_of((WHOLE, band))
+        return centered(whole, len(low)) - low
+
+    @property
+    def full(self) -> int:
+        """Full scale of a residual."""
+        return 2 * self.unit * int(self.audible.sum())
+
+    def limit(self, level: float) -> int:
+        """The greatest residual that isn't louder than a level (dB to full scale)."""
+        return int(self.full * 10 ** (level / 20))
+
+
+# The text.
+
+SAID = {WHOLE: "", LOW: f", up to {SPLIT[0] // 1000} kHz", REST: f", above {SPLIT[0] // 1000} kHz"}
+SAID[BITS] = ", its bits as they are"
+
+
+def wrapped(items: list[str]) -> str:
+    """An array of numbers or pairs, in lines that aren't too long."""
+    flat = ", ".join(items)
+    if len(flat) <= WIDTH:
+        return f"[{flat}]"
+    # A line may end between two items, but not inside of one.
+    whole = ", ".join(it.replace(" ", "\N{NO-BREAK SPACE}") for it in items)
+    rows = textwrap.wrap(whole, WIDTH, break_long_words=False, break_on_hyphens=False)
+    return "[\n  " + "\n  ".join(rows).replace("\N{NO-BREAK SPACE}", " ") + "\n]"
+
+
+def array_of(values: np.ndarray) -> str:
+    return wrapped([str(it) for it in values.tolist()])
+
+
+def points_of(points: Points) -> str:
+    return wrapped([f"[{place}, {gain}]" for place, gain in points or [(0, FULL)]])
+
+
+def gains_of(rows: list[Points]) -> str:
+    """The key of a clip's gains."""
+    if all(it == rows[0] for it in rows):
+        return f"gain = {points_of(rows[0])}\n" if rows[0] else ""
+    return "gains = [\n" + "".join(f"{textwrap.indent(points_of(it), '  ')},\n" for it in rows) + "]\n"
+
+
+def clip_text(mix: Mix, clip: Clip) -> str:
+    number = mix.takes.index(clip.take)
+    times = f"{clock(clip.at, mix.rate)} to {clock(clip.stop, mix.rate)}"
+    text = f"\n# {shown_name(mix.names[number])} from {times}{SAID[clip.decoder[0]]}\n[[mix.clip]]\n"
+    places = {"take": number, "decoder": mix.decoders.index(clip.decoder)}
+    places |= {"start": clip.start, "at": clip.at, "length": clip.length}
+    return text + "".join(f"{key} = {it}\n" for key, it in places.items()) + gains_of(clip.points)
+
+
+def decoder_text(mix: Mix, number: int, decoder: Decoder) -> str:
+    part, (passed, stopped) = decoder
+    what = f"passes {passed} Hz, stops {stopped} Hz{SAID[part]}" if part != BITS else "the bits as they are"
+    return f"\n# Decoder {number}: {what}\n[[mix.decoder]]\ntaps = {array_of(mix.taps[decoder])}\n"
+
+
+def text_of(mix: Mix, level: float, project: str, name: str) -> str:
+    """The text of a mix, whose limit is a level (dB to full scale). It says how it is used: the names of the project and
+    of the mix."""
+    takes = tomlkit.dumps({"takes": mix.names})
+    return (
+        f"# What was asked for with the cuts of {shown_name(project)}: where each take is heard (docs/NULL_TEST.md).\n"
+        f"# The null test says how far a master is from it, as heard, in the folder that names the takes:\n#\n"
+        f"#   tools/null_test {shown_name(name)} MASTER\n#\n"
+        f"# It accepts what is left up to `limit`, here {level:g} dB to full scale. The clips come after `audible`, the taps of\n"
+        f"# the low-pass of what can be heard, and the decoders of takes after the clips. A gain of 1 is {FULL}.\n\n"
+        f"[mix]\n{takes}limit = {mix.limit(level)}  # {level:g} dB\nunit = {mix.unit}\nevery = {mix.every}\n"
+        f"audible = {array_of(mix.audible)}\n"
+        + "".join(clip_text(mix, it) for it in mix.clips)
+        + "".join(decoder_text(mix, *it) for it in enumerate(mix.decoders))
+    )

@@ -20,6 +20,7 @@ LINES = 256  # straight lines by which a sound comes in
 WHOLE, LOW, REST, BITS = "whole", "low", "rest", "bits"  # what of a take a decoder gives
 
 Decoder = tuple[str, Band]  # that, of the sound that a low-pass passes
+NO_BAND = (0, 0)  # of bits as they are
 
 
 @dataclass(frozen=True)
@@ -72,13 +73,23 @@ def turn_of(project: Project, spot: Spot) -> Turn:
     elif spot.role in ("bridge", "line"):
         late = measuring.delay(project.weights)
         early = min(max(int(np.ceil(late)), 0), measuring.length_of(project.cues[spot.before]) - 1)
-        span, layers, middles = (-early, spot.length), {WHOLE: spot.length + 1.0}, [spot.length / 2 - late] * project.count
+        span, layers, middles = (
+            (-early, spot.length),
+            {WHOLE: spot.length + 1.0},
+            [spot.length / 2 - late] * project.count,
+        )
 
     def change(middle: float, ramp: float) -> tuple[Points, Points]:
         going, coming = gains.changing(span, middle, ramp, power)
         return gains.moved(going, spot.place), gains.moved(coming, spot.place)
 
     return Turn([{part: change(middle, ramp) for part, ramp in layers.items()} for middle in middles])
+
+
+def span_of(project: Project, spot: Spot) -> tuple[int, int]:
+    """From where to where a cut has bits of its own, or its sound changes."""
+    first, stop = turn_of(project, spot).ends
+    return min(spot.place, first), max(spot.place + spot.length, stop)
 
 
 def risen(rate: int, length: int) -> Points:
@@ -93,16 +104,16 @@ def others(points: Points) -> Points:
     return [(place, FULL - gain) for place, gain in points]
 
 
-def end_turns(project: Project, spots: list[Spot], turns: list[Turn], reach: int) -> tuple[Turn | None, Turn | None]:
+def end_turns(project: Project, spots: list[Spot], reach: int) -> tuple[Turn | None, Turn | None]:
     """How a sound comes in after the master's start, and how it goes before the end, where that is within reach of a
     place that a cut is heard at."""
-    if not turns:
+    if not spots:
         return None, None
     count, length = project.count, project.length()
     slowly = hearing.rise_of(project.rate)
-    room = min(spots[0].place, turns[0].ends[0]) - 1
+    room = span_of(project, spots[0])[0] - 1
     start = risen(project.rate, min(room, slowly)) if 0 < room < 2 * reach else []
-    room = length - max(spots[-1].place + spots[-1].length, turns[-1].ends[1]) - 1
+    room = length - span_of(project, spots[-1])[1] - 1
     end = risen(project.rate, min(room, slowly)) if 0 < room < 2 * reach else []
     end = [(length - 1 - place, gain) for place, gain in reversed(end)]
     return (
@@ -155,7 +166,8 @@ def clip_of(project: Project, voice: Voice, part: str, before: Turn | None, afte
     points: list[Points] = [[(0, 0)]] * project.count
     for channel, *both in zip(voice.channels, rising, falling):
         points[channel] = gains.counted_from(gains.one_after_other(*both), first, stop)
-    return Clip(voice.take, (part, voice.band), first + voice.offset, first, stop - first, points)
+    decoder = (part, voice.band if part != BITS else NO_BAND)
+    return Clip(voice.take, decoder, first + voice.offset, first, stop - first, points)
 
 
 def clips_of(project: Project, reach: int) -> list[Clip]:
@@ -164,7 +176,7 @@ def clips_of(project: Project, reach: int) -> list[Clip]:
     turns = [turn_of(project, it) for it in spots]
     befores = {it.after: turn for it, turn in zip(spots, turns)}
     afters = {it.before: turn for it, turn in zip(spots, turns)}
-    start, end = end_turns(project, spots, turns, reach)
+    start, end = end_turns(project, spots, reach)
     last = len(roles) - 1
     for number, role in enumerate(roles):
         before, after = befores.get(number, start), afters.get(number, end)

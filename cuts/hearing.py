@@ -37,7 +37,7 @@ def blackman_harris(size: int) -> np.ndarray:
 def block_for(length: int, count: int) -> int:
     """The size of the spectra by which a row of some length is convolved fastest with so many taps."""
     over = count - 1
-    if count < length / 2:
+    if 1 < count < length / 2:
         best = -over * special.lambertw(-1 / (2 * math.e * over), k=-1).real
         size = fft.next_fast_len(math.ceil(best))
         if size < length:

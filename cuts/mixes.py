@@ -88,7 +88,7 @@ class Mix:
     def audible(self) -> np.ndarray:
         """The taps of the low-pass of what can be heard."""
         taps = passing(self.rate, (hearing.PASSED, hearing.STOPPED))
-        return summing(taps, int((MOST_AUDIBLE - 2 * len(taps)) / np.abs(taps).sum()))
+        return np.rint(taps * (MOST_AUDIBLE - 4 * len(taps)) / np.abs(taps).sum()).astype(np.int64)
 
     @cached_property
     def taps(self) -> dict[Decoder, np.ndarray]:

@@ -21,6 +21,7 @@ WHOLE, LOW, REST, BITS = "whole", "low", "rest", "bits"  # what of a take a deco
 
 Decoder = tuple[str, Band]  # that, of the sound that a low-pass passes
 NO_BAND = (0, 0)  # of bits as they are
+SILENT: Points = [(0, 0)]  # of channels that a clip isn't heard in
 
 
 @dataclass(frozen=True)
@@ -163,7 +164,7 @@ def clip_of(project: Project, voice: Voice, part: str, before: Turn | None, afte
     first, stop = max(first, 0, -voice.offset), min(stop, project.takes[voice.take].bits - voice.offset)
     if first >= stop:
         return None
-    points: list[Points] = [[(0, 0)]] * project.count
+    points = [SILENT] * project.count
     for channel, *both in zip(voice.channels, rising, falling):
         points[channel] = gains.counted_from(gains.one_after_other(*both), first, stop)
     decoder = (part, voice.band if part != BITS else NO_BAND)

@@ -10,7 +10,7 @@ import numpy as np
 import tomlkit
 
 from cuts import hearing
-from cuts.clips import BITS, LOW, REST, WHOLE, Clip, Decoder, clips_of
+from cuts.clips import BITS, LOW, REST, SILENT, WHOLE, Clip, Decoder, clips_of
 from cuts.crossfades import SPLIT
 from cuts.gains import FULL, Points
 from cuts.hearing import Band, lowpass
@@ -64,6 +64,12 @@ def summing(taps: np.ndarray, total: int) -> np.ndarray:
     return found
 
 
+def without_zeros(taps: np.ndarray) -> np.ndarray:
+    """The same taps around the same middle, as many as are needed."""
+    half = len(taps) // 2
+    return centered(taps, 2 * int(np.abs(np.flatnonzero(taps) - half).max(initial=0)) + 1)
+
+
 class Mix:
     """The mix of a project. Its clips have the numbers of the project's takes; `takes` are those that it names."""
 
@@ -92,8 +98,8 @@ class Mix:
 
     @cached_property
     def taps(self) -> dict[Decoder, np.ndarray]:
-        """The taps of each decoder."""
-        return {it: self.taps_of(it) for it in self.decoders}
+        """The taps of each decoder, without zeros at both ends."""
+        return {it: without_zeros(self.taps_of(it)) for it in self.decoders}
 
     def taps_of(self, decoder: Decoder) -> np.ndarray:
         """The taps of a decoder. Those of both parts of a sound add up to those of the whole."""
@@ -146,9 +152,10 @@ def gains_of(rows: list[Points]) -> str:
 
 
 def clip_text(mix: Mix, clip: Clip) -> str:
-    number = mix.takes.index(clip.take)
-    times = f"{clock(clip.at, mix.rate)} to {clock(clip.stop, mix.rate)}"
-    text = f"\n# {shown_name(mix.names[number])} from {times}{SAID[clip.decoder[0]]}\n[[mix.clip]]\n"
+    number, heard = mix.takes.index(clip.take), [str(it) for it, points in enumerate(clip.points) if points != SILENT]
+    what = f"{shown_name(mix.names[number])} from {clock(clip.at, mix.rate)} to {clock(clip.stop, mix.rate)}"
+    alone = "" if len(heard) == len(clip.points) else f", channel {' and '.join(heard)} alone"
+    text = f"\n# {what}{SAID[clip.decoder[0]]}{alone}\n[[mix.clip]]\n"
     places = {"take": number, "decoder": mix.decoders.index(clip.decoder)}
     places |= {"start": clip.start, "at": clip.at, "length": clip.length}
     return text + "".join(f"{key} = {it}\n" for key, it in places.items()) + gains_of(clip.points)

@@ -63,5 +63,5 @@ def answer(mix: Path, master: Path) -> Answer:
         said = err.decode(errors="replace").strip().splitlines() or [f"status {status}"]
         raise Refused(f"{shown_name(str(mix))}: the null test can't be made: {said[-1]}")
     rows = [found.groups() for found in map(STRETCH.fullmatch, lines) if found]
-    stretches = [Stretch(*map(int, it[:3]), float(it[3]), int(it[4])) for it in rows]
+    stretches = [Stretch(int(it[0]), int(it[1]), int(it[2]), float(it[3]), int(it[4])) for it in rows]
     return Answer(shown_name(str(mix)), stretches, lines[-1])

@@ -25,12 +25,24 @@ def gain_row(points: Points, first: int, stop: int) -> np.ndarray:
     return np.floor(np.interp(np.arange(first, stop), places, values) + ROUNDED) / FULL
 
 
+class Cut(Planned):
+    """The planned master with the bits of bridges that go in a line."""
+
+    def signs(self, first: int, stop: int) -> np.ndarray:
+        found = super().signs(first, stop)
+        for spot in self.project.spots():
+            low, high = max(spot.place, first), min(spot.place + spot.length, stop)
+            if spot.role == "line" and low < high:
+                found[:, low - first : high - first] = self.bridge(spot)[:, low - spot.place : high - spot.place]
+        return found
+
+
 class Predicted:
     """The planned master of a project beside its mix."""
 
     def __init__(self, project: Project, mix: Mix) -> None:
         self.project, self.mix = project, mix
-        self.master = Planned(project)
+        self.master = Cut(project)
         self.audible = mix.audible / mix.audible.sum()
         self.decoders = {it: taps / mix.unit for it, taps in mix.taps.items()}
         self.ways = {it: number for number, it in enumerate(dict.fromkeys(map(way_of, mix.clips)))}
@@ -115,12 +127,12 @@ def joined(spans: list[tuple[int, int]]) -> list[tuple[int, int]]:
     return found
 
 
-# The limit of a mix: the loudest of what is promised of each cut. What is promised of a kind of cut has to be kept with
-# a margin, or it isn't promised; nor is anything of kinds of cuts that these scripts don't make quiet.
+# The limit of a mix: a margin above what README.md says that the loudest of each kind of cut clicks at. Of a cut that is
+# louder, or of a kind that these scripts don't make quiet, only what the null test will find is known.
 
-PROMISED = {"fade": -108.0, "butt": -108.0, "transition": -85.0, "link": -70.0}  # dB to full scale
+WORST = {"fade": -108.0, "butt": -108.0, "transition": -88.0, "link": -77.0}  # dB to full scale
 MARGIN = 1.0  # dB
-QUIETEST = -120.0  # dB: what is promised of cuts at which nothing is heard
+NOTHING = -120.0  # dB: what is quieter than this counts as this
 
 
 def kind_of(project: Project, spot: Spot) -> str:
@@ -128,13 +140,12 @@ def kind_of(project: Project, spot: Spot) -> str:
 
 
 def limit_of(project: Project, mix: Mix) -> tuple[float, str]:
-    """The limit of a mix (dB to full scale); and a line, if it is another than what is promised of the kinds of cuts
-    that are in it."""
+    """The limit of a mix (dB to full scale), and a line if it is that of a cut which is louder than its kind."""
     found = []
     for number, (spot, level) in enumerate(zip(project.spots(), levels(project, mix))):
-        promised, wished = PROMISED.get(kind_of(project, spot), np.inf), max(math.ceil(level + MARGIN), QUIETEST)
-        is_kept = level <= promised - MARGIN and promised < np.inf
-        found.append((promised if is_kept else wished, not is_kept, number, level))
-    limit, is_other, number, level = max(found)
+        worst = WORST.get(kind_of(project, spot), -np.inf)
+        limit = worst if level <= worst else math.ceil(max(level, NOTHING))
+        found.append((limit + MARGIN, level > worst, number, level))
+    limit, is_louder, number, level = max(found)
     line = f"cut {number}: the null test will find {level:.1f} dB, so the limit of the mix is {limit:g} dB"
-    return limit, line if is_other else ""
+    return limit, line if is_louder else ""

@@ -167,18 +167,25 @@ def decoder_text(mix: Mix, number: int, decoder: Decoder) -> str:
     return f"\n# Decoder {number}: {what}\n[[mix.decoder]]\ntaps = {array_of(mix.taps[decoder])}\n"
 
 
-def text_of(mix: Mix, level: float, project: str, name: str) -> str:
-    """The text of a mix, whose limit is a level (dB to full scale). It says how it is used: the names of the project and
-    of the mix."""
+def head_of(limit: float, project: str, name: str) -> str:
+    """The comment that says what a mix is, and how it is used."""
+    return f"""\
+# The mix that was asked for with {shown_name(project)}: where each take is heard (docs/NULL_TEST.md). To find how far a
+# master is from it, as heard, run this in the folder from which the takes are named:
+#
+#   tools/null_test {shown_name(name)} MASTER
+#
+# It accepts a master if what is left is nowhere louder than `limit`, {limit:g} dB to full scale. The clips come after the
+# taps of `audible`, and the decoders after the clips. Places are bits of the master; a gain of 1 is {FULL}.
+"""
+
+
+def text_of(mix: Mix, limit: float, project: str, name: str) -> str:
+    """The text of a mix with a limit (dB to full scale). Its comment has the names of the project and of the text."""
     takes = tomlkit.dumps({"takes": mix.names})
     return (
-        f"# What was asked for with the cuts of {shown_name(project)}: where each take is heard (docs/NULL_TEST.md).\n"
-        f"# The null test says how far a master is from it, as heard, in the folder that names the takes:\n#\n"
-        f"#   tools/null_test {shown_name(name)} MASTER\n#\n"
-        f"# It accepts what is left up to `limit`, here {level:g} dB to full scale. The clips come after `audible`, the taps of\n"
-        f"# the low-pass of what can be heard, and the decoders of takes after the clips. A gain of 1 is {FULL}.\n\n"
-        f"[mix]\n{takes}limit = {mix.limit(level)}  # {level:g} dB\nunit = {mix.unit}\nevery = {mix.every}\n"
-        f"audible = {array_of(mix.audible)}\n"
+        f"{head_of(limit, project, name)}\n[mix]\n{takes}limit = {mix.limit(limit)}  # {limit:g} dB\n"
+        f"unit = {mix.unit}\nevery = {mix.every}\naudible = {array_of(mix.audible)}\n"
         + "".join(clip_text(mix, it) for it in mix.clips)
         + "".join(decoder_text(mix, *it) for it in enumerate(mix.decoders))
     )

@@ -5,10 +5,11 @@ import sys
 from collections.abc import Callable, Iterator
 from pathlib import Path
 
-from cuts import masters
+from cuts import masters, mixes, null_tests, nulls
+from cuts.mixes import MOST_CLIPS, Mix
 from cuts.projects import Project, Spot
 from dsdarc_scripts.explained import shown_name
-from dsdarc_scripts.outputs import Refused
+from dsdarc_scripts.outputs import Outputs, Refused
 
 
 def usual(parser: argparse.ArgumentParser) -> None:
@@ -16,6 +17,8 @@ def usual(parser: argparse.ArgumentParser) -> None:
     parser.add_argument("project", type=Path)
     parser.add_argument("-o", "--output", type=Path, required=True, metavar="NEW")
     parser.add_argument("--take", type=Path, metavar="FILE", help="the take of seams, DSDIFF (NEW.seams.dff)")
+    mix = "the mix that is asked for, for the null test (NEW.mix.toml)"
+    parser.add_argument("--mix", type=Path, metavar="FILE", help=mix)
     parser.add_argument("--cut", type=int, nargs="+", metavar="N", help="these cuts alone, counted from 0")
     going = "leave the cuts that are refused as they are; the status is 1 then"
     parser.add_argument("--keep-going", action="store_true", help=going)
@@ -30,6 +33,32 @@ def parsed(parser: argparse.ArgumentParser) -> argparse.Namespace:
     except UnicodeEncodeError:
         raise Refused(f"--take: {shown_name(str(asked.take))} is no text in UTF-8, so no project can name it") from None
     return asked
+
+
+def add_outputs(files: Outputs, asked: argparse.Namespace) -> None:
+    """Takes the files that are to be written. A new project that is no file, such as a pipe, has no mix beside it."""
+    files.add("--take", asked.take)
+    files.add("-o", asked.output)
+    if asked.mix is None and files.files[os.fspath(asked.output)].is_plain:
+        asked.mix = null_tests.beside(asked.output)
+    if asked.mix is not None:
+        files.add("--mix", asked.mix)
+
+
+def put_mix(files: Outputs, asked: argparse.Namespace, project: Project) -> None:
+    """Writes the mix, and prints if its limit is another one than its kinds of cuts promise."""
+    if asked.mix is None:
+        return
+    mix = Mix(project)
+    if len(mix.clips) > MOST_CLIPS:
+        why = f"it would have {len(mix.clips)} clips, and there is room for {MOST_CLIPS}"
+        print(f"{masters.script()}: no mix is written: {why}", file=sys.stderr)
+        files.drop(asked.mix)
+        return
+    limit, line = nulls.limit_of(project, mix)
+    if line:
+        print(line)
+    files.put(asked.mix, mixes.text_of(mix, limit, asked.output.name, str(asked.mix)))
 
 
 def goes_on(project: Project, spot: Spot) -> bool:

@@ -37,7 +37,7 @@ def blackman_harris(size: int) -> np.ndarray:
 def block_for(length: int, count: int) -> int:
     """The size of the spectra by which a row of some length is convolved fastest with so many taps."""
     over = count - 1
-    if count < length / 2:
+    if 1 < count < length / 2:
         best = -over * special.lambertw(-1 / (2 * math.e * over), k=-1).real
         size = fft.next_fast_len(math.ceil(best))
         if size < length:
@@ -209,10 +209,15 @@ def wider(band: Band) -> Band:
 RISE = 4_000  # bits at 2,822,400 Hz over which errors are let in, far from where they count
 
 
+def rise_of(rate: int) -> int:
+    """The same at a rate."""
+    return RISE * rate // 2_822_400
+
+
 def let_in(errors: np.ndarray, rate: int, most: int | None = None) -> np.ndarray:
     """Errors with a slow rise at their start, of `most` bits at most. It has no edges: what they would leave in the
     audio band is next to nothing, but its moment is known from far away."""
-    rise = RISE * rate // 2_822_400
+    rise = rise_of(rate)
     part = np.clip(np.arange(errors.shape[-1]) / (rise if most is None else max(min(rise, most), 1)), 0, 1)
     return errors * part**3 * (10 - 15 * part + 6 * part**2)
 

@@ -125,7 +125,7 @@ def ideal(project: Project, reference: Reference, first: int, stop: int) -> np.n
             found[:, low - first : high - first] = reference(cue["take"], low + offset, high + offset)
         place += length + project.bridge(number)
     for spot in project.spots():
-        early = int(np.ceil(delay(project.weights))) if spot.role == "bridge" else 0
+        early = max(int(np.ceil(delay(project.weights))), 0) if spot.role == "bridge" else 0
         low, high = max(spot.place - early, first), min(spot.place + spot.length, stop)
         if low < high and spot.role in ("bridge", "line", "seam"):
             made = seamed if spot.role == "seam" else bridged

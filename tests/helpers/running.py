@@ -14,12 +14,12 @@ sys.dont_write_bytecode = True
 os.environ.setdefault("OMP_NUM_THREADS", "1")
 os.environ.setdefault("OPENBLAS_NUM_THREADS", "1")
 
-from cuts import fading, masters, placing
+from cuts import commands, fading, masters, null_tests, placing
 from modulator import modulators
 from tests.helpers import usual_signals
 from tests.helpers.trials import ROOT, demand, found
 
-LOADED = (fading, placing, masters, modulators)  # what scripts need: they find it loaded
+LOADED = (commands, fading, placing, masters, null_tests, modulators)  # what scripts need: they find it loaded
 STOPS = (signal.SIGINT, signal.SIGTERM, signal.SIGHUP)
 LIMIT = 120  # seconds that a script may take
 

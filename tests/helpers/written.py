@@ -28,6 +28,8 @@ READ = (
     (("cuts/fade", "p.toml", "-o", "READ", "--time", "0.5ms"), "b.dff"),
     ((*FADE, "--take", "READ"), "b.dff"),
     ((*FADE, "--take", "READ"), "p.toml"),
+    ((*FADE, "--mix", "READ"), "p.toml"),
+    (("cuts/place", "p.toml", "-o", "new.toml", "--mix", "READ"), "a.dff"),
     (("cuts/join", "a.dff", "b.dff", "-o", "READ", "--form", "dsdiff"), "b.dff"),
     (("tools/mend_dsf", "b.dff", "READ"), "b.dff"),
     (("workflows/copy_tag", "tag.dff", "b.dff", "-o", "READ"), "tag.dff"),
@@ -47,11 +49,14 @@ READ = (
 MADE = (
     (("cuts/place", "p.toml", "-o", "new.toml"), "new.seams.dff", "b.dff"),
     (FADE, "new.seams.dff", "p.toml"),
+    (FADE, "new.mix.toml", "p.toml"),
+    (("cuts/place", "p.toml", "-o", "new.toml"), "new.mix.toml", "b.dff"),
     (("cuts/tracks", "album.dff", "-o", "new"), "new/02 - B.dff", "album.dff"),
     (("cuts/tracks", "album.dff", "-o", "new", "--cue", "album.cue"), "new/01 - A.dff", "album.cue"),
     (("cuts/measure", "master.dff", "p.toml", "--plots", "new"), "new/cut-0.png", "p.toml"),
     (("cuts/measure", "master.dff", "p.toml", "--plots", "new"), "new/cut-0.png", "b.dff"),
     (("cuts/measure", "master.dff", "p.toml", "--plots", "new"), "new/cut-0.png", "master.dff"),
+    (("cuts/measure", "master.dff", "p.toml", "--plots", "new", "--mix", "mix.toml"), "new/cut-0.png", "mix.toml"),
     (
         ("filters/measure.py", "filters", "--plots"),
         "filters/responses/dsd64-to-352800.png",
@@ -72,6 +77,9 @@ TWICE = (
     (("cuts/place", "p.toml", "-o", "x", "--take", "./x"), ()),
     (("cuts/fade", "p.toml", "-o", "hard", "--time", "0.5ms", "--take", "old"), ("old", "hard")),
     (("cuts/place", "p.toml", "-o", "old"), ("old", "old.seams.dff")),
+    (("cuts/place", "p.toml", "-o", "old"), ("old", "old.mix.toml")),
+    (("cuts/fade", "p.toml", "-o", "x", "--time", "0.5ms", "--mix", "./x"), ()),
+    (("cuts/place", "p.toml", "-o", "x", "--take", "lost", "--mix", "folder/x"), ()),
     (("cuts/tracks", "album.dff", "-o", "new"), ("new/01 - A.dff", "new/02 - B.dff")),
     (("cuts/make_example", "new"), ("new/piece_1.dff", "new/piece.toml")),
     (("filters/design.py", "new"), ("new/dsd64-to-44100-24.toml", "new/dsd128-to-352800-24.toml")),
@@ -79,6 +87,14 @@ TWICE = (
     (("bench/make_project.py", "x", "a.dff", "b.dff", "32000", "2", "8", "5", "./x"), ()),
 )
 SHEET = 'FILE "album.wav" WAVE\n  TRACK 01 AUDIO\n    TITLE "A"\n    INDEX 01 00:00:00\n'
+MIX = """[mix]
+unit = 1
+audible = [1]
+limit = 100000
+takes = ["a.dff", "b.dff"]
+decoder = [{taps = [1]}]
+clip = [{take = 0, start = 0, at = 0, length = 16000}, {take = 1, start = 16000, at = 16000, length = 16000}]
+"""
 TAG = b"ID3\4\0\0\0\0\0\x0aTIT2\0\0\0\0\0\0"
 
 
@@ -100,6 +116,7 @@ def furnish(arguments: tuple[str, ...]) -> None:
     put("album.cue", SHEET)
     put("tag.dff", dsdiff(RATE, 1, bytes(100), more=chunk(b"ID3 ", TAG)))
     put("master.dff", dsdiff(RATE, 1, b"\x69" * 2000 + b"\x96" * 2000))
+    put("mix.toml", MIX)
     for name in ("run/a.dff.wav", "flow/pcm/a.dff.wav"):
         put(name, wave())
     put("run/SHA256SUMS", f"{'0' * 64}  a.dff.wav\n")

@@ -32,6 +32,9 @@
 //!
 //! [`read`] returns the [`Project`] that a text states, or its first fault ([`ProjectFault`]).
 //!
+//! Mix texts, which `mix_core` reads, have keys and faults of the same types ([`Key`], [`Table`], [`ProjectFault`]). What
+//! both read alike is in [`table`], [`takes_at`], [`take_number_at`] and [`abs_sum`].
+//!
 //! The words of its contracts:
 //! - `IsProject bytes p` (`specs/Meaning.antt`): the bytes are a text that states the project `p`. It is defined by
 //!   what the tables contain (`IsDecimate`, `IsSplice`, `IsCue`), without any reading.
@@ -39,7 +42,7 @@
 //!   [`Splice`] is within its own.
 //! - `project_at bytes` (`specs/ReadingProject.antt`): the reading in a fixed order, which ends with the project or the
 //!   first fault. Its steps are `decimate_of` (`specs/ReadingDecimate.antt`), `splice_of` (`specs/ReadingSplice.antt`),
-//!   `cue_of` (`specs/ReadingCue.antt`), and single keys (`specs/Reading.antt`).
+//!   `cue_of` (`specs/ReadingCue.antt`), takes (`specs/ReadingTakes.antt`), and single keys (`specs/Reading.antt`).
 //! - `project_content` (`specs/Projects.antt`), `splice_content` and `cue_content` (`splice_core`): what is held, as
 //!   lists and numbers.
 //! - `Gives` (`specs/Steps.antt`): a function returns what a reading ends with, or `Memory`.

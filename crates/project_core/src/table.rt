@@ -1,4 +1,4 @@
-//! Reads the members of a TOML table by their keys.
+//! Reads the members of a TOML table by their keys, for project texts and mix texts.
 
 ghost use Rattle.std.specs.Prelude.{◌≡◌, ◌≤◌, ◌<◌, ◌^◌, IfOk, option_map, map, string_bytes};
 ghost use Rattle.toml.specs.Data.{get_member};
@@ -13,7 +13,7 @@ use crate::key::{Key, Table};
 use std::alloc::Global;
 use toml::Value;
 
-/// The TOML document that the bytes are.
+/// The TOML document that the bytes are, or `NotToml`.
 #[tactic(auto, unfolding(crate::specs::Reading::document))]
 pub fn document(alloc: Global, bytes: &[u8]) -> Result<toml::Table, ProjectFault>
     ensures { Gives (λ t. table_view t) result (document bytes.now) }
@@ -37,7 +37,7 @@ pub fn find(table: &toml::Table, key: Key) -> Option<&Value>
     table.get(key.name())
 }
 
-/// The value at a key that must be there.
+/// The value at a key that must be there, or `MissingKey`.
 #[tactic(auto, unfolding(crate::specs::Reading::value_at))]
 pub fn value_at(table: &toml::Table, key: Key, place: Table) -> Result<&Value, ProjectFault>
     ensures { Gives (λ v. view v.now) result (value_at key place (table_view table.now)) }
@@ -45,7 +45,7 @@ pub fn value_at(table: &toml::Table, key: Key, place: Table) -> Result<&Value, P
     find(table, key).ok_or(ProjectFault::MissingKey(key, place))
 }
 
-/// The integer that the value at a key is.
+/// The integer that the value at a key is, or `WrongKind`.
 pub fn integer_of(value: &Value, key: Key, place: Table) -> Result<i64, ProjectFault>
     ensures { Gives (λ z. z) result (integer_of key place (view value.now)) }
 {
@@ -61,7 +61,8 @@ pub(crate) fn text_of(value: &Value, key: Key, place: Table) -> Result<&str, Pro
     value.as_str().ok_or(ProjectFault::WrongKind(key, place))
 }
 
-/// The table that the value at a key is. It is the one at this place, and must have no keys but these.
+/// The table that the value at a key is. It is the one at this place, and must have no keys but these. Refusals, in this
+/// order: `WrongKind`, `UnknownKey`.
 #[tactic(auto, unfolding(crate::specs::Reading::table_of))]
 pub fn table_of<'a>(
     value: &'a Value,
@@ -128,7 +129,8 @@ pub fn below(integer: i64, bound: usize) -> Option<usize>
     }
 }
 
-/// The items of the array at a key, of which there are from 1 to a limit.
+/// The items of the array at a key, of which there are from 1 to a limit. Refusals, in this order: `MissingKey`,
+/// `WrongKind`, `OutOfLimit`.
 #[tactic(auto, using(crate::proofs::Each::list_of_length), unfolding(crate::specs::Reading::items_at))]
 pub fn items_at(
     table: &toml::Table,
@@ -146,7 +148,8 @@ pub fn items_at(
     Ok(values)
 }
 
-/// The integers of the array at a key. First all must be integers, and then all must fit 32 bits.
+/// The integers of the array at a key. First all must be integers, and then all must fit 32 bits. Refusals, in this
+/// order: `MissingKey`, `WrongKind`, `OutOfLimit`.
 #[tactic(auto, unfolding(crate::specs::Reading::integers_at))]
 pub fn integers_at(
     alloc: Global,
@@ -185,7 +188,7 @@ fn is_among(keys: &[Key], name: &str) -> bool
     keys.iter().any(|key| key.name() == name)
 }
 
-/// The integers that the values are. All must be integers.
+/// The integers that the values are, or `WrongKind` unless all are integers.
 #[tactic(auto, unfolding(crate::specs::Reading::integers_of))]
 pub fn integers_of(
     alloc: Global,

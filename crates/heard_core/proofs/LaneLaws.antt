@@ -9,7 +9,8 @@ use Rattle.std.specs.List.{All}
 use Rattle.std.proofs.lemmas.List.{length-take-le}
 use Rattle.std.proofs.lemmas.List.Elements.{All-drop, All-get_or, All-take}
 use Rattle.std.proofs.lemmas.Simd.{Each1-from_get_or, Each1-replicate, get_or-replicate, length-replicate}
-use Rattle.heard_core.specs.Products.{AreAdded, AreParts, AreSums, IsAdded, IsSmall, IsSumOf, dot, total}
+use Rattle.clip_core.specs.Mixes.{total}
+use Rattle.heard_core.specs.Products.{AreAdded, AreParts, AreSums, IsAdded, IsSmall, IsSumOf, dot}
 use Rattle.heard_core.proofs.DotLaws.{dot_prefix, dot_small, fits_wide, window_group, window_parts}
 
 abbrev pub wrap_add : ℕ → ℕ → ℕ

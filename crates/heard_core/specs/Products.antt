@@ -2,6 +2,7 @@
 use Rattle.std.specs.Prelude.{◌≡◌, ℕ, ◌<◌, ◌^◌, ℤ, pos, ◌+ℤ◌, ◌*ℤ◌, List, [], ◌∷◌, length, slice_index_or, unsigned_abs, FitsSigned}
 use Rattle.std.specs.Int.{int_wrap, w64}
 use Rattle.std.specs.Simd.Lanes.{Each1}
+use Rattle.clip_core.specs.Mixes.{total}
 
 -- the sum of the products of two lists, place by place, as far as both reach
 abbrev pub dot : List ℤ → List ℤ → ℤ
@@ -12,11 +13,6 @@ dot (x ∷ xs) (y ∷ ys) = x *ℤ y +ℤ dot xs ys
 -- a tap or an error: below 2 ^ 31 in absolute value
 abbrev pub IsSmall : ℤ → Type 0
 IsSmall z = unsigned_abs z < 2 ^ 31
-
--- the sum of whole numbers
-abbrev pub total : List ℤ → ℤ
-total [] = pos 0
-total (x ∷ xs) = x +ℤ total xs
 
 -- eight numbers of 64 bits that add up to a number, as far as 64 bits hold it
 pub record AreParts (z : ℤ) (parts : List ℤ) : Type 0 where

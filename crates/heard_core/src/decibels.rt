@@ -15,6 +15,7 @@ const TENS_EXPONENT: usize = 19;
 
 /// The level of a value in hundredths of a decibel to full scale, rounded towards louder: the least whole number `k` for
 /// which `20 * log10(value / full)` is at most `k / 100`. It compares whole numbers, so the level is exact.
+/// The only refusal is out of memory.
 pub fn hundredths(alloc: Global, value: u64, full: u64) -> Result<i64, AllocError>
     requires some_value { 1 ≤ value }
     requires some_full { 1 ≤ full }
@@ -38,7 +39,7 @@ pub fn hundredths(alloc: Global, value: u64, full: u64) -> Result<i64, AllocErro
 }
 
 /// Appends a value's level as it is printed: in decibels to full scale, with two decimals, rounded towards louder. That
-/// of nothing is `-inf`.
+/// of a value of 0 is `-inf`. The only refusal is out of memory.
 pub fn push_level(alloc: Global, text: &mut String, value: u64, full: u64) -> Result<(), AllocError>
     requires { 1 ≤ full }
     ensures nothing { value ≡ 0 → OnOk result (string_bytes text.new ≡ string_bytes text.old ++ codes "-inf") }

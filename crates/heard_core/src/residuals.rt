@@ -51,8 +51,9 @@ impl Audible {
         self.reversed.len()
     }
 
-    /// The residuals of the windows that begin at each `step`-th error, the first window at the first error. A window
-    /// has an error for each tap. It takes no memory.
+    /// Writes the residuals of as many windows as `sums` is long: the first window begins at the first error, and each
+    /// other one `step` errors after the one before. A window has an error for each tap. Errors are below `2^31` in
+    /// absolute value, and so residuals are below `2^62`. It takes no memory.
     pub fn residuals(&self, errors: &[i32], step: usize, sums: &mut [i64])
         requires within { (i : ℕ) → i < length sums.old → i * step + length self.now ≤ length errors.now }
         requires small { All IsSmall errors.now }

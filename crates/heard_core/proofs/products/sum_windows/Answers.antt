@@ -1,4 +1,4 @@
-use Rattle.std.proofs.Common.{◌≡◌, ◌≢◌, ◌∙◌, ◌*◌, ◌/◌, ◌<◌, ℕ, arith, below_more, drop, get_or-set_other, get_or-set_same, length, length-drop, subst, sym, take, to_z, of_z, unsigned_abs, w64}
+use Rattle.std.proofs.Common.{◌+◌, ◌≡◌, ◌≢◌, ◌∙◌, ◌*◌, ◌/◌, ◌<◌, ℕ, arith, below_more, drop, get_or-set_other, get_or-set_same, length, length-drop, subst, sym, take, to_z, of_z, unsigned_abs, w64}
 use Rattle.std.proofs.Math.ListN.{length-set}
 use Rattle.std.proofs.lemmas.Int.{to_z-of_z}
 use Rattle.std.proofs.lemmas.List.{take_rest}
@@ -7,7 +7,7 @@ use Rattle.std.proofs.lemmas.List.Sums.{sum_by-take-drop}
 use Rattle.std.specs.List.{All}
 use Rattle.heard_core.specs.Products.{AreSums, IsSmall, dot}
 use Rattle.heard_core.proofs.DotLaws.{small_taps}
-use Rattle.heard_core.proofs.LaneLaws.{next_group, window_ends}
+use Rattle.heard_core.proofs.LaneLaws.{next_group, none_summed, window_ends}
 use Rattle.heard_core.proofs.products.sum_windows.Goals as goal
 
 pub loop-i-preserved : goal.loop-i-preserved
@@ -55,3 +55,23 @@ loop-w-preserved g c =
           (λ v h. let ne : v ≢ w = omega arith in rw get_or-set_other (c.loop-w.invariant.done v h))
           (rw get_or-set_same (to_z-of_z w64 c.finish.result (record { sfits = c.finish.type_inv }) ∙ value));
     }
+
+pub loop-i-init : goal.loop-i-init
+loop-i-init g c = none_summed g.row.N c.args.step c.args.taps.now c.args.errors.now
+
+pub finish-requires-clause-room : goal.finish-requires-clause-room
+finish-requires-clause-room g c =
+    let ts = c.args.taps.now in
+    let es = c.args.errors.now in
+    let m = 8 * (length ts / 8) in
+    let p = c.loop-w.w * c.args.step + m in
+    rw (take_rest ts m, take_rest es p) (omega (arith, length-drop m ts, length-drop p es, c.requires.room c.loop-w.w (omega arith)))
+
+pub finish-requires-clause-small_errors : goal.finish-requires-clause-small_errors
+finish-requires-clause-small_errors g c =
+    let es = c.args.errors.now in
+    let p = c.loop-w.w * c.args.step + 8 * (length c.args.taps.now / 8) in
+    subst (All IsSmall) (sym (take_rest es p)) (All-drop IsSmall p es c.requires.small_errors)
+
+pub returns : goal.returns
+returns g c = λ w h. c.loop-w.invariant.done w (omega arith)

@@ -34,3 +34,9 @@ returns-clause-bound c =
     let es = c.args.errors.now in
     All-from_get_or (λ r. unsigned_abs r < 2 ^ 62) c.loop-i.sums (pos 0)
     (λ i l. rw (c.loop-i.invariant i (omega arith)) (dot_small c.as_slice-taps.result.now (drop (i * c.args.step) es) (small (goal.at.returns-clause-bound c).After-as_slice-taps) (All-drop IsSmall (i * c.args.step) es c.requires.small)))
+
+pub put_windows-requires-clause-small_errors : goal.put_windows-requires-clause-small_errors
+put_windows-requires-clause-small_errors c = c.requires.small
+
+pub put_windows-requires-in-loop-i-clause-small_errors : goal.put_windows-requires-in-loop-i-clause-small_errors
+put_windows-requires-in-loop-i-clause-small_errors c = c.requires.small

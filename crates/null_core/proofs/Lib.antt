@@ -1,0 +1,3 @@
+mod EditLaws
+mod OwnLaws
+mod WordLaws

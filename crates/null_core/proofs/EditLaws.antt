@@ -1,12 +1,12 @@
 -- Which places are edited, by the runs of own bits.
-use Rattle.std.proofs.Common.{◌≡◌, ℕ, ◌+◌, ◌-◌, ◌<◌, ◌≤◌, ◌⊎◌, min, ℤ, Bool, List, length, MatchOption, Option, None, Some, inl, inr, sym, ap, subst, ◌∙◌, arith}
+use Rattle.std.proofs.Common.{◌≡◌, ℕ, ◌+◌, ◌-◌, ◌<◌, ◌≤◌, ◌⊎◌, min, Bool, List, length, None, Some, inl, inr, subst, arith}
 use Rattle.std.proofs.lemmas.Bool.{cases_lt}
 use Rattle.std.proofs.lemmas.Option.{MatchOption-at_none, MatchOption-at_some}
 use Rattle.null_core.specs.declared.alone.Source.{Source}
 use Rattle.null_core.specs.declared.own.OwnRun.{OwnRun}
-use Rattle.null_core.specs.Own.{IsEdited, IsOwn, IsOwnAround}
+use Rattle.null_core.specs.Own.{IsEdited, IsOwn}
 use Rattle.null_core.specs.Parts.{AskedContent, PartContent, reach}
-use Rattle.null_core.specs.Walks.{AreOwn, AreUnedited, IsNoOnes, IsOwnFrom, IsOwnStart, IsPastOthers, IsUnedited}
+use Rattle.null_core.specs.Walks.{IsNoOnes, IsOwnFrom, IsOwnStart, IsPastOthers, IsUnedited}
 use Rattle.null_core.proofs.OwnLaws.{ends_here}
 
 module _ (a : AskedContent) (bits : List Bool) (n : ℕ) (run : OwnRun) (from_here : IsOwnFrom a.parts bits (n - reach a) run) where

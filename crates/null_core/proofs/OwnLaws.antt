@@ -1,5 +1,5 @@
 -- Where a master has the bits of parts.
-use Rattle.std.proofs.Common.{◌≡◌, ◌≢◌, ℕ, ◌+◌, ◌-◌, ◌<◌, ◌≤◌, ◌⊎◌, ◌↔◌, ℤ, Bool, IsTrue, true, false, not, List, length, map, get_or, slice_get, option_map, MatchOption, Option, None, Some, inl, inr, refl, sym, ap, subst, ◌∙◌, arith}
+use Rattle.std.proofs.Common.{◌≡◌, ◌≢◌, ℕ, ◌+◌, ◌-◌, ◌<◌, ◌≤◌, ◌⊎◌, ℤ, Bool, IsTrue, true, false, not, List, length, map, get_or, slice_get, option_map, MatchOption, Option, None, Some, inl, inr, refl, sym, ap, subst, ◌∙◌, arith}
 use Rattle.std.proofs.Math.Bool.{beq}
 use Rattle.std.proofs.lemmas.Bool.{cases_lt}
 use Rattle.std.proofs.lemmas.Bool.Decides.{nat_tests}
@@ -17,12 +17,6 @@ pub part_there : (parts : List Part) (n : ℕ) (p : Part) → n < length parts �
 part_there parts n p low is = slice_get-map part_content parts n ∙ ap (option_map part_content) (slice_get-get_or parts n p low ∙ ap (λ x. Some x) (sym is))
 
 -- two bits that were compared
-unlike : (x y : Bool) → not (beq x y) ≡ true → x ≡ y → ⊥
-unlike true true h e = cc
-unlike true false h e = cc
-unlike false true h e = cc
-unlike false false h e = cc
-
 alike_bits : (x y : Bool) → not (beq x y) ≡ false → x ≡ y
 alike_bits true true h = refl
 alike_bits true false h = cc
@@ -55,9 +49,6 @@ module _ (bits : List Bool) (p : PartContent) (m own : ℕ) (begun : p.at ≤ m)
         subst (λ n. get_or bits n false ≡ part_bit p n) here (sym got ∙ alike_bits x y same ∙ own_got ∙ own_place place after)
         )
   ]
-
-  pub other_at : (place : ℕ) (x y : Bool) → m ≤ place → x ≡ get_or bits place false → y ≡ get_or p.bits (own + (place - m)) false → not (beq x y) ≡ true → get_or bits place false ≡ part_bit p place → ⊥
-  other_at place x y after got own_got other same = unlike x y other (got ∙ same ∙ sym (own_place place after) ∙ sym own_got)
 
 -- at a place the master hasn't the bit of a part that is heard at place m
 pub record OtherAt (parts : List PartContent) (bits : List Bool) (m k : ℕ) : Type 0 where

@@ -1,5 +1,5 @@
 -- Walking along a channel, from one edited span to the next.
-use Rattle.std.specs.Prelude.{◌≡◌, ◌≢◌, ℕ, ◌+◌, ◌-◌, ◌<◌, ◌≤◌, ◌↔◌, ◌⊎◌, ℤ, Bool, false, List, length, Option, Some, None, MatchOption, slice_get, slice_index_or}
+use Rattle.std.specs.Prelude.{◌≡◌, ◌≢◌, ℕ, ◌+◌, ◌-◌, ◌<◌, ◌≤◌, ◌↔◌, ◌⊎◌, ℤ, Bool, false, List, length, Option, Some, MatchOption, slice_get, slice_index_or}
 use Rattle.null_core.specs.declared.alone.Alone.{Alone}
 use Rattle.null_core.specs.declared.alone.Source.{Source}
 use Rattle.null_core.specs.declared.edited.Span.{Span}

@@ -1,6 +1,6 @@
 //! Bits are compared with others, many at a time.
 
-ghost use Rattle.std.specs.Prelude.{◌≡◌, ℕ, ◌+◌, ◌-◌, ◌*◌, ◌/◌, ◌^◌, ◌<◌, ◌≤◌, false, length, slice_index_or};
+ghost use Rattle.std.specs.Prelude.{◌≡◌, ℕ, ◌+◌, ◌*◌, ◌/◌, ◌^◌, ◌<◌, ◌≤◌, false, length, slice_index_or};
 ghost use Rattle.null_core.specs.Words.{AreBitsFrom, stored_bit};
 
 use dsd_bits::Bits;
@@ -8,8 +8,8 @@ use dsd_bits::Bits;
 // How many bits a word has.
 const WORD: usize = 64;
 
-/// How many bits, from one place on, equal others from another place on. They are counted in whole groups of 64, and the
-/// last ones aren't looked at.
+/// How many bits, from one place on, equal others from another place on. They are counted in whole groups of 64. The last
+/// 8 to 71 bits aren't looked at.
 pub(crate) fn alike_bits(bits: &Bits, at: usize, others: &Bits, own: usize, most: usize) -> usize
     requires bits { at + most ≤ length bits.now }
     requires others { own + most ≤ length others.now }

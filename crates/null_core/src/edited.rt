@@ -74,8 +74,8 @@ fn first_unedited(asked: Asked<'_>, bits: &Bits, start: usize) -> usize
     count
 }
 
-// The first place of some if they all are the own bits of one take. Otherwise a later place that no such places up to
-// `high` begin before.
+// Place `low`, if the places from it up to `high` are all the own bits of one take. Otherwise a later place: from the one
+// before it up to `high` not all places are the own bits of one take.
 fn own_start(parts: &[Part<'_>], bits: &Bits, low: usize, high: usize) -> usize
     requires in_order { low < high }
     requires inside { high ≤ length bits.now }

@@ -1,6 +1,6 @@
 //! Where a master has a take's own bits.
 
-ghost use Rattle.std.specs.Prelude.{◌≡◌, ℕ, ◌+◌, ◌-◌, ◌^◌, ◌<◌, ◌≤◌, ◌↔◌, IsTrue, None, Some, length, map};
+ghost use Rattle.std.specs.Prelude.{◌≡◌, ℕ, ◌+◌, ◌-◌, ◌^◌, ◌<◌, ◌≤◌, ◌↔◌, IsTrue, length, map};
 ghost use Rattle.null_core.specs.Own.{IsHeard};
 ghost use Rattle.null_core.specs.Parts.{part_content};
 ghost use Rattle.null_core.specs.Walks.{AreAlikeTo, HasPlaces, HearSame, IsAlikeTo, IsOwnFrom, IsOwnPiece, IsOwnTo, IsPastHeard, IsPastOther, IsPastOthers};

@@ -1,4 +1,4 @@
-use Rattle.std.proofs.Common.{◌≡◌, ◌+◌, ◌*◌, ◌^◌, ◌<◌, ◌≤◌, arith}
+use Rattle.std.proofs.Common.{◌+◌, arith}
 use Rattle.null_core.proofs.WordLaws.{byte_more, grows, room, small}
 use Rattle.null_core.proofs.compared.word_at.Goals as goal
 

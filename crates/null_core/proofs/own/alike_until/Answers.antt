@@ -1,4 +1,4 @@
-use Rattle.std.proofs.Common.{◌+◌, arith, length, map, refl, subst, sym}
+use Rattle.std.proofs.Common.{◌+◌, arith, map, refl, subst, sym}
 use Rattle.std.proofs.lemmas.Bool.{false≢true}
 use Rattle.std.proofs.lemmas.List.{length-map}
 use Rattle.null_core.specs.Parts.{part_content}

@@ -1,6 +1,6 @@
 use Rattle.std.proofs.Common.{arith}
 use Rattle.null_core.specs.Parts.{part_content}
-use Rattle.null_core.proofs.OwnLaws.{alike_from, alike_more, other_at}
+use Rattle.null_core.proofs.OwnLaws.{alike_from, alike_more}
 use Rattle.null_core.proofs.own.first_other.Goals as goal
 
 pub loop-place-init : goal.loop-place-init

@@ -11,7 +11,6 @@ MOST_GAIN = 1 << 26
 MOST_UNIT = 1 << 28
 MOST_POINTS = 4096
 MOST_TAPS = 65_535
-MOST_CHANNELS = 6
 MOST_OVERLAPPING = 64
 MOST_NESTED = 80
 
@@ -174,11 +173,11 @@ def decoder_of(value: object, number: int) -> list[int]:
     return Keys(value, "decoder", f"decoder {number}", ["taps"]).taps("taps", 2**28)
 
 
-def indexed(keys: Keys, key: str, count: int, fault: str) -> int:
-    """The number of a take or a decoder."""
-    found: int = keys.value(key, is_number)
-    if not 0 <= found < count:
-        raise MixFault(fault, f"it names {key} {found}, and there are {count}")
+def take_of(keys: Keys, number: int, takes: int) -> int:
+    """The number of a clip's take."""
+    found: int = keys.value("take", is_number)
+    if not 0 <= found < takes:
+        raise MixFault(f"NoTake {number}", f"it names take {found}, and there are {takes}")
     return found
 
 
@@ -188,14 +187,15 @@ def gains_of(keys: Keys) -> tuple[Points, list[Points] | None]:
     if "gains" not in keys:
         return gain, None
     keys.limit("gain" not in keys, "gains")
-    lists = keys.array("gains", are_points, MOST_CHANNELS)
+    lists: list[list[list[int]]] = keys.value("gains", lambda it: is_list(it, are_points))
+    keys.limit(len(lists) > 0, "gains")
     return [], [keys.points("gains", it) for it in lists]
 
 
 def clip_of(value: object, number: int, takes: int, decoders: int) -> Clip:
     keys = Keys(value, "clip", f"clip {number}", CLIP_KEYS)
-    take = indexed(keys, "take", takes, f"NoTake {number}")
-    decoder = indexed(keys, "decoder", decoders, f"NoDecoder {number}") if "decoder" in keys else 0
+    take = take_of(keys, number, takes)
+    decoder = keys.number("decoder", 0, decoders - 1) if "decoder" in keys else 0
     start, at = keys.number("start", 0, MOST_PLACES), keys.number("at", 0, MOST_PLACES)
     length = keys.number("length", 1, MOST_PLACES - at)
     return Clip(take, decoder, start, at, length, *gains_of(keys))

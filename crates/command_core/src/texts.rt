@@ -98,7 +98,7 @@ fn push_project_fault(text: &mut String, fault: ProjectFault) -> Result<(), Allo
         ProjectFault::MissingKey(key, _) => push_key(text, "MissingKey ", key),
         ProjectFault::WrongKind(key, _) => push_key(text, "WrongKind ", key),
         ProjectFault::OutOfLimit(key, _) => push_key(text, "OutOfLimit ", key),
-        ProjectFault::NoTake { cue, .. } => write!(text, "NoTake {cue}"),
+        ProjectFault::NoTake { number, .. } => write!(text, "NoTake {number}"),
         ProjectFault::ShortCue { cue, .. } => write!(text, "ShortCue {cue}"),
         ProjectFault::LastBridge { .. } => text.push_str("LastBridge"),
         ProjectFault::Memory => text.push_str("Memory"),

@@ -1,2 +1,9 @@
+pub mod AudibleView
+pub mod DecoderView
+pub mod Laws
+pub mod Levels
+pub mod Naturals
+pub mod Pieces
+pub mod Products
 pub mod Residuals
 pub mod Sounds

@@ -37,7 +37,7 @@ fn first_edited(asked: Asked<'_>, bits: &Bits, from: usize) -> Option<usize>
     requires inside { from ≤ length bits.now }
     ensures { FindsEdited (asked_content asked.entry) bits.now from result }
 {
-    let reach = asked.audible.tap_number() / 2;
+    let reach = asked.audible.len() / 2;
     let count = bits.len();
     let mut place = from;
     while place < count {
@@ -59,7 +59,7 @@ fn first_unedited(asked: Asked<'_>, bits: &Bits, start: usize) -> usize
     requires edited { IsEdited (asked_content asked) bits.now start }
     ensures { AreEdited (asked_content asked.entry) bits.now start result }
 {
-    let reach = asked.audible.tap_number() / 2;
+    let reach = asked.audible.len() / 2;
     let count = bits.len();
     let mut place = start;
     while place < count {

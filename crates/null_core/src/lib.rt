@@ -7,6 +7,7 @@ mod compared;
 mod edited;
 mod errors;
 mod judging;
+mod mixing;
 mod own;
 mod part;
 mod stretch;

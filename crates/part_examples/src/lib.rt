@@ -1,5 +1,5 @@
 //! Worked examples of the parts of which files and masters are made, as tests: bits, chunks, devices, the sound of both
-//! formats, samples and WAVE files; costs, bits and certificates of bridges; and the texts of faults.
+//! formats, samples and WAVE files; costs, bits and certificates of bridges; mix texts; and the texts of faults.
 //!
 //! What they share, with those of `archive_examples`, is in [`fixtures`]: small files, and devices that fail where they
 //! are asked to. Whole files are in `archive_examples`. What commands show is in `tests/try_commands`.
@@ -22,12 +22,20 @@ mod costs;
 #[cfg(test)]
 mod decimation;
 #[cfg(test)]
+mod decoding;
+#[cfg(test)]
 mod devices;
 pub mod fixtures;
 #[cfg(test)]
 mod formats;
 #[cfg(test)]
+mod gains;
+#[cfg(test)]
+mod mixes;
+#[cfg(test)]
 mod refusals;
+#[cfg(test)]
+mod residuals;
 #[cfg(test)]
 mod streams;
 #[cfg(test)]

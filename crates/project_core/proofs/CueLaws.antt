@@ -13,19 +13,14 @@ use Rattle.project_core.specs.Keys.{key_name, cue_keys}
 use Rattle.project_core.specs.Steps.{◌>>=◌, optional}
 use Rattle.project_core.specs.Reading.{integer_of, text_of, below, limited_at}
 use Rattle.splice_core.specs.Cues.{CueContent, IsCueWithin}
-use Rattle.project_core.specs.ReadingCue.{take_number_at, bridge_of, bridge_at, target_at, title_of, title_at, cue_of}
-use Rattle.project_core.specs.Tables.{Has, number}
+use Rattle.project_core.specs.ReadingCue.{bridge_of, bridge_at, target_at, title_of, title_at, cue_of}
+use Rattle.project_core.specs.ReadingTakes.{take_number_at}
+use Rattle.project_core.specs.Tables.{number}
 use Rattle.project_core.specs.Meaning.{IsCue}
-use Rattle.project_core.proofs.TableAgain.{table_again, value_again, limited_again}
+use Rattle.project_core.proofs.TableAgain.{table_again, limited_again}
+use Rattle.project_core.proofs.TakeLaws.{take_ok, take_again}
 use Rattle.project_core.proofs.TargetLaws.{target_again, target_ok}
-use Rattle.project_core.proofs.TableLaws.{bind_ok, not_refused, integer_ok, text_ok, table_ok, below_ok, integer_at_ok, limited_ok}
-
-take_ok : (i takes : ℕ) (t : Members) (n : ℕ) → take_number_at i takes t ≡ Ok n → Has t keys.Take (number n) × (n < takes)
-unfolding take_number_at
-take_ok i takes t n e =
-    let a = integer_at_ok keys.Take (tables.Cue i) t _ n e in
-    let b = below_ok takes a.0 _ n a.2 in
-    (a.1 ∙ ap (λ (z : ℤ). Some (integer z)) b.0, b.1)
+use Rattle.project_core.proofs.TableLaws.{bind_ok, not_refused, integer_ok, text_ok, table_ok, below_ok, limited_ok}
 
 bridge_found : (cue : Table) (o : Option Data) (n : ℕ) → bridge_of cue o ≡ Ok n → ((o ≡ Some (number n)) ⊎ ((o ≡ None) × (n ≡ 0))) × (n ≤ 4096)
 bridge_found cue None n e =
@@ -70,8 +65,8 @@ cue_ok weights takes i d p e =
     let a = bind_ok _ _ p e in
     let t = a.0 in
     let known = table_ok keys.Cue (tables.Cue i) cue_keys d t a.1 in
-    let q = parts weights i (take_number_at i takes t) (limited_at keys.Start (tables.Cue i) (2 ^ 36) t) (limited_at keys.Stop (tables.Cue i) (2 ^ 36) t) (bridge_at (tables.Cue i) t) (target_at (tables.Cue i) t) (title_at (tables.Cue i) t) p a.2 in
-    let take = take_ok i takes t p.take q.0 in
+    let q = parts weights i (take_number_at (tables.Cue i) i takes t) (limited_at keys.Start (tables.Cue i) (2 ^ 36) t) (limited_at keys.Stop (tables.Cue i) (2 ^ 36) t) (bridge_at (tables.Cue i) t) (target_at (tables.Cue i) t) (title_at (tables.Cue i) t) p a.2 in
+    let take = take_ok (tables.Cue i) i takes t p.take q.0 in
     let start = limited_ok keys.Start (tables.Cue i) (2 ^ 36) t p.start q.1 in
     let stop = limited_ok keys.Stop (tables.Cue i) (2 ^ 36) t p.stop q.2 in
     let bridge = bridge_found (tables.Cue i) (get_member (key_name keys.Bridge) t) p.bridge q.3 in
@@ -79,10 +74,6 @@ cue_ok weights takes i d p e =
     let title = title_found (tables.Cue i) (get_member (key_name keys.Title) t) p.title q.5 in
     let limits : IsCueWithin weights takes p = record { take_is_there = take.1; start_fits = start.1; stop_fits = stop.1; bridge_fits = bridge.1; target_fits = target.limits; title_fits = title.1; long_enough = q.6 } in
     (t, known.0, record { no_others = known.1; take = take.0; start = start.0; stop = stop.0; bridge = bridge.0; target = target.name; line = target.line; title = title.0; limits = limits })
-
-take_again : (i takes : ℕ) (t : Members) (n : ℕ) → Has t keys.Take (number n) → n < takes → take_number_at i takes t ≡ Ok n
-unfolding take_number_at
-take_again i takes t n h lt = rw (value_again keys.Take (tables.Cue i) t (number n) h, lt-ltb n takes lt)
 
 bridge_read : (cue : Table) (o : Option Data) (n : ℕ) → (o ≡ Some (number n)) ⊎ ((o ≡ None) × (n ≡ 0)) → n ≤ 4096 → bridge_of cue o ≡ Ok n
 bridge_read cue o n (inl h) le =
@@ -99,7 +90,7 @@ unfolding cue_of bridge_at title_at
 cue_again weights takes i t p h =
     rw (
       table_again keys.Cue (tables.Cue i) cue_keys t h.no_others,
-      take_again i takes t p.take h.take h.limits.take_is_there,
+      take_again (tables.Cue i) i takes t p.take h.take h.limits.take_is_there,
       limited_again keys.Start (tables.Cue i) (2 ^ 36) t p.start h.start h.limits.start_fits,
       limited_again keys.Stop (tables.Cue i) (2 ^ 36) t p.stop h.stop h.limits.stop_fits,
       bridge_read (tables.Cue i) (get_member (key_name keys.Bridge) t) p.bridge h.bridge h.limits.bridge_fits,

@@ -3,6 +3,7 @@ pub mod StepLaws
 pub mod KeyLaws
 pub mod TableLaws
 pub mod TableAgain
+pub mod TakeLaws
 pub mod DecimateLaws
 pub mod TargetLaws
 pub mod CueLaws

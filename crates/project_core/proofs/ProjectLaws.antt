@@ -10,11 +10,12 @@ use Rattle.project_core.specs.declared.fault.ProjectFault.TheVariants.{NotToml}
 use Rattle.project_core.specs.Keys.{key_name, top_keys}
 use Rattle.project_core.specs.Steps.{◌>>=◌, Gives, optional}
 use Rattle.project_core.specs.Tables.{has_only, table_in}
+use Rattle.project_core.specs.Reading.{document}
 use Rattle.project_core.specs.ReadingDecimate.{decimate_of}
 use Rattle.splice_core.specs.Splices.{SpliceContent}
 use Rattle.project_core.specs.ReadingSplice.{splice_of}
 use Rattle.project_core.specs.Projects.{ProjectContent, project_content}
-use Rattle.project_core.specs.ReadingProject.{document, decimate_in, splice_in, project_of, project_at}
+use Rattle.project_core.specs.ReadingProject.{decimate_in, splice_in, project_of, project_at}
 use Rattle.project_core.specs.Meaning.{SaysOptional, IsDecimate, IsSplice, IsProjectTable, IsProject}
 use Rattle.project_core.proofs.KeyLaws.{finds_only, has_only_from}
 use Rattle.project_core.proofs.TableLaws.{bind_ok, ok_or_ok, tested}

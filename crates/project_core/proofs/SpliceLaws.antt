@@ -12,22 +12,18 @@ use Rattle.project_core.specs.declared.key.Key.TheVariants as keys
 use Rattle.project_core.specs.declared.key.Table.TheVariants as tables
 use Rattle.project_core.specs.declared.fault.ProjectFault.TheVariants.{OutOfLimit}
 use Rattle.project_core.specs.Steps.{◌>>=◌, each}
-use Rattle.project_core.specs.Reading.{value_at, array_of, integers_at, texts_at}
-use Rattle.project_core.specs.Tables.{list_of, Has, numbers, texts}
+use Rattle.project_core.specs.Reading.{integers_at, items_at}
+use Rattle.project_core.specs.Tables.{Has, numbers}
 use Rattle.splice_core.specs.Cues.{CueContent, AreWeights, last_bridge, IsCueWithin, IsSplicing}
 use Rattle.project_core.specs.ReadingCue.{cue_of}
-use Rattle.project_core.specs.ReadingSplice.{are_weights, is_number, weights_at, takes_at, cues_of, cues_at, splice_of}
+use Rattle.project_core.specs.ReadingSplice.{are_weights, weights_at, cues_of, cues_at, splice_of}
 use Rattle.splice_core.specs.Splices.{SpliceContent}
 use Rattle.project_core.specs.Keys.{splice_keys}
 use Rattle.project_core.specs.Meaning.{IsCue, IsSplice}
-use Rattle.project_core.proofs.TableLaws.{bind_ok, passed, tested, value_ok, array_ok, table_ok, each_ok, zip_right, items_of-list_of, list_of-items_of, integers_ok, texts_ok}
-use Rattle.project_core.proofs.TableAgain.{table_again, value_again, integers_again, texts_again, zip_again, fits_by_sum}
+use Rattle.project_core.proofs.TableLaws.{SaysTable, bind_ok, passed, table_ok, tables_of, each_ok, zip_right, items_ok, integers_ok}
+use Rattle.project_core.proofs.TableAgain.{table_again, items_again, integers_again, zip_again, fits_by_sum}
+use Rattle.project_core.proofs.TakeLaws.{takes_ok, takes_again}
 use Rattle.project_core.proofs.CueLaws.{cue_ok, cue_again}
-
-number_parts : (limit n : ℕ) → is_number limit n ≡ true → (1 ≤ n) × (n ≤ limit)
-number_parts limit n h =
-    let p = and_parts (nat_le 1 n) (nat_le n limit) h in
-    (leb-true 1 n p.0, leb-true n limit p.1)
 
 weights_parts : (ws : List ℤ) → are_weights ws ≡ true → AreWeights ws
 weights_parts ws h =
@@ -42,39 +38,19 @@ weights_ok t ws e =
     let b = passed (are_weights a.0) (OutOfLimit keys.Weights tables.Splice) a.0 ws a.2 in
     subst (λ (xs : List ℤ). Has t keys.Weights (numbers xs) × AreWeights xs) b.1 (integers_ok keys.Weights tables.Splice t a.0 a.1, weights_parts a.0 b.0)
 
-pub takes_ok : (t : Members) (ts : List (List ℕ)) → takes_at t ≡ Ok ts → Has t keys.Takes (texts ts) × ((1 ≤ length ts) × (length ts ≤ 16))
-unfolding takes_at
-takes_ok t ts e =
-    let a = bind_ok (texts_at keys.Takes tables.Splice t) (λ ts. cond (is_number 16 (length ts)) (Ok ts) (Err (OutOfLimit keys.Takes tables.Splice))) ts e in
-    let b = passed (is_number 16 (length a.0)) (OutOfLimit keys.Takes tables.Splice) a.0 ts a.2 in
-    subst (λ (xs : List (List ℕ)). Has t keys.Takes (texts xs) × ((1 ≤ length xs) × (length xs ≤ 16))) b.1 (texts_ok keys.Takes tables.Splice t a.0 a.1, number_parts 16 (length a.0) b.0)
-
--- a value is a table that says this cue
-abbrev SaysCue : ℕ → ℕ → Data → CueContent → Type 0
-SaysCue weights takes d p = (t : Members) × (d ≡ table t) × IsCue weights takes t p
-
-tables_of : (weights takes : ℕ) (ds : List Data) (ps : List CueContent) → AllZip (SaysCue weights takes) ds ps → (ts : List Members) × (ds ≡ map table ts) × AllZip (IsCue weights takes) ts ps
-tables_of weights takes [] [] h = ([], refl, tt)
-tables_of weights takes [] (p ∷ ps) h = absurd h
-tables_of weights takes (d ∷ ds) [] h = absurd h
-tables_of weights takes (d ∷ ds) (p ∷ ps) h =
-    let more = tables_of weights takes ds ps h.1 in
-    (h.0.0 ∷ more.0, ap (λ (x : Data). x ∷ ds) h.0.1 ∙ ap (λ (xs : List Data). table h.0.0 ∷ xs) more.1, (h.0.2, more.2))
-
 pub cues_ok : (weights takes : ℕ) (t : Members) (ps : List CueContent) → cues_at weights takes t ≡ Ok ps
     → ((ts : List Members) × Has t keys.Cue (array (items_of (map table ts))) × AllZip (IsCue weights takes) ts ps) × ((1 ≤ length ps) × (length ps ≤ 256)) × All (IsCueWithin weights takes) ps
 unfolding cues_at cues_of
 cues_ok weights takes t ps e =
-    let a = bind_ok (value_at keys.Cue tables.Splice t) (λ d. array_of keys.Cue tables.Splice d >>= λ ds. cond (is_number 256 (length (list_of ds))) (each (cue_of weights takes) 0 (list_of ds)) (Err (OutOfLimit keys.Cue tables.Splice))) ps e in
-    let b = bind_ok (array_of keys.Cue tables.Splice a.0) (λ ds. cond (is_number 256 (length (list_of ds))) (each (cue_of weights takes) 0 (list_of ds)) (Err (OutOfLimit keys.Cue tables.Splice))) ps a.2 in
-    let c = tested (is_number 256 (length (list_of b.0))) (OutOfLimit keys.Cue tables.Splice) (each (cue_of weights takes) 0 (list_of b.0)) ps b.2 in
-    let zip = each_ok (cue_of weights takes) (SaysCue weights takes) (λ i d p h. cue_ok weights takes i d p h) 0 (list_of b.0) ps c.1 in
-    let stated = tables_of weights takes (list_of b.0) ps zip in
-    let items : b.0 ≡ items_of (map table stated.0) = sym (items_of-list_of b.0) ∙ ap items_of stated.1 in
-    let long : length ps ≡ length (list_of b.0) = AllZip-long (SaysCue weights takes) (list_of b.0) ps zip in
-    let few = number_parts 256 (length (list_of b.0)) c.0 in
-    let each_fits = zip_right (SaysCue weights takes) (IsCueWithin weights takes) (λ d p h. h.2.limits) (list_of b.0) ps zip in
-    ((stated.0, value_ok keys.Cue tables.Splice t a.0 a.1 ∙ ap (λ (d : Data). Some d) (array_ok keys.Cue tables.Splice a.0 b.0 b.1 ∙ ap array items), stated.2), (omega arith, omega arith), All-from_recursion (IsCueWithin weights takes) ps each_fits)
+    let a = bind_ok (items_at keys.Cue tables.Splice 256 t) (λ ds. each (cue_of weights takes) 0 ds) ps e in
+    let items = items_ok keys.Cue tables.Splice 256 t a.0 a.1 in
+    let zip = each_ok (cue_of weights takes) (SaysTable (IsCue weights takes)) (λ i d p h. cue_ok weights takes i d p h) 0 a.0 ps a.2 in
+    let stated = tables_of (IsCue weights takes) a.0 ps zip in
+    let long : length ps ≡ length a.0 = AllZip-long (SaysTable (IsCue weights takes)) a.0 ps zip in
+    let some = items.1.0 in
+    let few = items.1.1 in
+    let each_fits = zip_right (SaysTable (IsCue weights takes)) (IsCueWithin weights takes) (λ d p h. h.2.limits) a.0 ps zip in
+    ((stated.0, items.0 ∙ ap (λ (ds : List Data). Some (array (items_of ds))) stated.1, stated.2), (omega arith, omega arith), All-from_recursion (IsCueWithin weights takes) ps each_fits)
 
 pub splice_ok : (d : Data) (s : SpliceContent) → splice_of d ≡ Ok s → (t : Members) × (d ≡ table t) × IsSplice t s
 unfolding splice_of
@@ -88,14 +64,11 @@ splice_ok d s e =
     let g = passed (eqb (last_bridge f.0) 0) _ made s f.2 in
     let known = table_ok keys.Splice tables.Splice splice_keys d t a.1 in
     let weights = weights_ok t b.0 b.1 in
-    let takes = takes_ok t c.0 c.1 in
+    let takes = takes_ok tables.Splice t c.0 c.1 in
     let cues = cues_ok (length b.0) (length c.0) t f.0 f.1 in
     let limits : IsSplicing b.0 (length c.0) f.0 = record { weights_fit = weights.1; some_takes = takes.1.0; few_takes = takes.1.1; some_cues = cues.1.0; few_cues = cues.1.1; each_fits = cues.2; no_last_bridge = eqb-true (last_bridge f.0) 0 g.0 } in
     let says : IsSplice t made = record { no_others = known.1; weights = weights.0; takes = takes.0; cues = cues.0; limits = limits } in
     (t, known.0, subst (λ (x : SpliceContent). IsSplice t x) g.1 says)
-
-number_again : (limit n : ℕ) → (1 ≤ n) × (n ≤ limit) → is_number limit n ≡ true
-number_again limit n h = rw (le-leb 1 n h.0, le-leb n limit h.1)
 
 weights_kept : (ws : List ℤ) → AreWeights ws → are_weights ws ≡ true
 weights_kept ws h = rw (le-leb 2 (length ws) h.two_weights, le-leb (length ws) 12 h.few_weights, le-leb (sum_by unsigned_abs ws) 4096 h.small_sum)
@@ -117,16 +90,13 @@ unfolding weights_at
 weights_again t ws h fit =
     rw (integers_again keys.Weights tables.Splice t ws h (fits_by_sum ws (omega (arith, fit.small_sum))), weights_kept ws fit)
 
-pub takes_again : (t : Members) (ts : List (List ℕ)) → Has t keys.Takes (texts ts) → (1 ≤ length ts) × (length ts ≤ 16) → takes_at t ≡ Ok ts
-unfolding takes_at
-takes_again t ts h fit = rw (texts_again keys.Takes tables.Splice t ts h, number_again 16 (length ts) fit)
-
 pub cues_again : (weights takes : ℕ) (t : Members) (ts : List Members) (ps : List CueContent) → Has t keys.Cue (array (items_of (map table ts))) → AllZip (IsCue weights takes) ts ps → (1 ≤ length ps) × (length ps ≤ 256) → cues_at weights takes t ≡ Ok ps
 unfolding cues_at cues_of
 cues_again weights takes t ts ps h zip fit =
     let long : length (map table ts) ≡ length ps = length-map ts table ∙ sym (AllZip-long (IsCue weights takes) ts ps zip) in
-    let few : is_number 256 (length (map table ts)) ≡ true = number_again 256 (length (map table ts)) (omega arith, omega arith) in
-    rw (value_again keys.Cue tables.Splice t (array (items_of (map table ts))) h, list_of-items_of (map table ts), few)
+    let some = fit.0 in
+    let few = fit.1 in
+    rw (items_again keys.Cue tables.Splice 256 t (map table ts) h (omega arith, omega arith))
     (zip_again (cue_of weights takes) table (IsCue weights takes) (λ i s p says. cue_again weights takes i s p says) 0 ts ps zip)
 
 pub splice_again : (t : Members) (s : SpliceContent) → IsSplice t s → splice_of (table t) ≡ Ok s
@@ -135,7 +105,7 @@ splice_again t s h =
     rw (
       table_again keys.Splice tables.Splice splice_keys t h.no_others,
       weights_again t s.weights h.weights h.limits.weights_fit,
-      takes_again t s.takes h.takes (h.limits.some_takes, h.limits.few_takes),
+      takes_again tables.Splice t s.takes h.takes (h.limits.some_takes, h.limits.few_takes),
       cues_again (length s.weights) (length s.takes) t h.cues.0 s.cues h.cues.1 h.cues.2 (h.limits.some_cues, h.limits.few_cues),
       eq-eqb (last_bridge s.cues) 0 h.limits.no_last_bridge,
     )

@@ -1,14 +1,15 @@
 -- What a table says is read.
-use Rattle.std.proofs.Common.{◌≡◌, ℕ, ◌+◌, ◌≤◌, ◌<◌, ◌^◌, ℤ, pos, negsuc, true, List, [], ◌∷◌, map, Result, Ok, refl, arith, sum_by, unsigned_abs}
+use Rattle.std.proofs.Common.{◌≡◌, ℕ, ◌+◌, ◌≤◌, ◌<◌, ◌^◌, ℤ, pos, negsuc, true, List, [], ◌∷◌, length, map, Result, Ok, refl, arith, sum_by, unsigned_abs}
 use Rattle.std.specs.List.{AllByRecursion, AllZip}
-use Rattle.std.proofs.lemmas.Bool.{lt-ltb}
+use Rattle.std.proofs.lemmas.Bool.{le-leb, lt-ltb}
 use Rattle.std.proofs.lemmas.List.Sums.{sum_by-cons}
-use Rattle.toml.specs.Data.{Data, string, integer, table, Members}
+use Rattle.toml.specs.Data.{Data, string, integer, array, table, Members}
+use Rattle.toml.specs.View.{items_of}
 use Rattle.project_core.specs.declared.key.Key.{Key}
 use Rattle.project_core.specs.declared.key.Table.{Table}
 use Rattle.project_core.specs.declared.fault.ProjectFault.{ProjectFault}
 use Rattle.project_core.specs.Tables.{FindsOnly, Has, number, numbers, texts}
-use Rattle.project_core.specs.Reading.{value_at, integer_of, text_of, table_of, limited_at, unsigned_at, fits_i32, signed_of, integers_of, narrow, integers_at, texts_of, texts_at}
+use Rattle.project_core.specs.Reading.{value_at, integer_of, text_of, table_of, is_number, items_at, limited_at, unsigned_at, fits_i32, signed_of, integers_of, narrow, integers_at, texts_of, texts_at}
 use Rattle.project_core.specs.Steps.{each}
 use Rattle.project_core.proofs.KeyLaws.{has_only_from}
 use Rattle.project_core.proofs.TableLaws.{list_of-items_of}
@@ -26,6 +27,13 @@ unfolding limited_at
 limited_again key place limit t n h le =
     let lt : n < limit + 1 = omega arith in
     rw (value_again key place t (number n) h, lt-ltb n (limit + 1) lt)
+
+pub number_again : (limit n : ℕ) → (1 ≤ n) × (n ≤ limit) → is_number limit n ≡ true
+number_again limit n h = rw (le-leb 1 n h.0, le-leb n limit h.1)
+
+pub items_again : (key : Key) (place : Table) (limit : ℕ) (t : Members) (ds : List Data) → Has t key (array (items_of ds)) → (1 ≤ length ds) × (length ds ≤ limit) → items_at key place limit t ≡ Ok ds
+unfolding items_at
+items_again key place limit t ds h fit = rw (value_again key place t (array (items_of ds)) h, list_of-items_of ds, number_again limit (length ds) fit)
 
 pub unsigned_again : (key : Key) (place : Table) (t : Members) (n : ℕ) → Has t key (number n) → n < 2 ^ 32 → unsigned_at key place t ≡ Ok n
 unfolding unsigned_at

@@ -1,8 +1,9 @@
 -- What follows where reading went well.
-use Rattle.std.proofs.Common.{◌≡◌, ℕ, ◌+◌, ◌≤◌, ◌<◌, ◌^◌, ℤ, pos, negsuc, Bool, true, false, cond, ltb, List, [], ◌∷◌, map, Option, Some, None, Result, Ok, Err, refl, sym, ap, subst, ◌∙◌, arith}
+use Rattle.std.proofs.Common.{◌≡◌, ℕ, ◌+◌, ◌≤◌, ◌<◌, ◌^◌, ℤ, pos, negsuc, Bool, true, false, cond, ltb, List, [], ◌∷◌, length, map, Option, Some, None, Result, Ok, Err, refl, sym, ap, subst, ◌∙◌, arith}
 use Rattle.std.specs.Option.{ok_or}
 use Rattle.std.specs.List.{AllByRecursion, AllZip}
-use Rattle.std.proofs.lemmas.Bool.{ltb-true}
+use Rattle.std.specs.Prelude.{nat_le}
+use Rattle.std.proofs.lemmas.Bool.{and_parts, leb-true, ltb-true}
 use Rattle.toml.specs.Data.{Data, string, integer, float, boolean, datetime, array, table, Items, no_items, item, Members, get_member}
 use Rattle.toml.specs.View.{items_of}
 use Rattle.project_core.specs.declared.key.Key.{Key}
@@ -12,7 +13,7 @@ use Rattle.project_core.specs.declared.fault.ProjectFault.TheVariants.{UnknownKe
 use Rattle.project_core.specs.Keys.{key_name}
 use Rattle.project_core.specs.Steps.{◌>>=◌, each}
 use Rattle.project_core.specs.Tables.{has_only, FindsOnly, list_of, Has, number, numbers, texts}
-use Rattle.project_core.specs.Reading.{value_at, integer_of, text_of, array_of, table_of, below, limited_at, unsigned_of, unsigned_at, fits_i32, signed_of, integers_of, narrow, integers_at, texts_of, texts_at}
+use Rattle.project_core.specs.Reading.{value_at, integer_of, text_of, array_of, table_of, is_number, items_at, below, limited_at, unsigned_of, unsigned_at, fits_i32, signed_of, integers_of, narrow, integers_at, texts_of, texts_at}
 use Rattle.project_core.proofs.KeyLaws.{finds_only}
 
 -- the value of a step that did not fail
@@ -144,6 +145,34 @@ items_of-list_of (item d ds) = ap (item d) (items_of-list_of ds)
 pub list_of-items_of : (ds : List Data) → list_of (items_of ds) ≡ ds
 list_of-items_of [] = refl
 list_of-items_of (d ∷ ds) = ap (λ (es : List Data). d ∷ es) (list_of-items_of ds)
+
+pub number_parts : (limit n : ℕ) → is_number limit n ≡ true → (1 ≤ n) × (n ≤ limit)
+number_parts limit n h =
+    let p = and_parts (nat_le 1 n) (nat_le n limit) h in
+    (leb-true 1 n p.0, leb-true n limit p.1)
+
+-- the items at a key that were read are those that it has
+pub items_ok : (key : Key) (place : Table) (limit : ℕ) (t : Members) (ds : List Data) → items_at key place limit t ≡ Ok ds → Has t key (array (items_of ds)) × ((1 ≤ length ds) × (length ds ≤ limit))
+unfolding items_at
+items_ok key place limit t ds e =
+    let a = bind_ok (value_at key place t) (λ d. array_of key place d >>= λ xs. cond (is_number limit (length (list_of xs))) (Ok (list_of xs)) (Err (OutOfLimit key place))) ds e in
+    let b = bind_ok (array_of key place a.0) (λ xs. cond (is_number limit (length (list_of xs))) (Ok (list_of xs)) (Err (OutOfLimit key place))) ds a.2 in
+    let c = passed (is_number limit (length (list_of b.0))) (OutOfLimit key place) (list_of b.0) ds b.2 in
+    let items : b.0 ≡ items_of ds = sym (items_of-list_of b.0) ∙ ap items_of c.1 in
+    (value_ok key place t a.0 a.1 ∙ ap (λ (d : Data). Some d) (array_ok key place a.0 b.0 b.1 ∙ ap array items), subst (λ (xs : List Data). (1 ≤ length xs) × (length xs ≤ limit)) c.1 (number_parts limit (length (list_of b.0)) c.0))
+
+-- a value is a table that says this
+abbrev pub SaysTable : {B : Type 0} → (Members → B → Type 0) → Data → B → Type 0
+SaysTable R d y = (t : Members) × (d ≡ table t) × R t y
+
+-- values that are tables are written as these tables
+pub tables_of : {B : Type 0} (R : Members → B → Type 0) (ds : List Data) (ys : List B) → AllZip (SaysTable R) ds ys → (ts : List Members) × (ds ≡ map table ts) × AllZip R ts ys
+tables_of R [] [] h = ([], refl, tt)
+tables_of R [] (y ∷ ys) h = absurd h
+tables_of R (d ∷ ds) [] h = absurd h
+tables_of R (d ∷ ds) (y ∷ ys) h =
+    let more = tables_of R ds ys h.1 in
+    (h.0.0 ∷ more.0, ap (λ (x : Data). x ∷ ds) h.0.1 ∙ ap (λ (xs : List Data). table h.0.0 ∷ xs) more.1, (h.0.2, more.2))
 
 signed_ok : (key : Key) (place : Table) (z y : ℤ) → signed_of key place z ≡ Ok y → z ≡ y
 signed_ok key place z y e = (passed (fits_i32 z) (OutOfLimit key place) z y e).1

@@ -1,7 +1,7 @@
 -- The names of the keys, and which keys a table has.
 use Rattle.std.specs.Prelude.{ℕ, List, [], ◌∷◌, codes}
 use Rattle.project_core.specs.declared.key.Key.{Key}
-use Rattle.project_core.specs.declared.key.Key.TheVariants.{Decimate, Taps, Factor, Delay, Shift, Width, Splice, Weights, Takes, Cue, Take, Start, Stop, Bridge, Target, Line, Title}
+use Rattle.project_core.specs.declared.key.Key.TheVariants.{Decimate, Taps, Factor, Delay, Shift, Width, Splice, Weights, Takes, Cue, Take, Start, Stop, Bridge, Target, Line, Title, Mix, Unit, Audible, Limit, Every, Decoder, Clip, At, Length, Gain, Gains}
 
 -- a key as a text spells it
 unfoldable pub key_name : Key → List ℕ
@@ -22,6 +22,17 @@ key_name Bridge = codes "bridge"
 key_name Target = codes "target"
 key_name Line = codes "line"
 key_name Title = codes "title"
+key_name Mix = codes "mix"
+key_name Unit = codes "unit"
+key_name Audible = codes "audible"
+key_name Limit = codes "limit"
+key_name Every = codes "every"
+key_name Decoder = codes "decoder"
+key_name Clip = codes "clip"
+key_name At = codes "at"
+key_name Length = codes "length"
+key_name Gain = codes "gain"
+key_name Gains = codes "gains"
 
 -- the keys of a project text
 abbrev pub top_keys : List Key

@@ -5,6 +5,7 @@ pub mod Steps
 pub mod Tables
 pub mod Meaning
 pub mod Reading
+pub mod ReadingTakes
 pub mod ReadingDecimate
 pub mod ReadingCue
 pub mod ReadingSplice

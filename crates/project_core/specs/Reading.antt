@@ -1,14 +1,18 @@
 -- Reading a table from key to key, to a value or the first fault.
-use Rattle.std.specs.Prelude.{ℕ, ◌+◌, ◌^◌, ℤ, pos, negsuc, List, Option, Some, None, Result, Ok, Err, Bool, nat_lt, if◌then◌else◌}
+use Rattle.std.specs.Prelude.{ℕ, ◌+◌, ◌^◌, ℤ, pos, negsuc, List, Option, Some, None, Result, Ok, Err, Bool, ◌&&◌, nat_le, nat_lt, if◌then◌else◌, length}
 use Rattle.std.specs.Option.{ok_or}
 use Rattle.toml.specs.Data.{Data, Items, Members, get_member, as_integer, as_str, as_array, as_table}
 use Rattle.project_core.specs.declared.key.Key.{Key}
 use Rattle.project_core.specs.declared.key.Table.{Table}
 use Rattle.project_core.specs.declared.fault.ProjectFault.{ProjectFault}
-use Rattle.project_core.specs.declared.fault.ProjectFault.TheVariants.{UnknownKey, MissingKey, WrongKind, OutOfLimit}
+use Rattle.project_core.specs.declared.fault.ProjectFault.TheVariants.{NotToml, UnknownKey, MissingKey, WrongKind, OutOfLimit}
 use Rattle.project_core.specs.Keys.{key_name}
 use Rattle.project_core.specs.Steps.{◌>>=◌, each}
-use Rattle.project_core.specs.Tables.{has_only, list_of}
+use Rattle.project_core.specs.Tables.{has_only, list_of, table_in}
+
+-- the document that the bytes are
+unfoldable pub document : List ℕ → Result Members ProjectFault
+document bytes = ok_or (table_in bytes) NotToml
 
 -- the value at a key that the table must have
 unfoldable pub value_at : Key → Table → Members → Result Data ProjectFault
@@ -64,6 +68,17 @@ limited_at key place limit table = do
   d ← value_at key place table
   z ← integer_of key place d
   ok_or (below (limit + 1) z) (OutOfLimit key place)
+
+-- from 1 to a limit
+abbrev pub is_number : ℕ → ℕ → Bool
+is_number limit n = nat_le 1 n && nat_le n limit
+
+-- the items of the array at a key, of which there are from 1 to a limit
+unfoldable pub items_at : Key → Table → ℕ → Members → Result (List Data) ProjectFault
+items_at key place limit table = do
+  d ← value_at key place table
+  ds ← array_of key place d
+  if is_number limit (length (list_of ds)) then Ok (list_of ds) else Err (OutOfLimit key place)
 
 -- the integers that all of the values are
 unfoldable pub integers_of : Key → Table → List Data → Result (List ℤ) ProjectFault

@@ -9,18 +9,12 @@ use Rattle.project_core.specs.declared.key.Table.TheVariants as tables
 use Rattle.splice_core.specs.declared.cue.Target.{Target}
 use Rattle.splice_core.specs.declared.cue.Target.TheVariants.{Fade, Line}
 use Rattle.project_core.specs.declared.fault.ProjectFault.{ProjectFault}
-use Rattle.project_core.specs.declared.fault.ProjectFault.TheVariants.{OutOfLimit, NoTake, ShortCue}
+use Rattle.project_core.specs.declared.fault.ProjectFault.TheVariants.{OutOfLimit, ShortCue}
 use Rattle.project_core.specs.Keys.{key_name, cue_keys}
 use Rattle.splice_core.specs.Cues.{CueContent}
 use Rattle.project_core.specs.Steps.{◌>>=◌, optional}
-use Rattle.project_core.specs.Reading.{below, integer_of, integers_at, limited_at, table_of, text_of, value_at}
-
--- the number of the cue's take, below the number of takes
-unfoldable pub take_number_at : ℕ → ℕ → Members → Result ℕ ProjectFault
-take_number_at number takes table = do
-  d ← value_at keys.Take (tables.Cue number) table
-  z ← integer_of keys.Take (tables.Cue number) d
-  ok_or (below takes z) (NoTake number z takes)
+use Rattle.project_core.specs.Reading.{below, integer_of, integers_at, limited_at, table_of, text_of}
+use Rattle.project_core.specs.ReadingTakes.{take_number_at}
 
 -- the length of a bridge, 0 if it isn't given
 abbrev pub bridge_of : Table → Option Data → Result ℕ ProjectFault
@@ -92,7 +86,7 @@ title_at cue table = optional (title_of cue) (get_member (key_name keys.Title) t
 unfoldable pub cue_of : ℕ → ℕ → ℕ → Data → Result CueContent ProjectFault
 cue_of weights takes number d = do
   table ← table_of keys.Cue (tables.Cue number) cue_keys d
-  take ← take_number_at number takes table
+  take ← take_number_at (tables.Cue number) number takes table
   start ← limited_at keys.Start (tables.Cue number) (2 ^ 36) table
   stop ← limited_at keys.Stop (tables.Cue number) (2 ^ 36) table
   bridge ← bridge_at (tables.Cue number) table

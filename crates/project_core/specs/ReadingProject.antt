@@ -1,23 +1,19 @@
 -- Reading a project text, to its content or the first fault.
 use Rattle.std.specs.Prelude.{ℕ, List, Option, Result, Ok, Err, if◌then◌else◌}
-use Rattle.std.specs.Option.{ok_or}
 use Rattle.toml.specs.Data.{Members, get_member}
 use Rattle.fir_core.specs.Decimator.{Decimator}
 use Rattle.project_core.specs.declared.key.Key.TheVariants as keys
 use Rattle.project_core.specs.declared.key.Table.TheVariants.{Document}
 use Rattle.project_core.specs.declared.fault.ProjectFault.{ProjectFault}
-use Rattle.project_core.specs.declared.fault.ProjectFault.TheVariants.{NotToml, UnknownKey}
+use Rattle.project_core.specs.declared.fault.ProjectFault.TheVariants.{UnknownKey}
 use Rattle.project_core.specs.Keys.{key_name, top_keys}
 use Rattle.splice_core.specs.Splices.{SpliceContent}
 use Rattle.project_core.specs.Projects.{ProjectContent}
 use Rattle.project_core.specs.Steps.{◌>>=◌, optional}
-use Rattle.project_core.specs.Tables.{has_only, table_in}
+use Rattle.project_core.specs.Tables.{has_only}
+use Rattle.project_core.specs.Reading.{document}
 use Rattle.project_core.specs.ReadingDecimate.{decimate_of}
 use Rattle.project_core.specs.ReadingSplice.{splice_of}
-
--- the document that the bytes are
-unfoldable pub document : List ℕ → Result Members ProjectFault
-document bytes = ok_or (table_in bytes) NotToml
 
 -- the decimator, if there is one
 unfoldable pub decimate_in : Members → Result (Option Decimator) ProjectFault

@@ -10,29 +10,19 @@ use Rattle.project_core.specs.Keys.{splice_keys}
 use Rattle.splice_core.specs.Cues.{CueContent, last_bridge}
 use Rattle.splice_core.specs.Splices.{SpliceContent}
 use Rattle.project_core.specs.Steps.{◌>>=◌, each}
-use Rattle.project_core.specs.Tables.{list_of}
-use Rattle.project_core.specs.Reading.{array_of, integers_at, table_of, texts_at, value_at}
+use Rattle.project_core.specs.Reading.{integers_at, items_at, table_of}
+use Rattle.project_core.specs.ReadingTakes.{takes_at}
 use Rattle.project_core.specs.ReadingCue.{cue_of}
 
 -- from 2 to 12 weights, with absolute values that add up to at most 4096
 abbrev pub are_weights : List ℤ → Bool
 are_weights weights = nat_le 2 (length weights) && nat_le (length weights) 12 && nat_le (sum_by unsigned_abs weights) 4096
 
--- from 1 to a limit
-abbrev pub is_number : ℕ → ℕ → Bool
-is_number limit n = nat_le 1 n && nat_le n limit
-
 -- the weights
 unfoldable pub weights_at : Members → Result (List ℤ) ProjectFault
 weights_at table = do
   weights ← integers_at keys.Weights tables.Splice table
   if are_weights weights then Ok weights else Err (OutOfLimit keys.Weights tables.Splice)
-
--- the names of the takes
-unfoldable pub takes_at : Members → Result (List (List ℕ)) ProjectFault
-takes_at table = do
-  takes ← texts_at keys.Takes tables.Splice table
-  if is_number 16 (length takes) then Ok takes else Err (OutOfLimit keys.Takes tables.Splice)
 
 -- the cues that all of the values are
 unfoldable pub cues_of : ℕ → ℕ → List Data → Result (List CueContent) ProjectFault
@@ -41,15 +31,14 @@ cues_of weights takes ds = each (cue_of weights takes) 0 ds
 -- the cues: first how many there are, and then each
 unfoldable pub cues_at : ℕ → ℕ → Members → Result (List CueContent) ProjectFault
 cues_at weights takes table = do
-  d ← value_at keys.Cue tables.Splice table
-  ds ← array_of keys.Cue tables.Splice d
-  if is_number 256 (length (list_of ds)) then cues_of weights takes (list_of ds) else Err (OutOfLimit keys.Cue tables.Splice)
+  ds ← items_at keys.Cue tables.Splice 256 table
+  cues_of weights takes ds
 
 -- the splice of the value at `splice`
 unfoldable pub splice_of : Data → Result SpliceContent ProjectFault
 splice_of value = do
   table ← table_of keys.Splice tables.Splice splice_keys value
   weights ← weights_at table
-  takes ← takes_at table
+  takes ← takes_at tables.Splice table
   cues ← cues_at (length weights) (length takes) table
   if last_bridge cues == 0 then Ok (record { weights = weights; takes = takes; cues = cues }) else Err (LastBridge (length cues - 1) (last_bridge cues))

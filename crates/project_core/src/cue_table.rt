@@ -4,11 +4,12 @@ ghost use Rattle.std.specs.Prelude.{◌≡◌, ◌≤◌, option_map, string_byt
 ghost use Rattle.toml.specs.View.{view, table_view};
 ghost use Rattle.splice_core.specs.Cues.{cue_content};
 ghost use Rattle.project_core.specs.Steps.{Gives};
-ghost use Rattle.project_core.specs.ReadingCue.{bridge_at, cue_of, fade_at, is_end, line_at, line_of, take_number_at, target_at, target_name_at, title_at, title_of};
+ghost use Rattle.project_core.specs.ReadingCue.{bridge_at, cue_of, fade_at, is_end, line_at, line_of, target_at, target_name_at, title_at, title_of};
 
 use crate::fault::ProjectFault;
 use crate::key::{Key, Table};
-use crate::table::{below, find, integer_of, integers_at, limited_at, table_of, text_of, value_at};
+use crate::table::{below, find, integer_of, integers_at, limited_at, table_of, text_of};
+use crate::takes::take_number_at;
 use splice_core::{Cue, Target};
 use std::alloc::Global;
 use toml::Value;
@@ -50,7 +51,7 @@ pub(crate) fn cue_of(
 {
     let place = Table::Cue(number);
     let table = table_of(value, Key::Cue, place, &CUE_KEYS)?;
-    let take = take_number_at(table, number, takes)?;
+    let take = take_number_at(table, place, number, takes)?;
     let start = limited_at(table, Key::Start, place, MAX_PLACE)?;
     let stop = limited_at(table, Key::Stop, place, MAX_PLACE)?;
     let bridge = bridge_at(table, place)?;
@@ -71,20 +72,6 @@ pub(crate) fn cue_of(
         bridge,
         target,
         title,
-    })
-}
-
-// The number of the cue's take, below the number of takes.
-#[tactic(auto, unfolding(crate::specs::ReadingCue::take_number_at))]
-fn take_number_at(table: &toml::Table, number: usize, takes: usize) -> Result<usize, ProjectFault>
-    ensures { Gives (λ n. n) result (take_number_at number takes (table_view table.now)) }
-{
-    let cue = Table::Cue(number);
-    let take = integer_of(value_at(table, Key::Take, cue)?, Key::Take, cue)?;
-    below(take, takes).ok_or(ProjectFault::NoTake {
-        cue: number,
-        take,
-        takes,
     })
 }
 

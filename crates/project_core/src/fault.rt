@@ -1,4 +1,4 @@
-//! Why a project text is not read.
+//! Why a project text or a mix text is not read.
 
 ghost use Rattle.std.specs.Prelude.{◌≡◌};
 ghost use Rattle.project_core.specs.declared.fault.ProjectFault.TheVariants.{Memory};
@@ -8,10 +8,10 @@ use fir_core::TapsFault;
 use std::alloc::{AllocError, AllocFailed};
 use thiserror::Error;
 
-/// Why a project text is not read: the first fault in the order of reading.
+/// Why a project text or a mix text is not read: the first fault in the order of reading.
 ///
-/// A fault's text is its name. If it has a key, or the number of a cue counted from 0, this follows after one space. A
-/// key is spelled as in the project text. What else was seen is not part of the text.
+/// A fault's text is its name. If it has a key, or the number of a cue or a clip counted from 0, this follows after one
+/// space. A key is spelled as in the text that was read. What else was seen is not part of the fault's text.
 #[derive(Clone, Copy, Debug, PartialEq, Eq, Error)]
 pub enum ProjectFault {
     /// The bytes are no TOML document.
@@ -29,11 +29,11 @@ pub enum ProjectFault {
     /// The value at this key of this table is outside its limits.
     #[error("OutOfLimit {0}")]
     OutOfLimit(Key, Table),
-    /// A cue names a take that isn't there.
-    #[error("NoTake {cue}")]
+    /// A cue or a clip names a take that isn't there.
+    #[error("NoTake {number}")]
     NoTake {
-        /// The number of the cue.
-        cue: usize,
+        /// The number of the cue or the clip.
+        number: usize,
         /// The number of the take.
         take: i64,
         /// How many takes there are.

@@ -1,16 +1,16 @@
-//! The keys of a project text.
+//! The keys of project texts and mix texts.
 
 ghost use Rattle.std.specs.Prelude.{◌≡◌};
 ghost use Rattle.project_core.specs.Keys.{key_name};
 
 use std::fmt;
 
-/// A key of a project text. It is printed as it is spelled there.
+/// A key of a project text or a mix text. It is printed as it is spelled there.
 #[derive(Clone, Copy, Debug, PartialEq, Eq)]
 pub enum Key {
     /// The table of a decimator.
     Decimate,
-    /// The taps of its filter.
+    /// The taps of a filter.
     Taps,
     /// How many stored bits make one sample.
     Factor,
@@ -28,9 +28,9 @@ pub enum Key {
     Takes,
     /// The array of cues.
     Cue,
-    /// A cue's take.
+    /// The take of a cue or a clip.
     Take,
-    /// A cue's first bit.
+    /// The first bit of a cue or a clip.
     Start,
     /// The place after a cue's last bit.
     Stop,
@@ -42,12 +42,34 @@ pub enum Key {
     Line,
     /// A cue's title.
     Title,
+    /// The table of a mix.
+    Mix,
+    /// Full scale of decoded sound.
+    Unit,
+    /// The taps of the low-pass that passes what can be heard.
+    Audible,
+    /// The greatest residual that is accepted.
+    Limit,
+    /// Places at multiples of this are judged.
+    Every,
+    /// The array of decoders, and the number of a clip's decoder.
+    Decoder,
+    /// The array of clips.
+    Clip,
+    /// A clip's first place in the mix.
+    At,
+    /// How many places a clip has.
+    Length,
+    /// The points of a clip's gain, for all channels.
+    Gain,
+    /// The points of a clip's gain, for each channel.
+    Gains,
 }
 
-/// A table of a project text.
+/// A table of a project text or a mix text.
 #[derive(Clone, Copy, Debug, PartialEq, Eq)]
 pub enum Table {
-    /// The whole document.
+    /// The whole document of a project text.
     Document,
     /// The table of the decimator.
     Decimate,
@@ -55,6 +77,14 @@ pub enum Table {
     Splice,
     /// The table of the cue of this number.
     Cue(usize),
+    /// The whole document of a mix text.
+    MixDocument,
+    /// The table of the mix.
+    Mix,
+    /// The table of the decoder of this number.
+    Decoder(usize),
+    /// The table of the clip of this number.
+    Clip(usize),
 }
 
 impl Key {
@@ -81,6 +111,17 @@ impl Key {
             Key::Target => "target",
             Key::Line => "line",
             Key::Title => "title",
+            Key::Mix => "mix",
+            Key::Unit => "unit",
+            Key::Audible => "audible",
+            Key::Limit => "limit",
+            Key::Every => "every",
+            Key::Decoder => "decoder",
+            Key::Clip => "clip",
+            Key::At => "at",
+            Key::Length => "length",
+            Key::Gain => "gain",
+            Key::Gains => "gains",
         }
     }
 }

@@ -64,7 +64,8 @@ mod laws;
 mod project;
 mod reading;
 mod splice_table;
-mod table;
+pub mod table;
+mod takes;
 
 pub use cue_table::{CUE_KEYS, MAX_BRIDGE, MAX_END, MAX_PLACE, MAX_TITLE};
 pub use decimate_table::DECIMATE_KEYS;
@@ -74,4 +75,5 @@ pub use laws::{one_project, read_as_said};
 pub use project::Project;
 pub use reading::{DOCUMENT_KEYS, read};
 pub use splice_core::{Cue, Splice, Target};
-pub use splice_table::{MAX_CUES, MAX_TAKES, MAX_WEIGHT_SUM, MAX_WEIGHTS, SPLICE_KEYS};
+pub use splice_table::{MAX_CUES, MAX_WEIGHT_SUM, MAX_WEIGHTS, SPLICE_KEYS, abs_sum};
+pub use takes::{MAX_TAKES, take_number_at, takes_at};

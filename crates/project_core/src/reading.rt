@@ -6,14 +6,14 @@ ghost use Rattle.splice_core.specs.Splices.{splice_content};
 ghost use Rattle.project_core.specs.Projects.{ProjectContent, project_content};
 ghost use Rattle.project_core.specs.Steps.{Gives};
 ghost use Rattle.project_core.specs.Meaning.{IsProject};
-ghost use Rattle.project_core.specs.ReadingProject.{decimate_in, document, project_at, project_of, splice_in};
+ghost use Rattle.project_core.specs.ReadingProject.{decimate_in, project_at, project_of, splice_in};
 
 use crate::decimate_table::decimate_of;
 use crate::fault::ProjectFault;
 use crate::key::{Key, Table};
 use crate::project::Project;
 use crate::splice_table::splice_of;
-use crate::table::{find, has_only};
+use crate::table::{document, find, has_only};
 use fir_core::Taps;
 use splice_core::Splice;
 use std::alloc::Global;
@@ -58,23 +58,6 @@ fn read_in_order(alloc: Global, bytes: &[u8]) -> Result<Project, ProjectFault>
 {
     let table = document(alloc, bytes)?;
     project_of(alloc, &table)
-}
-
-// The TOML document that the bytes are.
-#[tactic(auto, unfolding(crate::specs::ReadingProject::document))]
-fn document(alloc: Global, bytes: &[u8]) -> Result<toml::Table, ProjectFault>
-    ensures { Gives (λ t. table_view t) result (document bytes.now) }
-{
-    match toml::table_from_slice(alloc, bytes) {
-        Ok(table) => Ok(table),
-        Err(error) => {
-            if error.is_memory() {
-                Err(ProjectFault::Memory)
-            } else {
-                Err(ProjectFault::NotToml)
-            }
-        }
-    }
 }
 
 // The project of a document.

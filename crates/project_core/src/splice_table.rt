@@ -1,18 +1,19 @@
 //! Reads the table `splice`.
 
-ghost use Rattle.std.specs.Prelude.{◌≡◌, ◌≤◌, length, map, string_bytes, unsigned_abs};
+ghost use Rattle.std.specs.Prelude.{◌≡◌, ◌≤◌, length, map, unsigned_abs};
 ghost use Rattle.std.specs.List.{sum_by};
 ghost use Rattle.toml.specs.View.{view, table_view, items_view};
 ghost use Rattle.splice_core.specs.Cues.{cue_content, last_bridge};
 ghost use Rattle.splice_core.specs.Splices.{splice_content};
 ghost use Rattle.project_core.specs.Steps.{Gives};
 ghost use Rattle.project_core.specs.Tables.{list_of};
-ghost use Rattle.project_core.specs.ReadingSplice.{cues_at, cues_of, splice_of, takes_at, weights_at};
+ghost use Rattle.project_core.specs.ReadingSplice.{cues_at, cues_of, splice_of, weights_at};
 
 use crate::cue_table::cue_of;
 use crate::fault::ProjectFault;
 use crate::key::{Key, Table};
-use crate::table::{integers_at, table_of, texts_at, value_at};
+use crate::table::{integers_at, items_at, table_of};
+use crate::takes::takes_at;
 use splice_core::{Cue, Splice};
 use std::alloc::Global;
 use toml::Value;
@@ -22,9 +23,6 @@ pub const MAX_WEIGHTS: usize = 12;
 
 /// The greatest sum of the absolute values of weights.
 pub const MAX_WEIGHT_SUM: u64 = 4096;
-
-/// The most takes.
-pub const MAX_TAKES: usize = 16;
 
 /// The most cues.
 pub const MAX_CUES: usize = 256;
@@ -39,7 +37,7 @@ pub(crate) fn splice_of(alloc: Global, value: &Value) -> Result<Splice, ProjectF
 {
     let table = table_of(value, Key::Splice, Table::Splice, &SPLICE_KEYS)?;
     let weights = weights_at(alloc, table)?;
-    let takes = takes_at(alloc, table)?;
+    let takes = takes_at(alloc, table, Table::Splice)?;
     let cues = cues_at(alloc, table, weights.len(), takes.len())?;
     let bridge = last_bridge(&cues);
     if bridge != 0 {
@@ -65,20 +63,8 @@ fn weights_at(alloc: Global, table: &toml::Table) -> Result<Vec<i32>, ProjectFau
     Ok(weights)
 }
 
-// The names of 1 to 16 takes.
-#[tactic(auto, unfolding(crate::specs::ReadingSplice::takes_at))]
-fn takes_at(alloc: Global, table: &toml::Table) -> Result<Vec<String>, ProjectFault>
-    ensures { Gives (λ v. map string_bytes v.items) result (takes_at (table_view table.now)) }
-{
-    let takes = texts_at(alloc, table, Key::Takes, Table::Splice)?;
-    if takes.is_empty() || takes.len() > MAX_TAKES {
-        return Err(ProjectFault::OutOfLimit(Key::Takes, Table::Splice));
-    }
-    Ok(takes)
-}
-
 // 1 to 256 cues of a project with `weights` weights and `takes` takes.
-#[tactic(auto, using(crate::proofs::Each::list_of_length), unfolding(crate::specs::ReadingSplice::cues_at))]
+#[tactic(auto, unfolding(crate::specs::ReadingSplice::cues_at))]
 fn cues_at(
     alloc: Global,
     table: &toml::Table,
@@ -88,13 +74,7 @@ fn cues_at(
     requires { weights ≤ 12 }
     ensures { Gives (λ v. map cue_content v.items) result (cues_at weights takes (table_view table.now)) }
 {
-    let value = value_at(table, Key::Cue, Table::Splice)?;
-    let values = value
-        .as_array()
-        .ok_or(ProjectFault::WrongKind(Key::Cue, Table::Splice))?;
-    if values.is_empty() || values.len() > MAX_CUES {
-        return Err(ProjectFault::OutOfLimit(Key::Cue, Table::Splice));
-    }
+    let values = items_at(table, Key::Cue, Table::Splice, MAX_CUES)?;
     cues_of(alloc, values, weights, takes)
 }
 
@@ -127,13 +107,13 @@ fn last_bridge(cues: &[Cue]) -> usize
     }
 }
 
-// The sum of the absolute values.
-fn abs_sum(weights: &[i32]) -> u64
-    requires { length weights.now ≤ 12 }
-    ensures { result ≡ sum_by unsigned_abs weights.now }
+/// The sum of the absolute values of weights or taps.
+pub fn abs_sum(numbers: &[i32]) -> u64
+    requires { length numbers.now ≤ 65535 }
+    ensures { result ≡ sum_by unsigned_abs numbers.now }
 {
-    weights
+    numbers
         .iter()
-        .map(|weight| u64::from(weight.unsigned_abs()))
+        .map(|number| u64::from(number.unsigned_abs()))
         .sum()
 }

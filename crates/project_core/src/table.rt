@@ -6,15 +6,32 @@ ghost use Rattle.toml.specs.View.{view, table_view, items_view};
 ghost use Rattle.project_core.specs.Keys.{key_name};
 ghost use Rattle.project_core.specs.Steps.{Gives};
 ghost use Rattle.project_core.specs.Tables.{has_only, is_among, list_of};
-ghost use Rattle.project_core.specs.Reading.{below, integer_of, integers_at, integers_of, limited_at, narrow, signed_of, table_of, text_of, texts_at, texts_of, unsigned_at, value_at};
+ghost use Rattle.project_core.specs.Reading.{below, document, integer_of, integers_at, integers_of, items_at, limited_at, narrow, signed_of, table_of, text_of, texts_at, texts_of, unsigned_at, value_at};
 
 use crate::fault::ProjectFault;
 use crate::key::{Key, Table};
 use std::alloc::Global;
 use toml::Value;
 
+/// The TOML document that the bytes are.
+#[tactic(auto, unfolding(crate::specs::Reading::document))]
+pub fn document(alloc: Global, bytes: &[u8]) -> Result<toml::Table, ProjectFault>
+    ensures { Gives (λ t. table_view t) result (document bytes.now) }
+{
+    match toml::table_from_slice(alloc, bytes) {
+        Ok(table) => Ok(table),
+        Err(error) => {
+            if error.is_memory() {
+                Err(ProjectFault::Memory)
+            } else {
+                Err(ProjectFault::NotToml)
+            }
+        }
+    }
+}
+
 /// The value at a key, if there is one.
-pub(crate) fn find(table: &toml::Table, key: Key) -> Option<&Value>
+pub fn find(table: &toml::Table, key: Key) -> Option<&Value>
     ensures { option_map (λ v. view v.now) result ≡ get_member (key_name key) (table_view table.now) }
 {
     table.get(key.name())
@@ -22,14 +39,14 @@ pub(crate) fn find(table: &toml::Table, key: Key) -> Option<&Value>
 
 /// The value at a key that must be there.
 #[tactic(auto, unfolding(crate::specs::Reading::value_at))]
-pub(crate) fn value_at(table: &toml::Table, key: Key, place: Table) -> Result<&Value, ProjectFault>
+pub fn value_at(table: &toml::Table, key: Key, place: Table) -> Result<&Value, ProjectFault>
     ensures { Gives (λ v. view v.now) result (value_at key place (table_view table.now)) }
 {
     find(table, key).ok_or(ProjectFault::MissingKey(key, place))
 }
 
 /// The integer that the value at a key is.
-pub(crate) fn integer_of(value: &Value, key: Key, place: Table) -> Result<i64, ProjectFault>
+pub fn integer_of(value: &Value, key: Key, place: Table) -> Result<i64, ProjectFault>
     ensures { Gives (λ z. z) result (integer_of key place (view value.now)) }
 {
     value
@@ -46,7 +63,7 @@ pub(crate) fn text_of(value: &Value, key: Key, place: Table) -> Result<&str, Pro
 
 /// The table that the value at a key is. It is the one at this place, and must have no keys but these.
 #[tactic(auto, unfolding(crate::specs::Reading::table_of))]
-pub(crate) fn table_of<'a>(
+pub fn table_of<'a>(
     value: &'a Value,
     key: Key,
     place: Table,
@@ -62,7 +79,7 @@ pub(crate) fn table_of<'a>(
 }
 
 /// Whether a table has no keys but these.
-pub(crate) fn has_only(table: &toml::Table, keys: &[Key]) -> bool
+pub fn has_only(table: &toml::Table, keys: &[Key]) -> bool
     ensures { result ≡ has_only keys.now (table_view table.now) }
 {
     for (name, _) in table {
@@ -102,7 +119,7 @@ pub(crate) fn limited_at(
 }
 
 /// The number, if it isn't negative and is below a bound.
-pub(crate) fn below(integer: i64, bound: usize) -> Option<usize>
+pub fn below(integer: i64, bound: usize) -> Option<usize>
     ensures { result ≡ below bound integer }
 {
     match usize::try_from(integer) {
@@ -111,9 +128,27 @@ pub(crate) fn below(integer: i64, bound: usize) -> Option<usize>
     }
 }
 
+/// The items of the array at a key, of which there are from 1 to a limit.
+#[tactic(auto, using(crate::proofs::Each::list_of_length), unfolding(crate::specs::Reading::items_at))]
+pub fn items_at(
+    table: &toml::Table,
+    key: Key,
+    place: Table,
+    limit: usize,
+) -> Result<&[Value], ProjectFault>
+    ensures { Gives (λ v. list_of (items_view v.now)) result (items_at key place limit (table_view table.now)) }
+{
+    let value = value_at(table, key, place)?;
+    let values = value.as_array().ok_or(ProjectFault::WrongKind(key, place))?;
+    if values.is_empty() || values.len() > limit {
+        return Err(ProjectFault::OutOfLimit(key, place));
+    }
+    Ok(values)
+}
+
 /// The integers of the array at a key. First all must be integers, and then all must fit 32 bits.
 #[tactic(auto, unfolding(crate::specs::Reading::integers_at))]
-pub(crate) fn integers_at(
+pub fn integers_at(
     alloc: Global,
     table: &toml::Table,
     key: Key,
@@ -150,9 +185,9 @@ fn is_among(keys: &[Key], name: &str) -> bool
     keys.iter().any(|key| key.name() == name)
 }
 
-// The integers that the values are. All must be integers.
+/// The integers that the values are. All must be integers.
 #[tactic(auto, unfolding(crate::specs::Reading::integers_of))]
-fn integers_of(
+pub fn integers_of(
     alloc: Global,
     values: &[Value],
     key: Key,

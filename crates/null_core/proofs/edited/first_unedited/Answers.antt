@@ -7,10 +7,10 @@ use Rattle.null_core.proofs.edited.first_unedited.Goals as goal
 use Rattle.null_core.proofs.edited.first_unedited.Goals.{After-own_start-next}
 
 low_is : (c : After-own_start-next) → c.saturating_sub-low.result ≡ c.loop-place.place - reach (asked_content c.args.asked)
-low_is c = omega (arith, c.saturating_sub-low.ensures, c.tap_number-reach.ensures)
+low_is c = omega (arith, c.saturating_sub-low.ensures, c.len-reach.ensures.value)
 
 high_is : (c : After-own_start-next) → c.min-high.result ≡ min (c.loop-place.place + reach (asked_content c.args.asked) + 1) (length c.args.bits.now)
-high_is c = omega (arith, c.min-high.ensures, c.tap_number-reach.ensures, c.len-count.ensures.value)
+high_is c = omega (arith, c.min-high.ensures, c.len-reach.ensures.value, c.len-count.ensures.value)
 
 start_is : (c : After-own_start-next) → IsOwnStart (map part_content c.args.asked.parts.now) c.args.bits.now (c.loop-place.place - reach (asked_content c.args.asked)) c.min-high.result c.own_start-next.result
 start_is c = subst (λ m. IsOwnStart (map part_content c.args.asked.parts.now) c.args.bits.now m c.min-high.result c.own_start-next.result) (low_is c) c.own_start-next.ensures
@@ -34,9 +34,9 @@ loop-place-preserved c =
     let inside : c.loop-place.place < length c.args.bits.now = omega (arith, c.loop-place-test.true, c.len-count.ensures.value) in
     let later : c.loop-place.place - reach a < c.own_start-next.result = omega (arith, c.if-next-low.false, low_is here, c.own_start-next.ensures.after) in
     record {
-      after = omega (arith, later, c.loop-place.invariant.after, c.tap_number-reach.ensures);
+      after = omega (arith, later, c.loop-place.invariant.after, c.len-reach.ensures.value);
       each = λ n from to fits. elim (cases_lt n c.loop-place.place) [
         | inl before ↦ c.loop-place.invariant.each n from before fits
-        | inr past ↦ edited_before a c.args.bits.now c.loop-place.place c.min-high.result c.own_start-next.result inside (high_is here) (start_is here) later n past (omega (arith, to, c.tap_number-reach.ensures)) fits
+        | inr past ↦ edited_before a c.args.bits.now c.loop-place.place c.min-high.result c.own_start-next.result inside (high_is here) (start_is here) later n past (omega (arith, to, c.len-reach.ensures.value)) fits
       ];
     }

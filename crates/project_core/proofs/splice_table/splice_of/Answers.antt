@@ -4,7 +4,8 @@ use Rattle.std.proofs.lemmas.List.{length-map}
 use Rattle.splice_core.specs.Cues.{cue_content, last_bridge}
 use Rattle.project_core.specs.ReadingSplice.{cues_at, splice_of}
 use Rattle.toml.specs.View.{table_view}
-use Rattle.project_core.proofs.SpliceLaws.{weights_ok, takes_ok, cues_ok}
+use Rattle.project_core.proofs.SpliceLaws.{weights_ok, cues_ok}
+use Rattle.project_core.proofs.TakeLaws.{takes_ok}
 use Rattle.project_core.proofs.StepLaws.{gives_fault, step_fails, then_fails, then_is}
 use Rattle.project_core.proofs.splice_table.splice_of.Goals as goal
 use Rattle.project_core.proofs.splice_table.splice_of.Goals.{After-len-2}
@@ -14,7 +15,7 @@ cues_at-requires c = omega (arith, (weights_ok _ c.in_ok-weights.weights.items c
 
 pub invariant_of-result : goal.invariant_of-result
 invariant_of-result c =
-    let takes = takes_ok _ (map string_bytes c.in_ok-takes.takes.items) c.in_ok-takes.ensures in
+    let takes = takes_ok _ _ (map string_bytes c.in_ok-takes.takes.items) c.in_ok-takes.ensures in
     let cues = cues_ok _ _ _ (map cue_content c.in_ok-cues.cues.items) c.in_ok-cues.ensures in
     let m : length c.in_ok-weights.weights.items ≡ c.len.result = omega arith in
     let n : length c.in_ok-takes.takes.items ≡ c.len-2.result = omega arith in

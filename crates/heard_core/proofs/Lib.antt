@@ -1,0 +1,9 @@
+pub mod ConvLaws
+pub mod DecodedLaws
+pub mod DotLaws
+pub mod LaneLaws
+pub mod LevelLaws
+pub mod NaturalLaws
+pub mod PartLaws
+pub mod PieceLaws
+pub mod WindowLaws

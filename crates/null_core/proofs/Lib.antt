@@ -1,7 +1,10 @@
-pub mod UnitLaws
+mod EditLaws
 pub mod ErrorLaws
 pub mod GainLaws
 pub mod MidLaws
-pub mod PartLaws
 pub mod MixLaws
+mod OwnLaws
+pub mod PartLaws
 pub mod SmallLaws
+pub mod UnitLaws
+mod WordLaws

@@ -8,3 +8,4 @@ pub mod Own
 pub mod Parts
 pub mod Stretches
 pub mod Walks
+pub mod Words

@@ -1,11 +1,13 @@
 //! Where a master is edited.
 
-ghost use Rattle.std.specs.Prelude.{◌≤◌, length};
-ghost use Rattle.null_core.specs.Parts.{IsAsked, asked_content};
-ghost use Rattle.null_core.specs.Walks.{FindsSpan};
+ghost use Rattle.std.specs.Prelude.{◌^◌, ◌<◌, ◌≤◌, length, map};
+ghost use Rattle.null_core.specs.Own.{IsEdited};
+ghost use Rattle.null_core.specs.Parts.{IsAsked, asked_content, part_content};
+ghost use Rattle.null_core.specs.Walks.{AreEdited, FindsEdited, FindsSpan, IsOwnStart};
 
 use crate::asked::Asked;
-use crate::own::own_run;
+use crate::own::{own_run, past_others};
+use crate::part::Part;
 use dsd_bits::Bits;
 
 /// Places that are edited, from the first to the one after the last.
@@ -30,39 +32,64 @@ pub(crate) fn next_span(asked: Asked<'_>, bits: &Bits, from: usize) -> Option<Sp
 }
 
 // The first edited place from one on.
-fn first_edited(asked: Asked<'_>, bits: &Bits, from: usize) -> Option<usize> {
+fn first_edited(asked: Asked<'_>, bits: &Bits, from: usize) -> Option<usize>
+    requires asked { IsAsked (asked_content asked) }
+    requires inside { from ≤ length bits.now }
+    ensures { FindsEdited (asked_content asked.entry) bits.now from result }
+{
     let reach = asked.audible.len() / 2;
     let count = bits.len();
     let mut place = from;
     while place < count {
         let run = own_run(asked.parts, bits, place.saturating_sub(reach));
-        if run.source.is_none() {
-            return Some(place);
+        match run.source {
+            None => return Some(place),
+            Some(_) if run.until == count => return None,
+            Some(_) if run.until <= place + reach => return Some(place),
+            Some(_) => place = run.until - reach,
         }
-        if run.until == count {
-            return None;
-        }
-        if run.until <= place + reach {
-            return Some(place);
-        }
-        place = run.until - reach;
     }
     None
 }
 
 // The first place from an edited one on that isn't edited, or the end of the channel.
-fn first_unedited(asked: Asked<'_>, bits: &Bits, start: usize) -> usize {
+fn first_unedited(asked: Asked<'_>, bits: &Bits, start: usize) -> usize
+    requires asked { IsAsked (asked_content asked) }
+    requires inside { start < length bits.now }
+    requires edited { IsEdited (asked_content asked) bits.now start }
+    ensures { AreEdited (asked_content asked.entry) bits.now start result }
+{
     let reach = asked.audible.len() / 2;
     let count = bits.len();
-    let mut low = start.saturating_sub(reach);
-    while low < count {
-        let run = own_run(asked.parts, bits, low);
-        let first = (if low == 0 { 0 } else { low + reach }).max(start);
-        let is_own = run.source.is_some() && (run.until == count || first + reach < run.until);
-        if is_own && first > start && first < count {
-            return first;
+    let mut place = start;
+    while place < count {
+        let low = place.saturating_sub(reach);
+        let high = (place + reach + 1).min(count);
+        let next = own_start(asked.parts, bits, low, high);
+        if next == low {
+            return place;
         }
-        low = run.until;
+        place = next + reach;
     }
     count
+}
+
+// Place `low`, if the places from it up to `high` are all the own bits of one take. Otherwise a later place: from the one
+// before it up to `high` not all places are the own bits of one take.
+fn own_start(parts: &[Part<'_>], bits: &Bits, low: usize, high: usize) -> usize
+    requires in_order { low < high }
+    requires inside { high ≤ length bits.now }
+    requires fits { high ≤ 2 ^ 36 }
+    ensures { IsOwnStart (map part_content parts.now) bits.now low high result }
+{
+    let past = past_others(parts, bits, low, high);
+    if past > low {
+        return past;
+    }
+    let run = own_run(parts, bits, low);
+    match run.source {
+        Some(_) if run.until >= high => low,
+        Some(_) => run.until,
+        None => low + 1,
+    }
 }

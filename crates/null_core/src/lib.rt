@@ -3,6 +3,7 @@
 
 mod alone;
 mod asked;
+mod compared;
 mod edited;
 mod errors;
 mod judging;

@@ -1,3 +1,4 @@
+pub mod AloneLaws
 pub mod UnitLaws
 pub mod ErrorLaws
 pub mod GainLaws

@@ -1,27 +1,26 @@
 -- Laws of what is heard of parts.
-use Rattle.std.proofs.Common.{◌≡◌, eqb, ◌&&◌, ◌≢◌, ℕ, zero, suc, ◌+◌, ◌-◌, ◌*◌, ◌/◌, ◌<◌, ◌≤◌, ◌⊎◌, ◌++◌, ◌∷◌, [], ℤ, pos, negsuc, ◌+ℤ◌, ◌-ℤ◌, ◌*ℤ◌, neg_ℤ, IsTrue, List, length, slice_get, Option, Some, None, refl, sym, ◌∙◌, ap, subst, inl, inr, arith, mul-le-mul_left}
-use Rattle.std.specs.Prelude.{◌<ℤ◌, ◌≤ℤ◌}
-use Rattle.std.specs.Int.{div_ceil, int_div_euclid}
+use Rattle.std.proofs.Common.{◌≡◌, eqb, ◌&&◌, ℕ, zero, suc, ◌+◌, ◌-◌, ◌/◌, ◌<◌, ◌≤◌, ◌⊎◌, ◌++◌, ◌∷◌, [], ℤ, pos, negsuc, ◌+ℤ◌, ◌-ℤ◌, ◌*ℤ◌, List, length, slice_get, Option, Some, None, refl, sym, ◌∙◌, ap, subst, inl, inr, arith, mul-le-mul_left}
+use Rattle.std.specs.Prelude.{◌≤ℤ◌}
+use Rattle.std.specs.Int.{int_div_euclid}
 use Rattle.std.specs.Bool.{Decides}
 use Rattle.std.specs.Ordering.{int_eq}
 use Rattle.std.proofs.lemmas.Bool.Decides.{Decides-and, Decides-eqb, Decides-int_eq, Decides-like}
 use Rattle.std.proofs.lemmas.Int.{ints}
 use Rattle.std.proofs.lemmas.Nat.{le-div}
-use Rattle.std.proofs.Math.Nat.{div-mul-le_self, zero-div}
+use Rattle.std.proofs.Math.Nat.{div-mul-le_self}
 use Rattle.clip_core.specs.declared.gain.Point.{Point}
 use Rattle.clip_core.specs.declared.line.Line.{Line}
-use Rattle.clip_core.specs.Gains.{full_gain, on_line}
+use Rattle.clip_core.specs.Gains.{on_line}
 use Rattle.clip_core.specs.Lines.{IsOnLine, line_gain, until}
-use Rattle.null_core.specs.declared.alone.Alone.{Alone}
 use Rattle.null_core.specs.declared.alone.Heard.{Heard}
 use Rattle.null_core.specs.declared.alone.Heard.TheVariants.{Nothing, Single, Mixed}
 use Rattle.null_core.specs.declared.alone.Level.{Level}
 use Rattle.null_core.specs.declared.alone.Level.TheVariants.{Negative, Zero, Reduced, Full, Raised}
 use Rattle.null_core.specs.declared.alone.Source.{Source}
-use Rattle.null_core.specs.Alone.{AreHeard, AreWhole, IsLevel, IsLevelUntil, IsPartHeard, IsSourceOf}
-use Rattle.null_core.specs.Own.{IsAlone, IsHeard, IsWhole}
-use Rattle.null_core.specs.Parts.{PartContent, has_place, part_gain}
-use Rattle.null_core.specs.Walks.{HearSame, IsAloneFrom}
+use Rattle.null_core.specs.Alone.{AreHeard, IsLevel, IsLevelUntil, IsPartHeard, IsSourceOf}
+use Rattle.null_core.specs.Own.{IsHeard, IsWhole}
+use Rattle.null_core.specs.Parts.{PartContent}
+use Rattle.null_core.specs.Walks.{IsAloneFrom}
 
 -- ---- a gain that is between two others
 

@@ -32,7 +32,7 @@ pub record HasLevel (level : Level) (p : PartContent) (k : ℕ) : Type 0 where
   pub there : IsTrue (has_place k p)
   pub gain : IsLevel level (part_gain p k)
 
--- what is heard of a part at place k. If it isn't mixed, the part is heard at both places or at neither
+-- what is heard of a part at place k; unless it is mixed, the part is heard at place m if and only if it is heard at k
 abbrev pub IsPartHeard : Heard → PartContent → ℕ → ℕ → Type 0
 IsPartHeard Nothing p m k = (IsHeard m p → ⊥) × (IsHeard k p → ⊥)
 IsPartHeard (Single s) p m k = IsHeard m p × IsHeard k p × IsWhole s.take s.ahead k p
@@ -47,7 +47,7 @@ pub record IsPartHeardFrom (p : PartContent) (m : ℕ) (found : HeardUntil) : Ty
 abbrev pub AreWhole : List PartContent → ℕ → ℤ → ℕ → Type 0
 AreWhole parts t o k = (i : ℕ) (p : PartContent) → slice_get parts i ≡ Some p → IsHeard k p → IsWhole t o k p
 
--- what is heard of parts at place k. If it isn't mixed, each part is heard at both places or at neither
+-- what is heard of parts at place k; unless it is mixed, the same parts are heard at place m
 abbrev pub AreHeard : Heard → List PartContent → ℕ → ℕ → Type 0
 AreHeard Nothing parts m k = (i : ℕ) (p : PartContent) → slice_get parts i ≡ Some p → (IsHeard m p → ⊥) × (IsHeard k p → ⊥)
 AreHeard (Single s) parts m k = IsAlone parts s.take s.ahead k × HearSame parts m k

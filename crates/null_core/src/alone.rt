@@ -33,31 +33,36 @@ pub struct Alone {
     pub until: usize,
 }
 
-// What is heard from a place on, of one part or of several.
+// What is heard of one part or of several.
 #[derive(Clone, Copy)]
 enum Heard {
     // Nothing.
     Nothing,
-    // A source with a gain of 1, and nothing else.
+    // One source alone, with a gain of 1.
     Single(Source),
-    // Something else.
+    // Another gain than 1, or several sources.
     Mixed,
 }
 
-// What is heard, and the place up to which it is.
+// What is heard from a place on, and up to where.
 #[derive(Clone, Copy)]
 struct HeardUntil {
     heard: Heard,
     until: usize,
 }
 
-// Where a gain is.
+// Which gains a gain is among.
 #[derive(Clone, Copy, PartialEq, Eq)]
 enum Level {
+    // Below 0.
     Negative,
+    // 0.
     Zero,
+    // Between 0 and 1.
     Reduced,
+    // 1.
     Full,
+    // Above 1.
     Raised,
 }
 
@@ -169,7 +174,8 @@ fn level_of(gain: i32) -> Level
     }
 }
 
-// The place up to which the gain on a line keeps the level that it has at place `k`. It never leaves a level and comes back.
+// The place up to which the gain on a line keeps the level that it has at place `k`. Once it leaves a level it doesn't come
+// back to it. The last place of the line is tried first: mostly it has the level as well.
 fn level_until(line: Line, k: usize, level: Level) -> usize
     requires on { IsOnLine line k }
     requires level { IsLevel level (line_gain line k) }
@@ -177,13 +183,14 @@ fn level_until(line: Line, k: usize, level: Level) -> usize
 {
     let mut last = k;
     let mut after = line.until();
+    let mut tried = after - 1;
     while after - last > 1 {
-        let middle = last + (after - last) / 2;
-        if level_of(line.gain_at(middle)) == level {
-            last = middle;
+        if level_of(line.gain_at(tried)) == level {
+            last = tried;
         } else {
-            after = middle;
+            after = tried;
         }
+        tried = last + (after - last) / 2;
     }
     after
 }

@@ -1,4 +1,4 @@
-use Rattle.std.proofs.Common.{◌≡◌, List, map, take, length, subst, ap, arith}
+use Rattle.std.proofs.Common.{◌≡◌, List, map, take, subst}
 use Rattle.std.proofs.lemmas.List.{take_all}
 use Rattle.null_core.specs.declared.part.Part.{Part}
 use Rattle.null_core.specs.Alone.{AreHeard}

@@ -1,4 +1,6 @@
 mod EditLaws
+pub mod AloneLaws
+pub mod UnitLaws
 pub mod ErrorLaws
 pub mod GainLaws
 pub mod MidLaws
@@ -6,5 +8,4 @@ pub mod MixLaws
 mod OwnLaws
 pub mod PartLaws
 pub mod SmallLaws
-pub mod UnitLaws
 mod WordLaws

@@ -1,3 +1,4 @@
+pub mod Chunks
 pub mod Errors
 pub mod Judged
 pub mod Judging

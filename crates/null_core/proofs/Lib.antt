@@ -1,0 +1,3 @@
+pub mod AroundLaws
+pub mod DueLaws
+pub mod StretchLaws

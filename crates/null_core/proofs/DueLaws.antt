@@ -1,5 +1,5 @@
 -- Multiples of a number.
-use Rattle.std.proofs.Common.{◌≡◌, ℕ, ◌+◌, ◌-◌, ◌*◌, ◌/◌, ◌%◌, ◌<◌, ◌≤◌, inl, inr, ap, ◌∙◌, arith}
+use Rattle.std.proofs.Common.{◌≡◌, ℕ, ◌+◌, ◌-◌, ◌*◌, ◌/◌, ◌%◌, ◌<◌, ◌≤◌, inl, inr, ap, subst, ◌∙◌, arith}
 use Rattle.std.proofs.lemmas.Bool.{cases_lt}
 use Rattle.std.proofs.lemmas.Nat.{div-add-mod', div-mul-add, le-div}
 use Rattle.std.proofs.Math.Nat.{add-mul-mod_self_right, mul-le-mul_right}
@@ -7,6 +7,9 @@ use Rattle.std.proofs.Math.Nat.{add-mul-mod_self_right, mul-le-mul_right}
 -- a multiple of e, and some e more
 pub due_more : (e n k : ℕ) → n % e ≡ 0 → (n + k * e) % e ≡ 0
 due_more e n k due = add-mul-mod_self_right n k e ∙ due
+
+pub due_once : (e n : ℕ) → n % e ≡ 0 → (n + e) % e ≡ 0
+due_once e n due = subst (λ k. (n + k) % e ≡ 0) {x = 1 * e} {y = e} (omega arith) (due_more e n 1 due)
 
 -- from one multiple of e to another it is some e
 pub due_steps : (e n m : ℕ) → 1 ≤ e → n % e ≡ 0 → m % e ≡ 0 → n ≤ m → n + (m - n) / e * e ≡ m

@@ -1,8 +1,9 @@
 -- Chunks: judged places that are looked at together.
-use Rattle.std.specs.Prelude.{◌≡◌, ℕ, ◌+◌, ◌-◌, ◌%◌, ◌^◌, ◌<◌, ◌≤◌, ℤ, pos, ◌-ℤ◌, Bool, nat_lt, unsigned_abs, List, length, map, MatchOption, MatchResult, Option, Result}
-use Rattle.std.specs.List.{range_with_len}
+use Rattle.std.specs.Prelude.{◌≡◌, ℕ, ◌+◌, ◌-◌, ◌%◌, ◌^◌, ◌<◌, ◌≤◌, ℤ, pos, ◌-ℤ◌, Bool, nat_lt, unsigned_abs, List, length, map, MatchOption, MatchResult, Option, Result, slice_index_or}
+use Rattle.std.specs.List.{IsFirstBest, range_with_len}
 use Rattle.heard_core.specs.Residuals.{at_place}
 use Rattle.null_core.specs.declared.chunk.Chunk.{Chunk}
+use Rattle.null_core.specs.declared.peak.Peak.{Peak}
 use Rattle.null_core.specs.declared.stretch.Stretch.{Stretch}
 use Rattle.null_core.specs.Errors.{IsLoud, errors}
 use Rattle.null_core.specs.Judged.{IsTooLoud}
@@ -42,6 +43,11 @@ ListsErrors a bits first number listed loud = MatchOption loud
 -- a number is greater than another in absolute value
 abbrev pub is_louder : ℤ → ℤ → Bool
 is_louder x y = nat_lt (unsigned_abs y) (unsigned_abs x)
+
+-- the greatest of some residuals, and the first that has it
+pub record IsPeak (sums : List ℤ) (peak : Peak) : Type 0 where
+  pub first : IsFirstBest is_louder sums (length sums) peak.index
+  pub size : peak.size ≡ unsigned_abs (slice_index_or sums peak.index (pos 0))
 
 -- a chunk as a stretch, up to whose end no place is too loud
 pub record IsChunkStretch (a : AskedContent) (bits : List Bool) (c : Chunk) (s : Stretch) : Type 0 where

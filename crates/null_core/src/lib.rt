@@ -2,12 +2,16 @@
 #![tactic(auto)]
 
 mod alone;
+mod around;
 mod asked;
+mod chunk;
 mod edited;
 mod errors;
+mod joining;
 mod judging;
 mod own;
 mod part;
+mod peak;
 mod stretch;
 
 pub use alone::{Alone, Source};

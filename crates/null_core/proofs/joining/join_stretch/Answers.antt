@@ -13,4 +13,4 @@ returns-in_ok-push-in-Some c =
 
 pub returns-in_ok-push-in-Some-2-2 : goal.returns-in_ok-push-in-Some-2-2
 returns-in_ok-push-in-Some-2-2 c =
-    adds_apart c.args.tap_number c.args.next c.in-Some.last c.args.stretches.now.items c.pop.new.self.items c.push-in-Some-2.new.self.items c.push-in-Some-2-2.new.self.items c.in-Some-2.ensures.items c.in_ok-push-in-Some-2.ensures.items c.in_ok-push-in-Some-2-2.ensures.items (omega (arith, c.saturating_sub.ensures, c.if-saturating_sub-tap_number.false))
+    adds_apart c.args.tap_number c.args.next c.in-Some.last c.args.stretches.now.items c.pop.new.self.items c.push-in-Some-2.new.self.items c.push-in-Some-2-2.new.self.items c.in-Some.ensures.items c.in_ok-push-in-Some-2.ensures.items c.in_ok-push-in-Some-2-2.ensures.items (omega (arith, c.saturating_sub.ensures, c.if-saturating_sub-tap_number.false))

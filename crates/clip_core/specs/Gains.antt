@@ -32,6 +32,12 @@ pub record IsPoint (p : Point) : Type 0 where
 abbrev pub AreRising : List Point → Type 0
 AreRising points = (i : ℕ) (p q : Point) → slice_get points i ≡ Some p → slice_get points (i + 1) ≡ Some q → p.place < q.place
 
+-- the limits of the two ends of a line
+pub record IsLine (p q : Point) : Type 0 where
+  pub first : IsPoint p
+  pub last : IsPoint q
+  pub rising : p.place < q.place
+
 -- the limits of points; there may be none
 pub record ArePoints (points : List Point) : Type 0 where
   pub few : length points ≤ 4096

@@ -1,4 +1,5 @@
 pub mod Clips
 pub mod Contents
 pub mod Gains
+pub mod Lines
 pub mod Mixes

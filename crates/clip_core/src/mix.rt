@@ -1,6 +1,8 @@
 //! Mixes.
 
-ghost use Rattle.clip_core.specs.Mixes.{IsMixing, mix_of};
+ghost use Rattle.std.specs.Prelude.{◌≡◌, ◌^◌, ◌≤◌, All, map};
+ghost use Rattle.clip_core.specs.Clips.{clip_content};
+ghost use Rattle.clip_core.specs.Mixes.{IsMixing, clip_end, mix_length, mix_of};
 
 use crate::clip::Clip;
 
@@ -24,4 +26,17 @@ pub struct Mix {
     /// The clips, in any order: 1 to 1024.
     pub clips: Vec<Clip>,
     ghost limits: { IsMixing (mix_of unit audible.items limit every takes.items decoders.items clips.items) },
+}
+
+/// How many places clips have in the mix, up to the last end of one. Each ends at most at `2^36`.
+pub fn mix_length(clips: &[Clip]) -> usize
+    requires { All (λ c. clip_end c ≤ 2 ^ 36) (map clip_content clips.now) }
+    ensures value { result ≡ mix_length (map clip_content clips.now) }
+    ensures bound { result ≤ 2 ^ 36 }
+{
+    let mut length = 0;
+    for clip in clips {
+        length = length.max(clip.at + clip.length);
+    }
+    length
 }

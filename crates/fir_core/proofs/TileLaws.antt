@@ -1,6 +1,7 @@
--- Runs of samples: in parts, and by the sums of windows.
+-- Runs of sums and samples: in parts, and by the sums of windows.
 use Rattle.std.proofs.Common.{◌≡◌, ℕ, ◌+◌, ◌-◌, ◌*◌, ◌/◌, ◌%◌, ◌^◌, ◌<◌, ◌≤◌, ℤ, pos, inl, inr, unsigned_abs, Bool, List, ◌++◌, map, length, get_or, take, drop, replicate, reverse, sum_by, sym, ap, ap₂, ◌∙◌, arith, length-append, length-drop}
 use Rattle.std.specs.Int.{div_ceil, saturate_to_bits}
+use Rattle.std.specs.List.{range_with_len}
 use Rattle.std.proofs.Math.Nat.{mul-le-mul_right, mul_assoc}
 use Rattle.std.proofs.Math.Seq.{get_or-append_right}
 use Rattle.std.proofs.lemmas.Bool.{cases_lt}
@@ -12,11 +13,11 @@ use borrow.Rule.Slice.PartMut.{put_mid}
 use Rattle.dsd_bits.specs.Packing.{unpacked}
 use Rattle.fir_core.specs.Convolution.{conv}
 use Rattle.fir_core.specs.Decimator.{Decimator, sample_at, samples_of}
-use Rattle.fir_core.specs.Places.{sample_of, samples_from}
+use Rattle.fir_core.specs.Places.{sample_of, samples_from, sums_from}
 use Rattle.fir_core.specs.Rounding.{round_clip, rounded}
 use Rattle.fir_core.specs.Signed.{bits_of, dot}
 use Rattle.fir_core.specs.Windows.{aligned, window_size, window_sum, window_sums}
-use Rattle.fir_core.proofs.Dot.{dot_bound}
+use Rattle.fir_core.proofs.Sums.{abs_sum_below}
 use Rattle.fir_core.proofs.WindowLaws.{conv_by_window, length-aligned}
 
 pub next_product : (i n f : ℕ) → i < n → i * f + f ≤ n * f
@@ -33,26 +34,58 @@ whole_step i factor whole =
     omega arith
 
 -- ---- a run in two parts
+-- values of f, the first at a place and each further one a step after the one before
+abbrev run : (ℕ → ℤ) → ℕ → ℕ → ℕ → List ℤ
+run f step first number = map (λ i. f (i * step + first)) (range_with_len 0 number)
+
+length-run : (f : ℕ → ℤ) (step first number : ℕ) → length (run f step first number) ≡ number
+length-run f step first number = length-map-range_with_len (λ i. f (i * step + first)) 0 number
+
+in_run : (f : ℕ → ℤ) (step first number i : ℕ) → i < number → get_or (run f step first number) i (pos 0) ≡ f (i * step + first)
+in_run f step first number i h = get_or-map-range_with_len (λ j. f (j * step + first)) 0 number i i (pos 0) h (omega arith)
+
 pub length-samples : (d : Decimator) (bits : List Bool) (first number : ℕ) → length (samples_from d bits first number) ≡ number
-length-samples d bits first number = length-map-range_with_len (λ i. sample_of d bits (i * d.factor + first)) 0 number
+length-samples d bits first number = length-run (sample_of d bits) d.factor first number
 
 pub sample_in : (d : Decimator) (bits : List Bool) (first number i : ℕ) → i < number → get_or (samples_from d bits first number) i (pos 0) ≡ sample_of d bits (i * d.factor + first)
-sample_in d bits first number i h = get_or-map-range_with_len (λ j. sample_of d bits (j * d.factor + first)) 0 number i i (pos 0) h (omega arith)
+sample_in d bits first number i h = in_run (sample_of d bits) d.factor first number i h
+
+run_split : (f : ℕ → ℤ) (step first m n : ℕ) → run f step first m ++ run f step (m * step + first) n ≡ run f step first (m + n)
+run_split f step first m n =
+    let front = run f step first m in
+    let back = run f step (m * step + first) n in
+    let long = length-run f step first m in
+    fill_by_all (λ i. f (i * step + first)) (front ++ back) (m + n) (pos 0)
+    (length-append front back ∙ ap₂ ◌+◌ long (length-run f step (m * step + first) n))
+    (λ k h. elim (cases_lt k m) [
+      | inl below ↦ get_or_append_left front back (pos 0) k (omega arith) ∙ in_run f step first m k below
+      | inr past ↦
+          let part : (k - m) * step + (m * step + first) ≡ k * step + first =
+          (let e : (k - m) + m ≡ k = omega arith in let e' = ap (λ (x : ℕ). x * step) e in omega arith) in
+          get_or-append_right front back k (pos 0) (omega arith) ∙ ap (λ j. get_or back (k - j) (pos 0)) long ∙ in_run f step (m * step + first) n (k - m) (omega arith) ∙ ap f part
+    ])
+
+pub length-sums_from : (d : Decimator) (bits : List Bool) (first number : ℕ) → length (sums_from d bits first number) ≡ number
+length-sums_from d bits first number = length-run (conv d.taps bits) d.factor first number
+
+pub sums_split : (d : Decimator) (bits : List Bool) (first m n : ℕ) → sums_from d bits first m ++ sums_from d bits (m * d.factor + first) n ≡ sums_from d bits first (m + n)
+sums_split d bits first m n = run_split (conv d.taps bits) d.factor first m n
 
 pub samples_split : (d : Decimator) (bits : List Bool) (first m n : ℕ) → samples_from d bits first m ++ samples_from d bits (m * d.factor + first) n ≡ samples_from d bits first (m + n)
-samples_split d bits first m n =
-    let front = samples_from d bits first m in
-    let back = samples_from d bits (m * d.factor + first) n in
-    let long = length-samples d bits first m in
-    fill_by_all (λ i. sample_of d bits (i * d.factor + first)) (front ++ back) (m + n) (pos 0)
-    (length-append front back ∙ ap₂ ◌+◌ long (length-samples d bits (m * d.factor + first) n))
-    (λ k h. elim (cases_lt k m) [
-      | inl below ↦ get_or_append_left front back (pos 0) k (omega arith) ∙ sample_in d bits first m k below
-      | inr past ↦
-          let part : (k - m) * d.factor + (m * d.factor + first) ≡ k * d.factor + first =
-          (let e : (k - m) + m ≡ k = omega arith in let f = ap (λ (x : ℕ). x * d.factor) e in omega arith) in
-          get_or-append_right front back k (pos 0) (omega arith) ∙ ap (λ j. get_or back (k - j) (pos 0)) long ∙ sample_in d bits (m * d.factor + first) n (k - m) (omega arith) ∙ ap (sample_of d bits) part
-    ])
+samples_split d bits first m n = run_split (sample_of d bits) d.factor first m n
+
+-- ---- sums, and the samples that they become
+pub small_sums : (d : Decimator) (bits : List Bool) (first number k : ℕ) → sum_by unsigned_abs d.taps ≤ 2 ^ 30 → k < number → unsigned_abs (get_or (sums_from d bits first number) k (pos 0)) ≤ 2 ^ 30
+small_sums d bits first number k small h =
+    rw (in_run (conv d.taps bits) d.factor first number k h) (omega (arith, abs_sum_below d.taps bits (k * d.factor + first) (length d.taps) (omega arith)))
+
+pub sums_rounded : (d : Decimator) (bits : List Bool) (first number : ℕ) → map (λ sum. round_clip sum d.shift d.width) (sums_from d bits first number) ≡ samples_from d bits first number
+sums_rounded d bits first number =
+    let done : ℤ → ℤ = λ sum. round_clip sum d.shift d.width in
+    let sums = sums_from d bits first number in
+    let long = length-run (conv d.taps bits) d.factor first number in
+    fill_by_all (λ i. sample_of d bits (i * d.factor + first)) (map done sums) number (pos 0) (length-map sums done ∙ long)
+    (λ k h. get_or-map done sums k (pos 0) (pos 0) (omega arith) ∙ ap done (in_run (conv d.taps bits) d.factor first number k h))
 
 -- ---- the sums of windows
 aligned_by_phase : (h : List ℤ) (n m : ℕ) → n % 8 ≡ m % 8 → aligned h n ≡ aligned h m
@@ -84,23 +117,15 @@ window_within i factor first count size long whole begins inside enough = omega 
 pub length-sums : (hs : List ℤ) (bytes : List ℕ) (step number : ℕ) → length (window_sums hs bytes step number) ≡ number
 length-sums hs bytes step number = length-map-range_with_len (λ i. window_sum hs bytes (i * step)) 0 number
 
-pub small_windows : (hs : List ℤ) (bytes : List ℕ) (step number k : ℕ) → sum_by unsigned_abs hs ≤ 2 ^ 30 → k < number → unsigned_abs (get_or (window_sums hs bytes step number) k (pos 0)) ≤ 2 ^ 30
-small_windows hs bytes step number k small h =
-    rw (get_or-map-range_with_len (λ i. window_sum hs bytes (i * step)) 0 number k k (pos 0) h (omega arith)) (omega (arith, dot_bound hs (bits_of (drop (k * step) bytes))))
-
 pub run_by_windows : (d : Decimator) (bytes front : List ℕ) (count first number : ℕ) → d.factor % 8 ≡ 0 → first % 8 ≡ d.delay % 8 → window_size (length d.taps) d.delay ≤ first / 8 + 1 → ((i : ℕ) → i < number → i * d.factor + first < count) → count ≤ 8 * length bytes
     → front ≡ drop (first / 8 + 1 - window_size (length d.taps) d.delay) bytes
-    → map (λ sum. round_clip sum d.shift d.width) (window_sums (aligned d.taps d.delay) front (d.factor / 8) number) ≡ samples_from d (unpacked bytes count) first number
+    → window_sums (aligned d.taps d.delay) front (d.factor / 8) number ≡ sums_from d (unpacked bytes count) first number
 run_by_windows d bytes front count first number whole phase begins inside enough is =
-    let sums = window_sums (aligned d.taps d.delay) front (d.factor / 8) number in
-    let done : ℤ → ℤ = λ sum. round_clip sum d.shift d.width in
-    let long : length sums ≡ number = length-map-range_with_len (λ i. window_sum (aligned d.taps d.delay) front (i * (d.factor / 8))) 0 number in
-    fill_by_all (λ i. sample_of d (unpacked bytes count) (i * d.factor + first)) (map done sums) number (pos 0) (length-map sums done ∙ long)
+    fill_by_all (λ i. conv d.taps (unpacked bytes count) (i * d.factor + first)) (window_sums (aligned d.taps d.delay) front (d.factor / 8) number) number (pos 0) (length-sums (aligned d.taps d.delay) front (d.factor / 8) number)
     (λ k h.
-    get_or-map done sums k (pos 0) (pos 0) (omega arith)
-    ∙ ap done (get_or-map-range_with_len (λ i. window_sum (aligned d.taps d.delay) front (i * (d.factor / 8))) 0 number k k (pos 0) h (omega arith)
+    get_or-map-range_with_len (λ i. window_sum (aligned d.taps d.delay) front (i * (d.factor / 8))) 0 number k k (pos 0) h (omega arith)
     ∙ ap (λ bs. window_sum (aligned d.taps d.delay) bs (k * (d.factor / 8))) is
-    ∙ sym (conv_in_run d bytes count first k whole phase begins (inside k h) enough)))
+    ∙ sym (conv_in_run d bytes count first k whole phase begins (inside k h) enough))
 
 -- how many bytes the aligned taps need
 pub size_is : (hs taps h : List ℤ) (n : ℕ) → hs ≡ taps → taps ≡ aligned h n → length hs / 8 ≡ window_size (length h) n

@@ -1,9 +1,13 @@
--- The samples of what is played.
+-- The sums and the samples of what is played.
 use Rattle.std.specs.Prelude.{◌≡◌, ℕ, ◌+◌, ◌*◌, ◌%◌, ◌^◌, ◌≤◌, ℤ, List}
 use Rattle.dsd_bits.specs.Packing.{unpacked}
 use Rattle.fir_core.specs.Decimator.{Decimator}
-use Rattle.fir_core.specs.Places.{samples_from}
+use Rattle.fir_core.specs.Places.{samples_from, sums_from}
 use Rattle.fir_core.specs.declared.source.Source.{Source}
+
+-- n of its sums, the first at this place
+abbrev pub sums_over : Source → ℕ → ℕ → List ℤ
+sums_over source first number = sums_from source.taps.now (unpacked source.bytes.now source.count) first number
 
 -- n of its samples, the first at this place
 abbrev pub samples_over : Source → ℕ → ℕ → List ℤ

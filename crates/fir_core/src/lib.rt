@@ -1,7 +1,8 @@
 //! Whole-number decimation of one-bit sound.
 //!
 //! A [`Taps`] holds a finite impulse response filter and how its sums become samples. [`decimate`] returns the samples
-//! of a channel, [`sample`] one of them, [`sum_at`] the sum before rounding.
+//! of a channel, [`sample`] one of them, [`sum_at`] the sum before rounding, and [`fill_sums`] such sums at a run of
+//! places.
 //!
 //! Contracts use these definitions, over whole numbers without bounds: `conv h bits n` is the convolution of taps with
 //! the signal of stored bits (1 counts +1, 0 counts -1, nothing outside). `rounded` and `round_clip` say how a sum is
@@ -42,4 +43,4 @@ pub use laws::rest_is_played;
 pub use stream::Stream;
 pub use tables::Tables;
 pub use taps::{MAX_FACTOR, MAX_SHIFT, MAX_TAP_SUM, MAX_TAPS, Taps};
-pub use tiles::push_part;
+pub use tiles::{fill_sums, push_part};

@@ -1,12 +1,11 @@
-//! The samples of a run of places, by tables if the window is within the bytes.
+//! The sums and the samples of a run of places, by tables if the window is within the bytes.
 
 ghost use Rattle.std.specs.Prelude.{◌≡◌, ◌+◌, ◌*◌, ◌/◌, ◌%◌, ◌^◌, ◌<◌, ◌≤◌, ◌++◌, EachIndex, OnErr, OnOk, length, map, pos, slice_index_or, unsigned_abs};
 ghost use Rattle.std.specs.Int.{div_ceil};
-ghost use Rattle.dsd_bits.specs.Packing.{unpacked};
 ghost use Rattle.fir_core.specs.Decimator.{samples_of};
-ghost use Rattle.fir_core.specs.Places.{sample_of};
+ghost use Rattle.fir_core.specs.Places.{sums_from};
 ghost use Rattle.fir_core.specs.Rounding.{round_clip};
-ghost use Rattle.fir_core.specs.Sources.{ArePlayable, samples_over};
+ghost use Rattle.fir_core.specs.Sources.{ArePlayable, samples_over, sums_over};
 ghost use Rattle.fir_core.specs.Windows.{AreWithin, aligned, window_size, window_sums};
 
 use crate::convolution::sum_over;
@@ -65,34 +64,26 @@ fn finish(taps: &Taps, sums: &mut [i32])
     }
 }
 
-/// The sample at a place, in bits.
-pub(crate) fn sample_over(source: Source<'_>, place: usize) -> i32
-    requires { place < 2 ^ 37 }
-    ensures { result ≡ sample_of source.entry.taps.now (unpacked source.entry.bytes.now source.entry.count) place }
+/// The sums of a run of places, bit by bit: the first is at place `first`, in bits.
+fn sum_plainly(source: Source<'_>, first: usize, sums: &mut [i32])
+    requires { length sums.old * source.taps.now.factor + first ≤ 2 ^ 37 }
+    ensures { sums.new ≡ sums_over source.entry first (length sums.old) }
 {
     let taps = source.taps;
-    let sum = sum_over(taps, source.bytes, source.count, place);
-    clip(round(sum, taps.shift), taps.width)
-}
-
-/// The samples of a run of places, bit by bit: the first is at place `first`, in bits.
-fn fill_plainly(source: Source<'_>, first: usize, samples: &mut [i32])
-    requires { length samples.old * source.taps.now.factor + first ≤ 2 ^ 37 }
-    ensures { samples.new ≡ samples_over source.entry first (length samples.old) }
-{
-    let factor = source.taps.factor() as usize;
-    for i in 0..samples.len() {
-        samples[i] = sample_over(source, i * factor + first);
+    let factor = taps.factor() as usize;
+    for i in 0..sums.len() {
+        let place = i * factor + first;
+        sums[i] = sum_over(taps, source.bytes, source.count, place);
     }
 }
 
-/// The samples of a run of places whose windows lie within the bytes, by the tables.
-fn fill_windows(source: Source<'_>, first: usize, samples: &mut [i32])
+/// The sums of a run of places whose windows lie within the bytes, by the tables.
+fn sum_inside(source: Source<'_>, first: usize, sums: &mut [i32])
     requires phase { first % 8 ≡ source.taps.now.delay % 8 }
     requires begins { window_size (length source.taps.now.taps) source.taps.now.delay ≤ first / 8 + 1 }
-    requires some { 1 ≤ length samples.old }
-    requires inside { EachIndex samples.old (λ i. i * source.taps.now.factor + first < source.count) }
-    ensures { samples.new ≡ samples_over source.entry first (length samples.old) }
+    requires some { 1 ≤ length sums.old }
+    requires inside { EachIndex sums.old (λ i. i * source.taps.now.factor + first < source.count) }
+    ensures { sums.new ≡ sums_over source.entry first (length sums.old) }
 {
     let tables = source.tables;
     let bytes = source.bytes;
@@ -100,33 +91,40 @@ fn fill_windows(source: Source<'_>, first: usize, samples: &mut [i32])
     let groups = tables.taps.as_slice();
     let at = first / 8 + 1 - groups.len() / 8;
     let front = &bytes[at..];
-    sum_tile(tables, front, step, samples);
-    finish(source.taps, samples);
+    sum_tile(tables, front, step, sums);
 }
 
-/// The samples of a run of places: bit by bit if the window extends beyond the bytes, and by the tables between.
-fn fill_tile(source: Source<'_>, first: usize, samples: &mut [i32])
-    requires { ArePlayable source.taps.now first (length samples.old) }
-    ensures { samples.new ≡ samples_over source.entry first (length samples.old) }
+/// The sums of a run of places: bit by bit if the window extends beyond the bytes, and by the tables between.
+fn sum_run(source: Source<'_>, first: usize, sums: &mut [i32])
+    requires { ArePlayable source.taps.now first (length sums.old) }
+    ensures { sums.new ≡ sums_over source.entry first (length sums.old) }
 {
     let tables = source.tables;
     let count = source.count;
     let factor = source.taps.factor() as usize;
     let size = tables.taps.len() / 8;
     let early = (size - 1).saturating_sub(first / 8).div_ceil(factor / 8);
-    let late = count
-        .saturating_sub(first)
-        .div_ceil(factor)
-        .min(samples.len());
+    let late = count.saturating_sub(first).div_ceil(factor).min(sums.len());
     if late <= early {
-        fill_plainly(source, first, samples);
+        sum_plainly(source, first, sums);
         return;
     }
-    let (head, rest) = samples.split_at_mut(early);
+    let (head, rest) = sums.split_at_mut(early);
     let (middle, tail) = rest.split_at_mut(late - early);
-    fill_plainly(source, first, head);
-    fill_windows(source, early * factor + first, middle);
-    fill_plainly(source, late * factor + first, tail);
+    sum_plainly(source, first, head);
+    sum_inside(source, early * factor + first, middle);
+    sum_plainly(source, late * factor + first, tail);
+}
+
+/// The samples of a run of places.
+fn fill_tile(source: Source<'_>, first: usize, samples: &mut [i32])
+    requires { ArePlayable source.taps.now first (length samples.old) }
+    ensures { samples.new ≡ samples_over source.entry first (length samples.old) }
+{
+    let taps = source.taps;
+    let _factor = taps.factor();
+    sum_run(source, first, samples);
+    finish(taps, samples);
 }
 
 /// The samples of a run of places, tile by tile.
@@ -187,4 +185,25 @@ pub fn push_part(
     };
     push_samples(out, number, source, first)?;
     Ok(())
+}
+
+/// The sums at a run of places before they are rounded, by the tables of the same decimator: the convolution at place
+/// `first` (in bits), and at each place a factor after the one before. Each is what [`crate::sum_at`] returns. Places
+/// may be before the first whole window and after the last bit: what is outside the recording counts 0. It takes no
+/// memory. A few thousand sums at a time stay in the cache.
+pub fn fill_sums(sums: &mut [i32], taps: &Taps, tables: &Tables, bits: &Bits, first: usize)
+    requires tables { tables.now ≡ aligned taps.now.taps taps.now.delay }
+    requires places { ArePlayable taps.now first (length sums.old) }
+    ensures value { sums.new ≡ sums_from taps.now bits.now first (length sums.old) }
+    ensures bound { EachIndex sums.new (λ i. unsigned_abs (slice_index_or sums.new i (pos 0)) ≤ 2 ^ 30) }
+{
+    let count = bits.len();
+    let _factor = taps.factor();
+    let source = Source {
+        taps,
+        tables,
+        bytes: bits.as_bytes(),
+        count,
+    };
+    sum_run(source, first, sums);
 }

@@ -2,7 +2,12 @@
 #![tactic(auto)]
 
 mod decoder;
+mod laws;
+mod piece;
+mod products;
 mod residuals;
+mod sums;
 
 pub use decoder::Decoder;
+pub use laws::windows_are_residuals;
 pub use residuals::Audible;

@@ -1,5 +1,12 @@
 pub mod AroundLaws
 pub mod ChunkLaws
 pub mod DueLaws
+pub mod ErrorLaws
+pub mod GainLaws
+pub mod MidLaws
+pub mod MixLaws
+pub mod PartLaws
+pub mod SmallLaws
 pub mod SpanLaws
 pub mod StretchLaws
+pub mod UnitLaws

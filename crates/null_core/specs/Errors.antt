@@ -6,10 +6,21 @@ use Rattle.dsd_bits.specs.Sums.{sign}
 use Rattle.heard_core.specs.Residuals.{residual}
 use Rattle.null_core.specs.Parts.{AskedContent, mix_at}
 
--- the error at a place of the master: what its bit counts less the mix, in units of 2 ^ 23, to the nearest whole number,
--- halves upwards
+-- what a bit counts at full scale
+abbrev pub wanted : ℕ → Bool → ℤ
+wanted unit bit = sign bit *ℤ pos (unit * 2 ^ 24)
+
+-- a difference in units of 2 ^ 23, to the nearest whole number, halves upwards
+abbrev pub in_units : ℤ → ℤ
+in_units difference = int_div_euclid (difference +ℤ pos (2 ^ 22)) (pos (2 ^ 23))
+
+-- the error of a bit where this is the mix: what the bit counts less the mix
+abbrev pub error_of : ℕ → Bool → ℤ → ℤ
+error_of unit bit mix = in_units (wanted unit bit -ℤ mix)
+
+-- the error at a place of the master
 abbrev pub error_at : AskedContent → List Bool → ℕ → ℤ
-error_at a bits m = int_div_euclid (((sign (slice_index_or bits m false) *ℤ pos (a.unit * 2 ^ 24)) -ℤ mix_at a.parts m) +ℤ pos (2 ^ 22)) (pos (2 ^ 23))
+error_at a bits m = error_of a.unit (slice_index_or bits m false) (mix_at a.parts m)
 
 -- the errors at some places, from the first on
 abbrev pub errors_from : AskedContent → List Bool → ℕ → ℕ → List ℤ

@@ -1,8 +1,8 @@
 -- What is found in a channel.
-use Rattle.std.specs.Prelude.{◌≡◌, ℕ, ◌-◌, ◌<◌, ◌≤◌, ◌++◌, ℤ, Bool, List, MatchOption, MatchResult, Option, Result, Ok, Err, Vec}
+use Rattle.std.specs.Prelude.{◌≡◌, ℕ, ◌-◌, ◌^◌, ◌<◌, ◌≤◌, ◌++◌, ℤ, unsigned_abs, Bool, List, MatchOption, MatchResult, Option, Result, Ok, Err, Vec}
 use Rattle.std.specs.declared.alloc.Global.{Global}
 use Rattle.null_core.specs.declared.stretch.Stretch.{Stretch}
-use Rattle.null_core.specs.Errors.{IsLoud, errors_from}
+use Rattle.null_core.specs.Errors.{IsLoud, error_at, errors_from}
 use Rattle.null_core.specs.Judged.{IsTooLoud}
 use Rattle.null_core.specs.Parts.{AskedContent}
 use Rattle.null_core.specs.Stretches.{AreStretches, AreStretchesTo}
@@ -17,6 +17,11 @@ pub record IsLoudIn (a : AskedContent) (bits : List Bool) (from to m : ℕ) : Ty
   pub after : from ≤ m
   pub before : m < to
   pub loud : IsLoud a bits m
+
+-- this is the error at a place, and it isn't too large
+pub record IsQuietError (a : AskedContent) (bits : List Bool) (m : ℕ) (e : ℤ) : Type 0 where
+  pub value : e ≡ error_at a bits m
+  pub quiet : unsigned_abs e < 2 ^ 31
 
 -- the errors from one place up to another were appended; or one is too large, and this is the first
 abbrev pub AppendErrors : AskedContent → List Bool → ℕ → ℕ → List ℤ → List ℤ → Option ℕ → Type 0

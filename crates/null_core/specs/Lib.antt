@@ -1,7 +1,10 @@
+pub mod Asking
 pub mod Chunks
 pub mod Errors
+pub mod Holding
 pub mod Judged
 pub mod Judging
+pub mod Mixing
 pub mod Own
 pub mod Parts
 pub mod Stretches

@@ -24,7 +24,7 @@ pub(crate) fn list_errors_around(
     requires small { number ≤ 2 ^ 17 }
     ensures { IfOk result (ListsErrors (asked_content asked.entry) bits.now first number errors.new.items) }
 {
-    let reach = asked.audible.tap_number() / 2;
+    let reach = asked.audible.len() / 2;
     let count = bits.len();
     let end = (first + number).saturating_sub(reach).min(count);
     errors.clear();

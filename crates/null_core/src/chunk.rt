@@ -46,7 +46,7 @@ pub(crate) fn judge_chunk(
     let every = asked.every;
     let span = chunk.last - chunk.first;
     let errors = &mut workspace.errors;
-    let loud = list_errors_around(alloc, errors, asked, bits, chunk.first, span + asked.audible.tap_number())?;
+    let loud = list_errors_around(alloc, errors, asked, bits, chunk.first, span + asked.audible.len())?;
     if let Some(place) = loud {
         return Ok(Err(place));
     }

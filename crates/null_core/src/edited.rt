@@ -31,7 +31,7 @@ pub(crate) fn next_span(asked: Asked<'_>, bits: &Bits, from: usize) -> Option<Sp
 
 // The first edited place from one on.
 fn first_edited(asked: Asked<'_>, bits: &Bits, from: usize) -> Option<usize> {
-    let reach = asked.audible.tap_number() / 2;
+    let reach = asked.audible.len() / 2;
     let count = bits.len();
     let mut place = from;
     while place < count {
@@ -52,7 +52,7 @@ fn first_edited(asked: Asked<'_>, bits: &Bits, from: usize) -> Option<usize> {
 
 // The first place from an edited one on that isn't edited, or the end of the channel.
 fn first_unedited(asked: Asked<'_>, bits: &Bits, start: usize) -> usize {
-    let reach = asked.audible.tap_number() / 2;
+    let reach = asked.audible.len() / 2;
     let count = bits.len();
     let mut low = start.saturating_sub(reach);
     while low < count {

@@ -59,7 +59,7 @@ fn judge_span(
 {
     let count = bits.len();
     prove!(span.stop <= count);
-    let tap_number = asked.audible.tap_number();
+    let tap_number = asked.audible.len();
     let mut first = span.start.next_multiple_of(asked.every);
     while first < span.stop {
         let last = chunk_end(first, span.stop, asked.every, tap_number);

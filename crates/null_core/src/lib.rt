@@ -9,6 +9,7 @@ mod edited;
 mod errors;
 mod joining;
 mod judging;
+mod mixing;
 mod own;
 mod part;
 mod peak;

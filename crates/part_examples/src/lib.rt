@@ -27,6 +27,8 @@ pub mod fixtures;
 #[cfg(test)]
 mod formats;
 #[cfg(test)]
+mod gains;
+#[cfg(test)]
 mod refusals;
 #[cfg(test)]
 mod streams;

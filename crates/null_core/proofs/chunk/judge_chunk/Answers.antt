@@ -11,7 +11,7 @@ abbrev size : In_ok-loud → ℕ
 size c = c.args.chunk.last - c.args.chunk.first + length c.args.asked.audible.now
 
 found : (c : In_ok-loud) → ListsErrors (asked_content c.args.asked) c.args.bits.now c.args.chunk.first (size c) c.list_errors_around.new.errors.items c.in_ok-loud.loud
-found c = subst (λ n. ListsErrors (asked_content c.args.asked) c.args.bits.now c.args.chunk.first (c.args.chunk.last - c.args.chunk.first + n) c.list_errors_around.new.errors.items c.in_ok-loud.loud) c.tap_number.ensures.value c.in_ok-loud.ensures
+found c = subst (λ n. ListsErrors (asked_content c.args.asked) c.args.bits.now c.args.chunk.first (c.args.chunk.last - c.args.chunk.first + n) c.list_errors_around.new.errors.items c.in_ok-loud.loud) c.len.ensures.value c.in_ok-loud.ensures
 
 pub returns-in-Some : goal.returns-in-Some
 returns-in-Some c =
@@ -20,7 +20,7 @@ returns-in-Some c =
     first_loud a c.requires.asked c.args.bits.now c.args.chunk c.requires.chunk c.requires.quiet c.in-Some.place (subst (ListsErrors a c.args.bits.now c.args.chunk.first (size p) c.list_errors_around.new.errors.items) c.in-Some.is (found p))
 
 none_loud : (c : In_default) → ListsErrors (asked_content c.args.asked) c.args.bits.now c.args.chunk.first (c.args.chunk.last - c.args.chunk.first + length c.args.asked.audible.now) c.list_errors_around.new.errors.items None
-none_loud c = subst (ListsErrors (asked_content c.args.asked) c.args.bits.now c.args.chunk.first (c.args.chunk.last - c.args.chunk.first + length c.args.asked.audible.now) c.list_errors_around.new.errors.items) c.in_default.is (subst (λ n. ListsErrors (asked_content c.args.asked) c.args.bits.now c.args.chunk.first (c.args.chunk.last - c.args.chunk.first + n) c.list_errors_around.new.errors.items c.in_ok-loud.loud) c.tap_number.ensures.value c.in_ok-loud.ensures)
+none_loud c = subst (ListsErrors (asked_content c.args.asked) c.args.bits.now c.args.chunk.first (c.args.chunk.last - c.args.chunk.first + length c.args.asked.audible.now) c.list_errors_around.new.errors.items) c.in_default.is (subst (λ n. ListsErrors (asked_content c.args.asked) c.args.bits.now c.args.chunk.first (c.args.chunk.last - c.args.chunk.first + n) c.list_errors_around.new.errors.items c.in_ok-loud.loud) c.len.ensures.value c.in_ok-loud.ensures)
 
 -- the errors are listed
 listed : (c : In_default) → c.list_errors_around.new.errors.items ≡ errors_around (asked_content c.args.asked) c.args.bits.now c.args.chunk.first (c.args.chunk.last - c.args.chunk.first + length c.args.asked.audible.now)

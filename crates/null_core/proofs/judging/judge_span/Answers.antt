@@ -34,6 +34,6 @@ loop-first-preserved c =
       due = due_once c.args.asked.every c.chunk_end-last.result last.due;
       after = omega (arith, c.loop-first.invariant.after, last.after);
       so_far = judged_to_due a bits c.join_stretch.new.stretches.items c.chunk_end-last.result c.args.span.stop c.requires.asked.some_every last.due
-          (judged_chunk a bits c.loop-first.stretches.items c.join_stretch.new.stretches.items (record { first = c.loop-first.first; last = c.chunk_end-last.result }) c.in-Ok.stretch c.tap_number-tap_number.result c.args.span.stop (sym c.tap_number-tap_number.ensures.value) c.loop-first-test.true c.loop-first.invariant.so_far made c.in_ok-join_stretch-in-Ok.ensures)
+          (judged_chunk a bits c.loop-first.stretches.items c.join_stretch.new.stretches.items (record { first = c.loop-first.first; last = c.chunk_end-last.result }) c.in-Ok.stretch c.len-tap_number.result c.args.span.stop (sym c.len-tap_number.ensures.value) c.loop-first-test.true c.loop-first.invariant.so_far made c.in_ok-join_stretch-in-Ok.ensures)
           last.before;
     }

@@ -1,10 +1,9 @@
-use Rattle.std.proofs.Common.{◌≡◌, ℤ, ◌+◌, ◌-◌, ◌/◌, ◌^◌, ◌≤◌, ◌∙◌, List, ap, arith, length, map, take, drop, length-drop, subst, sum_by, unsigned_abs}
+use Rattle.std.proofs.Common.{◌≡◌, ◌+◌, ◌-◌, ◌/◌, ◌≤◌, ◌∙◌, ap, arith, length, take, drop, length-drop}
 use Rattle.std.proofs.lemmas.List.{take_rest}
-use Rattle.fir_core.specs.Rounding.{round_clip}
 use Rattle.fir_core.specs.Windows.{aligned, window_size, window_sums}
-use Rattle.fir_core.proofs.TileLaws.{length-sums, run_by_windows, size_is, small_windows, window_within}
-use Rattle.fir_core.proofs.tiles.fill_windows.Goals as goal
-use Rattle.fir_core.proofs.tiles.fill_windows.Goals.{After-as_slice-groups}
+use Rattle.fir_core.proofs.TileLaws.{run_by_windows, size_is, window_within}
+use Rattle.fir_core.proofs.tiles.sum_inside.Goals as goal
+use Rattle.fir_core.proofs.tiles.sum_inside.Goals.{After-as_slice-groups}
 
 size : (c : After-as_slice-groups) → length c.as_slice-groups.result.now / 8 ≡ window_size (length c.args.source.taps.now.taps) c.args.source.taps.now.delay
 size c = size_is c.as_slice-groups.result.now c.args.source.tables.now c.args.source.taps.now.taps c.args.source.taps.now.delay (c.as_slice-groups.ensures.value ∙ c.tables.view_is) c.args.source.same
@@ -32,23 +31,15 @@ sum_tile-requires c = record {
       ));
 }
 
-pub finish-requires : goal.finish-requires
-finish-requires c = λ i h.
-    let small : sum_by unsigned_abs c.args.source.tables.now ≤ 2 ^ 30 = subst (λ (hs : List ℤ). sum_by unsigned_abs hs ≤ 2 ^ 30) c.tables.view_is c.tables.invariant.small in
-    let long = ap length c.sum_tile.ensures ∙ length-sums c.args.source.tables.now _ _ (length c.args.samples.now) in
-    rw c.sum_tile.ensures (small_windows c.args.source.tables.now _ _ (length c.args.samples.now) i small (omega arith))
-
 pub returns : goal.returns
 returns c =
     let before = (goal.at.returns c).After-as_slice-groups in
     let d = c.args.source.taps.now in
-    let number = length c.args.samples.now in
+    let number = length c.args.sums.now in
     let at = c.args.first / 8 + 1 - length c.as_slice-groups.result.now / 8 in
     let front = take (length c.args.source.bytes.now - at) (drop at c.args.source.bytes.now) in
-    let done : ℤ → ℤ = λ sum. round_clip sum d.shift d.width in
-    c.finish.ensures
-    ∙ ap (map done) (c.sum_tile.ensures
+    c.sum_tile.ensures
     ∙ ap (λ hs. window_sums hs front (c.factor.result / 8) number) c.args.source.same
-    ∙ ap (λ n. window_sums (aligned d.taps d.delay) front (n / 8) number) c.factor.ensures.value)
+    ∙ ap (λ n. window_sums (aligned d.taps d.delay) front (n / 8) number) c.factor.ensures.value
     ∙ run_by_windows d c.args.source.bytes.now front c.args.source.count c.args.first number c.factor.ensures.limits.whole_bytes c.requires.phase c.requires.begins c.requires.inside c.args.source.enough
     (take_rest c.args.source.bytes.now at ∙ ap (λ m. drop (c.args.first / 8 + 1 - m) c.args.source.bytes.now) (size before))

@@ -1,0 +1,3 @@
+mod ClipLaws
+pub mod LineLaws
+mod PointLaws

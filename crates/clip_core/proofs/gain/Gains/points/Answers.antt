@@ -1,0 +1,17 @@
+use Rattle.std.proofs.Common.{◌≡◌, List, Vec, Global, get_or, length, ltb, true, sym, subst, ◌∙◌}
+use Rattle.clip_core.specs.declared.gain.Point.{Point}
+use Rattle.clip_core.specs.Clips.{gain_content, points_of}
+use Rattle.clip_core.specs.Gains.{ArePoints}
+use Rattle.clip_core.proofs.ClipLaws.{list_of, points_within}
+use Rattle.clip_core.proofs.gain.Gains.points.Goals as goal
+
+pub returns-in-Some : goal.returns-in-Some
+returns-in-Some c =
+    let found = c.in-Some.ensures.lookup in
+    let points = c.in-Some.points.now in
+    let lists = c.deref.ensures.value in
+    let inside = subst (λ (xs : List (Vec Point Global)). true ≡ ltb c.args.channel (length xs)) lists found.0 in
+    let value = subst (λ (xs : List (Vec Point Global)). points ≡ get_or xs c.args.channel points) lists found.1 in
+    let is : c.as_slice-in-Some.result.now ≡ points_of (gain_content c.args.self.now) c.args.channel =
+    rw c.in-Each.is (c.as_slice-in-Some.ensures.value ∙ list_of c.in-Each.lists.items c.args.channel points inside value) in
+    record { points = is; within = λ fine. subst ArePoints (sym is) (points_within (gain_content c.args.self.now) c.args.channel fine) }

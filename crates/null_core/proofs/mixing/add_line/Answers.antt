@@ -1,0 +1,16 @@
+use Rattle.std.proofs.Common.{◌∙◌, ◌<◌, length, sym, arith}
+use Rattle.clip_core.specs.Lines.{line_gain}
+use Rattle.null_core.proofs.GainLaws.{gained_more, sum_with_it}
+use Rattle.null_core.proofs.mixing.add_line.Goals as goal
+
+pub loop-i-preserved : goal.loop-i-preserved
+loop-i-preserved c =
+    let inside : c.loop-i.i < length c.args.mixed.now = omega (arith, c.loop-i-test.true, c.requires.long) in
+    let same = c.gain_at-gain.ensures.value ∙ c.is_level.ensures.level c.if-is_level.true c.args.k ∙ sym (c.is_level.ensures.level c.if-is_level.true _) in
+    gained_more (line_gain c.args.line) c.args.k c.args.sound.now c.args.mixed.now c.loop-i.i c.loop-i.mixed c.loop-i.invariant inside _ (sum_with_it (line_gain c.args.line) c.args.k c.args.sound.now c.args.mixed.now c.loop-i.i c.loop-i.mixed c.loop-i.invariant inside c.gain_at-gain.result c.gain_at-gain.ensures.bound same c.requires.small c.requires.sound c.requires.long _ _ c.with_sound.result c.with_sound.ensures (record { sfits = c.with_sound.type_inv }))
+
+pub loop-i-else-is_level-preserved : goal.loop-i-else-is_level-preserved
+loop-i-else-is_level-preserved c =
+    let loop = c.loop-i-else-is_level in
+    let inside : loop.i < length c.args.mixed.now = omega (arith, c.loop-i-else-is_level-test.true, c.requires.long) in
+    gained_more (line_gain c.args.line) c.args.k c.args.sound.now c.args.mixed.now loop.i loop.mixed loop.invariant inside _ (sum_with_it (line_gain c.args.line) c.args.k c.args.sound.now c.args.mixed.now loop.i loop.mixed loop.invariant inside c.gain_at.result c.gain_at.ensures.bound c.gain_at.ensures.value c.requires.small c.requires.sound c.requires.long _ _ c.with_sound-in-loop-i-else-is_level.result c.with_sound-in-loop-i-else-is_level.ensures (record { sfits = c.with_sound-in-loop-i-else-is_level.type_inv }))

@@ -5,6 +5,7 @@ pub mod ErrorLaws
 pub mod GainLaws
 pub mod MidLaws
 pub mod MixLaws
+pub mod NullLaws
 pub mod PartLaws
 pub mod SmallLaws
 pub mod SpanLaws

@@ -4,6 +4,7 @@ pub mod Errors
 pub mod Holding
 pub mod Judged
 pub mod Judging
+pub mod Laws
 pub mod Mixing
 pub mod Own
 pub mod Parts

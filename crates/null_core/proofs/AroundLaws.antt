@@ -26,9 +26,9 @@ at_before xs x y lt = let same : pos x -ℤ pos y ≡ negsuc (y - x - 1) = omega
 
 resized : (xs : List ℤ) (number k : ℕ) → k < number → get_or (take number xs ++ replicate (number - length xs) (pos 0)) k (pos 0) ≡ get_or xs k (pos 0)
 resized xs number k lt = elim (cases_lt k (length xs)) [
-    inl inner ↦ get_or_append_left (take number xs) (replicate (number - length xs) (pos 0)) (pos 0) k (omega (arith, inner, lt, length-take number xs)) ∙ get_or-take number xs k (pos 0) lt
+  | inl inner ↦ get_or_append_left (take number xs) (replicate (number - length xs) (pos 0)) (pos 0) k (omega (arith, inner, lt, length-take number xs)) ∙ get_or-take number xs k (pos 0) lt
   | inr past ↦ get_or-append_right (take number xs) (replicate (number - length xs) (pos 0)) (length xs) k (pos 0) (omega (arith, length-take number xs, past, lt)) past ∙ get_or-replicate (number - length xs) (k - length xs) (pos 0) (pos 0) (omega (arith, past, lt)) ∙ sym (get_or_past xs k (pos 0) past)
-  ]
+]
 
 length_resized : (xs : List ℤ) (number : ℕ) → length (take number xs ++ replicate (number - length xs) (pos 0)) ≡ number
 length_resized xs number = omega (arith, length-append (take number xs) (replicate (number - length xs) (pos 0)), length-take number xs, length-replicate (number - length xs) (pos 0))
@@ -55,15 +55,15 @@ module _ (a : AskedContent) (bits : List Bool) (first number : ℕ) (inside : fi
   -- an error of the master
   is_inner : (k j : ℕ) → k < number → reach a - first ≤ k → j + reach a ≡ first + k → get_or inner (k - (reach a - first)) (pos 0) ≡ at_of k
   is_inner k j lt le e = elim (cases_lt j stop) [
-      inl in' ↦ get_or-map-range_with_len (error_at a bits) start (stop - start) (k - (reach a - first)) j (pos 0) (omega (arith, in', le, e)) (omega (arith, le, e)) ∙ sym (at_inside (errors a bits) (first + k) (reach a) j e ∙ get_or-map-range_with_len (error_at a bits) 0 (length bits) j j (pos 0) (omega (arith, in')) (omega arith))
+    | inl in' ↦ get_or-map-range_with_len (error_at a bits) start (stop - start) (k - (reach a - first)) j (pos 0) (omega (arith, in', le, e)) (omega (arith, le, e)) ∙ sym (at_inside (errors a bits) (first + k) (reach a) j e ∙ get_or-map-range_with_len (error_at a bits) 0 (length bits) j j (pos 0) (omega (arith, in')) (omega arith))
     | inr past ↦ get_or_past inner (k - (reach a - first)) (pos 0) (omega (arith, length-map-range_with_len (error_at a bits) start (stop - start), past, le, e)) ∙ sym (at_inside (errors a bits) (first + k) (reach a) j e ∙ get_or_past (errors a bits) j (pos 0) (omega (arith, length-map-range_with_len (error_at a bits) 0 (length bits), past, lt, e)))
-    ]
+  ]
 
   is_around : (k : ℕ) → k < number → get_or (zeros ++ inner) k (pos 0) ≡ at_of k
   is_around k lt = elim (cases_lt k (reach a - first)) [
-      inl low ↦ get_or_append_left zeros inner (pos 0) k (omega (arith, long, low)) ∙ get_or-replicate (reach a - first) k (pos 0) (pos 0) low ∙ sym (at_before (errors a bits) (first + k) (reach a) (omega (arith, low)))
+    | inl low ↦ get_or_append_left zeros inner (pos 0) k (omega (arith, long, low)) ∙ get_or-replicate (reach a - first) k (pos 0) (pos 0) low ∙ sym (at_before (errors a bits) (first + k) (reach a) (omega (arith, low)))
     | inr high ↦ get_or-append_right zeros inner (reach a - first) k (pos 0) long high ∙ is_inner k (first + k - reach a) lt high (omega (arith, high))
-    ]
+  ]
 
   listed : (new : List ℤ) → new ≡ take number (zeros ++ inner) ++ replicate (number - length (zeros ++ inner)) (pos 0) → new ≡ errors_around a bits first number
   listed new is = is ∙ fill_by_all at_of (take number (zeros ++ inner) ++ replicate (number - length (zeros ++ inner)) (pos 0)) number (pos 0) (length_resized (zeros ++ inner) number) (λ k lt. resized (zeros ++ inner) number k lt ∙ is_around k lt)

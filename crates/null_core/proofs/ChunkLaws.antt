@@ -66,28 +66,28 @@ module _ (a : AskedContent) (asked : IsAsked a) (bits : List Bool) (c : Chunk) (
   -- a judged place reaches each error that the windows read
   reached_by : (m : ℕ) → IsLoudAround a bits c.first size m → IsTooLoud a bits m
   reached_by m around = elim (cases_lt (m + reach a - c.first) span) [
-      inl inner ↦
-          let i = (m + reach a - c.first) / a.every in
-          let whole : i * a.every + (m + reach a - c.first) % a.every ≡ m + reach a - c.first = div-add-mod' (m + reach a - c.first) a.every in
-          let rest : (m + reach a - c.first) % a.every < a.every = mod_below (m + reach a - c.first) a.every asked.some_every in
-          let close : a.every ≤ length a.audible = is.reached (omega (arith, inner)) in
-          record {
-            inside = around.inside;
-            loud = around.loud;
-            place = c.first + i * a.every;
-            judged = judged_at (c.first + i * a.every) (due_more a.every c.first i is.due_first) (omega arith) (omega (arith, whole, inner));
-            before = omega (arith, whole, around.after);
-            after = omega (arith, whole, rest, close, taps, around.after);
-          }
+    | inl inner ↦
+        let i = (m + reach a - c.first) / a.every in
+        let whole : i * a.every + (m + reach a - c.first) % a.every ≡ m + reach a - c.first = div-add-mod' (m + reach a - c.first) a.every in
+        let rest : (m + reach a - c.first) % a.every < a.every = mod_below (m + reach a - c.first) a.every asked.some_every in
+        let close : a.every ≤ length a.audible = is.reached (omega (arith, inner)) in
+        record {
+          inside = around.inside;
+          loud = around.loud;
+          place = c.first + i * a.every;
+          judged = judged_at (c.first + i * a.every) (due_more a.every c.first i is.due_first) (omega arith) (omega (arith, whole, inner));
+          before = omega (arith, whole, around.after);
+          after = omega (arith, whole, rest, close, taps, around.after);
+        }
     | inr outer ↦ record {
-        inside = around.inside;
-        loud = around.loud;
-        place = c.last;
-        judged = judged_at c.last is.due_last is.in_order (omega arith);
-        before = omega (arith, outer, is.in_order, around.after);
-        after = omega (arith, around.before, is.in_order, taps);
-      }
-    ]
+      inside = around.inside;
+      loud = around.loud;
+      place = c.last;
+      judged = judged_at c.last is.due_last is.in_order (omega arith);
+      before = omega (arith, outer, is.in_order, around.after);
+      after = omega (arith, around.before, is.in_order, taps);
+    }
+  ]
 
   module _ (quiet : IsQuietTo a bits c.first) where
     around_of : (m k : ℕ) (loud : IsTooLoud a bits m) → m + reach a < c.first + size → IsLoudAround a bits c.first size m
@@ -101,9 +101,9 @@ module _ (a : AskedContent) (asked : IsAsked a) (bits : List Bool) (c : Chunk) (
 
     quiet_after : ((m : ℕ) → IsLoudAround a bits c.first size m → ⊥) → IsQuietTo a bits (c.last + 1)
     quiet_after none = λ m loud. elim (cases_lt c.last loud.place) [
-        inl past ↦ omega (arith, past)
+      | inl past ↦ omega (arith, past)
       | inr within ↦ absurd (none m (around_of m m loud (omega (arith, loud.after, within, taps, is.in_order))))
-      ]
+    ]
 
     -- ---- the chunk as a stretch
 
@@ -138,9 +138,9 @@ module _ (a : AskedContent) (asked : IsAsked a) (bits : List Bool) (c : Chunk) (
         size = sym (is_peak.size ∙ size_at peak.index best_below);
         most = λ n in'. omega (arith, is_peak.size, size_of n in', ltb-false _ _ (is_peak.first.1 ((n - c.first) / a.every) (pos 0) (omega (arith, step_below n in', sums_long))));
         first_of = λ n in' sooner. elim (cases_lt ((n - c.first) / a.every) peak.index) [
-            inl less ↦ omega (arith, is_peak.size, size_of n in', ltb-true _ _ (is_peak.first.2 ((n - c.first) / a.every) (pos 0) less))
+          | inl less ↦ omega (arith, is_peak.size, size_of n in', ltb-true _ _ (is_peak.first.2 ((n - c.first) / a.every) (pos 0) less))
           | inr more ↦ absurd (omega (arith, sooner, step_of n in', mul-le-mul_right a.every more))
-          ];
+        ];
       }
 
       near : (n : ℕ) → IsJudgedFrom a bits c.first c.last n → n < c.last → HasNext a bits c.last n
@@ -178,18 +178,18 @@ all_small a bits first number es around none = All-from_get_or (λ z. unsigned_a
 
     small_error : (m : ℕ) → m + reach a < first + number → first ≤ m + reach a → m < length bits → unsigned_abs (error_at a bits m) < 2 ^ 31
     small_error m before after inside = elim (cases_lt (unsigned_abs (error_at a bits m)) (2 ^ 31)) [
-        inl quiet ↦ quiet
+      | inl quiet ↦ quiet
       | inr loud ↦ absurd (none m (record { inside = inside; after = after; before = before; loud = loud }))
-      ]
+    ]
 
     within : (m : ℕ) → m + reach a < first + number → first ≤ m + reach a → unsigned_abs (get_or (errors a bits) m (pos 0)) < 2 ^ 31
     within m before after = elim (cases_lt m (length bits)) [
-        inl inside ↦ subst (λ z. unsigned_abs z < 2 ^ 31) (sym (get_or-map-range_with_len (error_at a bits) 0 (length bits) m m (pos 0) inside (omega arith))) (small_error m before after inside)
+      | inl inside ↦ subst (λ z. unsigned_abs z < 2 ^ 31) (sym (get_or-map-range_with_len (error_at a bits) 0 (length bits) m m (pos 0) inside (omega arith))) (small_error m before after inside)
       | inr past ↦ subst (λ z. unsigned_abs z < 2 ^ 31) (sym (get_or_past (errors a bits) m (pos 0) (omega (arith, length-map-range_with_len (error_at a bits) 0 (length bits), past)))) (omega arith)
-      ]
+    ]
 
     small : (j : ℕ) → j < number → unsigned_abs (at_place (errors a bits) (pos (first + j) -ℤ pos (reach a))) < 2 ^ 31
     small j lt = elim (cases_lt (first + j) (reach a)) [
-        inl low ↦ subst (λ z. unsigned_abs z < 2 ^ 31) (sym (at_before (errors a bits) (first + j) (reach a) low)) (omega arith)
+      | inl low ↦ subst (λ z. unsigned_abs z < 2 ^ 31) (sym (at_before (errors a bits) (first + j) (reach a) low)) (omega arith)
       | inr high ↦ subst (λ z. unsigned_abs z < 2 ^ 31) (sym (at_inside (errors a bits) (first + j) (reach a) (first + j - reach a) (omega (arith, high)))) (within (first + j - reach a) (omega (arith, high, lt)) (omega (arith, high)))
-      ]
+    ]

@@ -19,20 +19,20 @@ due_steps e n m some due due' le =
     let at : q * e + n % e ≡ n = div-add-mod' n e in
     let at' : r * e + m % e ≡ m = div-add-mod' m e in
     elim (cases_lt r q) [
-        inl less ↦ absurd (omega (arith, mul-le-mul_right e less, at, at', due, due', le, some))
+      | inl less ↦ absurd (omega (arith, mul-le-mul_right e less, at, at', due, due', le, some))
       | inr more ↦
-            let k = r - q in
-            let sum : (k + q) * e ≡ r * e = ap (λ x. x * e) {x = k + q} {y = r} (omega (arith, more)) in
-            let apart : m - n ≡ k * e + 0 = omega (arith, sum, at, at', due, due') in
-            let steps : (m - n) / e ≡ k = ap (λ x. x / e) apart ∙ div-mul-add k e 0 some in
-            ap (λ x. n + x * e) steps ∙ omega (arith, sum, at, at', due, due')
-      ]
+          let k = r - q in
+          let sum : (k + q) * e ≡ r * e = ap (λ x. x * e) {x = k + q} {y = r} (omega (arith, more)) in
+          let apart : m - n ≡ k * e + 0 = omega (arith, sum, at, at', due, due') in
+          let steps : (m - n) / e ≡ k = ap (λ x. x / e) apart ∙ div-mul-add k e 0 some in
+          ap (λ x. n + x * e) steps ∙ omega (arith, sum, at, at', due, due')
+    ]
 
 -- the next multiple of e is e more
 pub due_next : (e n m : ℕ) → 1 ≤ e → n % e ≡ 0 → m % e ≡ 0 → n < m → n + e ≤ m
 due_next e n m some due due' lt =
     let steps = due_steps e n m some due due' (omega (arith, lt)) in
     elim (cases_lt 0 ((m - n) / e)) [
-        inl more ↦ omega (arith, steps, mul-le-mul_right e more)
+      | inl more ↦ omega (arith, steps, mul-le-mul_right e more)
       | inr none ↦ absurd (omega (arith, lt, steps, mul-le-mul_right e none))
-      ]
+    ]

@@ -34,9 +34,9 @@ module _ (a : AskedContent) (bits : List Bool) where
       apart = so_far.stretches_so_far.apart;
       before = λ i s at. omega (arith, so_far.stretches_so_far.before i s at, le);
       all = λ n judged lt. elim (cases_lt n end) [
-          inl inner ↦ so_far.stretches_so_far.all n judged inner
+        | inl inner ↦ so_far.stretches_so_far.all n judged inner
         | inr past ↦ absurd (omega (arith, lt, none n judged past))
-        ];
+      ];
     };
     quiet = λ m loud. none loud.place loud.judged (so_far.quiet m loud);
   }
@@ -58,16 +58,16 @@ module _ (a : AskedContent) (bits : List Bool) where
   -- no judged place is between a place and the next multiple of `every`
   pub judged_to_first : (ss : List Stretch) (start first stop : ℕ) → 1 ≤ a.every → first % a.every ≡ 0 → start ≤ first → first < start + a.every → start ≤ stop → IsJudgedTo a bits start ss → IsJudgedTo a bits (min first stop) ss
   judged_to_first ss start first stop some due low near le so_far = judged_on ss start (min first stop) so_far (omega (arith, low, le)) (λ n judged past. elim (cases_lt n first) [
-      inl before ↦ absurd (let next = due_next a.every n first some judged.due due before in omega (arith, next, past, near))
+    | inl before ↦ absurd (let next = due_next a.every n first some judged.due due before in omega (arith, next, past, near))
     | inr after ↦ omega (arith, after)
-    ])
+  ])
 
   -- no unedited place is judged
   pub judged_over : (ss : List Stretch) (from to : ℕ) → IsJudgedTo a bits from ss → from ≤ to → AreUnedited a bits from to → IsJudgedTo a bits to ss
   judged_over ss from to so_far le unedited = judged_on ss from to so_far le (λ n judged past. elim (cases_lt n to) [
-      inl before ↦ (let own = unedited n past before in absurd (judged.edited own.0 own.1 own.2))
+    | inl before ↦ (let own = unedited n past before in absurd (judged.edited own.0 own.1 own.2))
     | inr after ↦ after
-    ])
+  ])
 
   -- the whole channel
   pub judged_all : (ss : List Stretch) → IsJudgedTo a bits (length bits) ss → AreStretchesTo a bits (length bits) ss × ((m : ℕ) → IsTooLoud a bits m → ⊥)

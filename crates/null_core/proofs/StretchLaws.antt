@@ -53,12 +53,12 @@ module _ (a : AskedContent) (bits : List Bool) where
   -- no judged place is between the last stretch and the place up to which these are the stretches
   after_last : (xs : List Stretch) (l : Stretch) (end n : ℕ) → AreStretchesTo a bits end (xs ++ l ∷ []) → IsJudged a bits n → l.last < n → end ≤ n
   after_last xs l end n are judged after = elim (cases_lt n end) [
-      inl before ↦
-          let in' = are.all n judged before in
-          let there = slice_get_within (xs ++ l ∷ []) in'.0 in'.1 in'.2 in
-          absurd (omega (arith, in'.4, after, last_is_last xs l end (length xs - in'.0) in'.0 in'.1 are (omega (arith, there, length_push xs l)) in'.2))
+    | inl before ↦
+        let in' = are.all n judged before in
+        let there = slice_get_within (xs ++ l ∷ []) in'.0 in'.1 in'.2 in
+        absurd (omega (arith, in'.4, after, last_is_last xs l end (length xs - in'.0) in'.0 in'.1 are (omega (arith, there, length_push xs l)) in'.2))
     | inr past ↦ past
-    ]
+  ]
 
   -- ---- a stretch that isn't near the others
 
@@ -67,27 +67,27 @@ module _ (a : AskedContent) (bits : List Bool) where
 
   apart_push : (xs : List Stretch) (s : Stretch) → AreApart a xs → ((l : Stretch) → slice_get xs (length xs - 1) ≡ Some l → l.last + length a.audible < s.first) → AreApart a (xs ++ s ∷ [])
   apart_push xs s apart far i t u at next = elim (get_cases xs s u (i + 1) next) [
-      inl old ↦ elim (get_cases xs s t i at) [ inl w ↦ apart i t u w.1 old.1 | inr w ↦ absurd (omega (arith, w.0, old.0)) ]
+    | inl old ↦ elim (get_cases xs s t i at) [ inl w ↦ apart i t u w.1 old.1 | inr w ↦ absurd (omega (arith, w.0, old.0)) ]
     | inr new ↦ elim (get_cases xs s t i at) [
-          inl w ↦
-              let l = far t (subst (λ k. slice_get xs k ≡ Some t) {x = i} {y = length xs - 1} (omega (arith, new.0)) w.1) in
-              subst (λ (v : Stretch). t.last + length a.audible < v.first) new.1 l
-        | inr w ↦ absurd (omega (arith, w.0, new.0))
-        ]
+      | inl w ↦
+          let l = far t (subst (λ k. slice_get xs k ≡ Some t) {x = i} {y = length xs - 1} (omega (arith, new.0)) w.1) in
+          subst (λ (v : Stretch). t.last + length a.audible < v.first) new.1 l
+      | inr w ↦ absurd (omega (arith, w.0, new.0))
     ]
+  ]
 
   pub add_apart : (xs : List Stretch) (s : Stretch) → IsStretch a bits s → AreStretchesTo a bits s.first xs → ((l : Stretch) → slice_get xs (length xs - 1) ≡ Some l → l.last + length a.audible < s.first) → AreStretchesTo a bits (s.last + 1) (xs ++ s ∷ [])
   add_apart xs s is are far = record {
     each = All-push (IsStretch a bits) xs s are.each is;
     apart = apart_push xs s are.apart far;
     before = λ i t at. elim (get_cases xs s t i at) [
-        inl w ↦ omega (arith, are.before i t w.1, in_order s is)
+      | inl w ↦ omega (arith, are.before i t w.1, in_order s is)
       | inr w ↦ subst (λ (v : Stretch). v.last < s.last + 1) w.1 (omega arith)
-      ];
+    ];
     all = λ n judged lt. elim (cases_lt n s.first) [
-        inl before ↦ covered_push xs s n (are.all n judged before)
+      | inl before ↦ covered_push xs s n (are.all n judged before)
       | inr from ↦ (length xs, s, get_new xs s, from, omega (arith, lt))
-      ];
+    ];
   }
 
   -- ---- a stretch that is near the last one
@@ -103,31 +103,31 @@ module _ (a : AskedContent) (bits : List Bool) where
 
   apart_joined : (xs : List Stretch) (l j : Stretch) → j.first ≡ l.first → AreApart a (xs ++ l ∷ []) → AreApart a (xs ++ j ∷ [])
   apart_joined xs l j same apart i t u at next = elim (get_cases xs j t i at) [
-      inl w ↦ elim (get_cases xs j u (i + 1) next) [
-          inl v ↦ apart i t u (get_old xs l t i w.1) (get_old xs l u (i + 1) v.1)
-        | inr v ↦
-              let here : slice_get (xs ++ l ∷ []) (i + 1) ≡ Some l = subst (λ k. slice_get (xs ++ l ∷ []) k ≡ Some l) {x = length xs} {y = i + 1} (omega (arith, v.0)) (get_new xs l) in
-              let far = apart i t l (get_old xs l t i w.1) here in
-              subst (λ (v' : Stretch). t.last + length a.audible < v'.first) v.1 (omega (arith, far, same))
-        ]
-    | inr w ↦ elim (get_cases xs j u (i + 1) next) [ inl v ↦ absurd (omega (arith, w.0, v.0)) | inr v ↦ absurd (omega (arith, w.0, v.0)) ]
+    | inl w ↦ elim (get_cases xs j u (i + 1) next) [
+      | inl v ↦ apart i t u (get_old xs l t i w.1) (get_old xs l u (i + 1) v.1)
+      | inr v ↦
+          let here : slice_get (xs ++ l ∷ []) (i + 1) ≡ Some l = subst (λ k. slice_get (xs ++ l ∷ []) k ≡ Some l) {x = length xs} {y = i + 1} (omega (arith, v.0)) (get_new xs l) in
+          let far = apart i t l (get_old xs l t i w.1) here in
+          subst (λ (v' : Stretch). t.last + length a.audible < v'.first) v.1 (omega (arith, far, same))
     ]
+    | inr w ↦ elim (get_cases xs j u (i + 1) next) [ inl v ↦ absurd (omega (arith, w.0, v.0)) | inr v ↦ absurd (omega (arith, w.0, v.0)) ]
+  ]
 
   pub add_near : (xs : List Stretch) (l s j : Stretch) → IsStretch a bits s → AreStretchesTo a bits s.first (xs ++ l ∷ []) → s.first ≤ l.last + length a.audible → IsJoined l s j → AreStretchesTo a bits (s.last + 1) (xs ++ j ∷ [])
   add_near xs l s j is are near joined = record {
     each = λ k d lt. elim (cases_lt k (length xs)) [
-        inl old ↦ old_is k d old
+      | inl old ↦ old_is k d old
       | inr last ↦ subst (IsStretch a bits) (sym (get_or_from_slice_get (xs ++ j ∷ []) k j d (subst (λ i. slice_get (xs ++ j ∷ []) i ≡ Some j) {x = length xs} {y = k} (omega (arith, last, lt, length_push xs j)) (get_new xs j)))) (joined.stretch a bits (are_near xs l s is are near))
-      ];
+    ];
     apart = apart_joined xs l j joined.first are.apart;
     before = λ i t at. elim (get_cases xs j t i at) [
-        inl w ↦ omega (arith, are.before i t (get_old xs l t i w.1), in_order s is)
+      | inl w ↦ omega (arith, are.before i t (get_old xs l t i w.1), in_order s is)
       | inr w ↦ subst (λ (v : Stretch). v.last < s.last + 1) w.1 (omega (arith, joined.last))
-      ];
+    ];
     all = λ n judged lt. elim (cases_lt n s.first) [
-        inl before ↦ covers n (are.all n judged before)
+      | inl before ↦ covers n (are.all n judged before)
       | inr from ↦ (length xs, j, get_new xs j, omega (arith, from, joined.first, (are_near xs l s is are near).before, in_order l (are_near xs l s is are near).one), omega (arith, lt, joined.last))
-      ];
+    ];
   }
     where
       old_is : (k : ℕ) (d : Stretch) → k < length xs → IsStretch a bits (get_or (xs ++ j ∷ []) k d)
@@ -139,12 +139,12 @@ module _ (a : AskedContent) (bits : List Bool) where
 
       covers : (n : ℕ) → IsCovered (xs ++ l ∷ []) n → IsCovered (xs ++ j ∷ []) n
       covers n in' = elim (get_cases xs l in'.1 in'.0 in'.2) [
-          inl w ↦ (in'.0, in'.1, get_old xs j in'.1 in'.0 w.1, in'.3, in'.4)
+        | inl w ↦ (in'.0, in'.1, get_old xs j in'.1 in'.0 w.1, in'.3, in'.4)
         | inr w ↦
-              let low : l.first ≤ n = subst (λ (v : Stretch). v.first ≤ n) (sym w.1) in'.3 in
-              let high : n ≤ l.last = subst (λ (v : Stretch). n ≤ v.last) (sym w.1) in'.4 in
-              (length xs, j, get_new xs j, omega (arith, low, joined.first), omega (arith, high, joined.last, (are_near xs l s is are near).before, in_order s is))
-        ]
+            let low : l.first ≤ n = subst (λ (v : Stretch). v.first ≤ n) (sym w.1) in'.3 in
+            let high : n ≤ l.last = subst (λ (v : Stretch). n ≤ v.last) (sym w.1) in'.4 in
+            (length xs, j, get_new xs j, omega (arith, low, joined.first), omega (arith, high, joined.last, (are_near xs l s is are near).before, in_order s is))
+      ]
 
   -- ---- two stretches as one
 
@@ -152,21 +152,21 @@ module _ (a : AskedContent) (bits : List Bool) where
     -- a judged place of both is in one of them
     split : (n : ℕ) → IsJudgedFrom a bits s.first t.last n → IsJudgedFrom a bits s.first s.last n ⊎ IsJudgedFrom a bits t.first t.last n
     split n in' = elim (cases_lt s.last n) [
-        inl after ↦ inr (wider _ _ _ _ n in' (are.between n in'.judged after) in'.to)
+      | inl after ↦ inr (wider _ _ _ _ n in' (are.between n in'.judged after) in'.to)
       | inr before ↦ inl (wider _ _ _ _ n in' in'.from before)
-      ]
+    ]
 
     goes_on : (n : ℕ) → HasNext a bits s.last n → HasNext a bits t.last n
     goes_on n h = record { next = h.next; judged = wider _ _ _ _ h.next h.judged h.judged.from (omega (arith, h.judged.to, are.before, in_order t are.other)); near = h.near }
 
     near_in_both : (n : ℕ) → IsJudgedFrom a bits s.first t.last n → n < t.last → HasNext a bits t.last n
     near_in_both n in' lt = elim (split n in') [
-        inl one ↦ elim (cases_lt n s.last) [
-            inl inner ↦ goes_on n (are.one.near n one inner)
-          | inr edge ↦ record { next = t.first; judged = record { judged = are.other.first.judged; from = omega (arith, one.to, are.before); to = in_order t are.other }; near = omega (arith, edge, are.near) }
-          ]
-      | inr other ↦ are.other.near n other lt
+      | inl one ↦ elim (cases_lt n s.last) [
+        | inl inner ↦ goes_on n (are.one.near n one inner)
+        | inr edge ↦ record { next = t.first; judged = record { judged = are.other.first.judged; from = omega (arith, one.to, are.before); to = in_order t are.other }; near = omega (arith, edge, are.near) }
       ]
+      | inr other ↦ are.other.near n other lt
+    ]
 
     -- the first of the two has a residual that is at least as great
     earlier_wins : t.residual ≤ s.residual → IsGreatest a bits s.first t.last s.residual s.place
@@ -212,9 +212,9 @@ adds_near number s l j old xs new was now near joined = λ a bits e is are.
 pub adds_apart : (number : ℕ) (s l : Stretch) (old xs mid new : List Stretch) → old ≡ xs ++ l ∷ [] → mid ≡ xs ++ l ∷ [] → new ≡ mid ++ s ∷ [] → number < s.first - l.last → AddsStretch number s old new
 adds_apart number s l old xs mid new was same now far = λ a bits e is are.
     subst (AreStretchesTo a bits (s.last + 1)) (sym now) (add_apart a bits mid s is (subst (AreStretchesTo a bits s.first) (was ∙ sym same) are) (λ k at.
-        let last : slice_get mid (length mid - 1) ≡ Some l = last_of mid xs l same in
-        let is_last = same_Some l k (sym last ∙ at) in
-        subst (λ (v : Stretch). v.last + length a.audible < s.first) is_last (omega (arith, far, e))))
+    let last : slice_get mid (length mid - 1) ≡ Some l = last_of mid xs l same in
+    let is_last = same_Some l k (sym last ∙ at) in
+    subst (λ (v : Stretch). v.last + length a.audible < s.first) is_last (omega (arith, far, e))))
   where
     last_of : (mid xs : List Stretch) (l : Stretch) → mid ≡ xs ++ l ∷ [] → slice_get mid (length mid - 1) ≡ Some l
     last_of mid xs l same = subst (λ ys. slice_get ys (length ys - 1) ≡ Some l) (sym same) (subst (λ k. slice_get (xs ++ l ∷ []) k ≡ Some l) {x = length xs} {y = length (xs ++ l ∷ []) - 1} (omega (arith, length_push xs l)) (get_new xs l))

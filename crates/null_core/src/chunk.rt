@@ -5,8 +5,8 @@ ghost use Rattle.null_core.specs.Chunks.{IsChunk, JudgesChunk};
 ghost use Rattle.null_core.specs.Judging.{IsQuietTo};
 ghost use Rattle.null_core.specs.Parts.{IsAsked, asked_content};
 
-use crate::asked::Asked;
 use crate::around::list_errors_around;
+use crate::asked::Asked;
 use crate::peak::peak_of;
 use crate::stretch::Stretch;
 use dsd_bits::Bits;
@@ -21,7 +21,7 @@ pub(crate) struct Chunk {
     pub last: usize,
 }
 
-/// Memory that each chunk uses again.
+/// Memory that each chunk uses again. A chunk spans at most `2^16` places, and the windows read fewer than that beyond it.
 #[derive(Drop)]
 pub(crate) struct Workspace {
     /// The errors that the windows read.
@@ -46,7 +46,14 @@ pub(crate) fn judge_chunk(
     let every = asked.every;
     let span = chunk.last - chunk.first;
     let errors = &mut workspace.errors;
-    let loud = list_errors_around(alloc, errors, asked, bits, chunk.first, span + asked.audible.len())?;
+    let loud = list_errors_around(
+        alloc,
+        errors,
+        asked,
+        bits,
+        chunk.first,
+        span + asked.audible.len(),
+    )?;
     if let Some(place) = loud {
         return Ok(Err(place));
     }

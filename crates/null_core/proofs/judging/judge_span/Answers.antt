@@ -1,6 +1,7 @@
-use Rattle.std.proofs.Common.{◌-◌, ◌%◌, sym, subst, arith}
+use Rattle.std.proofs.Common.{◌-◌, ◌%◌, min, sym, subst, arith}
 use Rattle.std.proofs.lemmas.Nat.{mod_below}
 use Rattle.null_core.specs.Chunks.{JudgesChunk}
+use Rattle.null_core.specs.Judging.{IsJudgedTo}
 use Rattle.null_core.specs.Parts.{asked_content}
 use Rattle.null_core.proofs.DueLaws.{due_once}
 use Rattle.null_core.proofs.SpanLaws.{judged_chunk, judged_to_due, judged_to_first}
@@ -37,3 +38,12 @@ loop-first-preserved c =
           (judged_chunk a bits c.loop-first.stretches.items c.join_stretch.new.stretches.items (record { first = c.loop-first.first; last = c.chunk_end-last.result }) c.in-Ok.stretch c.len-tap_number.result c.args.span.stop (sym c.len-tap_number.ensures.value) c.loop-first-test.true c.loop-first.invariant.so_far made c.in_ok-join_stretch-in-Ok.ensures)
           last.before;
     }
+
+pub returns-in-Err : goal.returns-in-Err
+returns-in-Err c = subst (JudgesChunk (asked_content c.args.asked) c.args.bits.now (record { first = c.loop-first.first; last = c.chunk_end-last.result })) c.in-Err.is c.in_ok-place.ensures
+
+pub returns : goal.returns
+returns c =
+    let last = c.loop-first-test.false in
+    let so_far = c.loop-first.invariant.so_far in
+    subst (λ n. IsJudgedTo (asked_content c.args.asked) c.args.bits.now n c.loop-first.stretches.items) {x = min c.loop-first.first c.args.span.stop} {y = c.args.span.stop} (omega (arith, last)) so_far

@@ -1,4 +1,4 @@
-use Rattle.std.proofs.Common.{◌≡◌, ℕ, ◌+◌, ◌<◌, ◌≤◌, ℤ, pos, FitsSigned, unsigned_abs, w64, to_z, of_z, length, get_or, ap, sym, subst, ◌∙◌, arith, rules}
+use Rattle.std.proofs.Common.{◌≡◌, ℕ, ◌+◌, ◌<◌, ℤ, pos, FitsSigned, unsigned_abs, w64, to_z, of_z, length, get_or, ap, sym, subst, ◌∙◌, arith, rules}
 use Rattle.std.specs.Cmp.{IsStrictWeakOrder}
 use Rattle.std.specs.List.{IsFirstBest}
 use Rattle.std.proofs.lemmas.Bool.{le-ltb, lt-ltb}
@@ -31,6 +31,6 @@ loop-i-preserved c =
     let x = get_or_default sums i (pos 0) (get_or sums i (pos 0)) c.loop-i-test.true in
     let y = get_or_default sums best (pos 0) (get_or sums best (pos 0)) there in
     elim c.if-unsigned_abs.branch [
-        then-unsigned_abs w ↦ subst (IsFirstBest is_louder sums (i + 1)) (sym w.best-is) (IsFirstBest-takes order sums i best (get_or sums i (pos 0)) (get_or sums best (pos 0)) c.loop-i.invariant c.loop-i-test.true x y (lt-ltb _ _ (omega (arith, new, old, w.if-unsigned_abs.true))))
+      | then-unsigned_abs w ↦ subst (IsFirstBest is_louder sums (i + 1)) (sym w.best-is) (IsFirstBest-takes order sums i best (get_or sums i (pos 0)) (get_or sums best (pos 0)) c.loop-i.invariant c.loop-i-test.true x y (lt-ltb _ _ (omega (arith, new, old, w.if-unsigned_abs.true))))
       | else-unsigned_abs w ↦ subst (IsFirstBest is_louder sums (i + 1)) (sym w.best-is) (IsFirstBest-keeps order sums i best (get_or sums i (pos 0)) (get_or sums best (pos 0)) c.loop-i.invariant c.loop-i-test.true x y (le-ltb _ _ (omega (arith, new, old, w.if-unsigned_abs.false))))
-      ]
+    ]

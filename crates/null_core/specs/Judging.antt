@@ -1,12 +1,10 @@
 -- What is found in a channel.
-use Rattle.std.specs.Prelude.{◌≡◌, ℕ, ◌+◌, ◌-◌, ◌<◌, ◌≤◌, ◌++◌, ℤ, pos, ◌+ℤ◌, ◌-ℤ◌, Bool, List, length, map, unsigned_abs, ◌^◌, MatchOption, MatchResult, Option, Result, Ok, Err, Vec}
+use Rattle.std.specs.Prelude.{◌≡◌, ℕ, ◌-◌, ◌^◌, ◌<◌, ◌≤◌, ◌++◌, ℤ, unsigned_abs, Bool, List, MatchOption, MatchResult, Option, Result, Ok, Err, Vec}
 use Rattle.std.specs.declared.alloc.Global.{Global}
-use Rattle.std.specs.List.{range_with_len}
-use Rattle.heard_core.specs.Residuals.{at_place}
 use Rattle.null_core.specs.declared.stretch.Stretch.{Stretch}
-use Rattle.null_core.specs.Errors.{IsLoud, error_at, errors, errors_from}
-use Rattle.null_core.specs.Judged.{IsJudged, IsTooLoud}
-use Rattle.null_core.specs.Parts.{AskedContent, reach}
+use Rattle.null_core.specs.Errors.{IsLoud, error_at, errors_from}
+use Rattle.null_core.specs.Judged.{IsTooLoud}
+use Rattle.null_core.specs.Parts.{AskedContent}
 use Rattle.null_core.specs.Stretches.{AreStretches, AreStretchesTo}
 
 -- P holds of a place and of none before it
@@ -31,13 +29,18 @@ AppendErrors a bits from to old new loud = MatchOption loud
     ((new ≡ old ++ errors_from a bits from (to - from)) × ((m : ℕ) → IsLoudIn a bits from to m → ⊥))
     (IsFirst (IsLoudIn a bits from to))
 
--- the errors that a window reads which begins `reach` places before a place, 0 outside of the master
-abbrev pub errors_around : AskedContent → List Bool → ℕ → ℕ → List ℤ
-errors_around a bits n number = map (λ j. at_place (errors a bits) (pos (n + j) -ℤ pos (reach a))) (range_with_len 0 number)
-
--- no error before a place is too loud
+-- no judged place before a place reaches an error that is too large
 abbrev pub IsQuietTo : AskedContent → List Bool → ℕ → Type 0
-IsQuietTo a bits end = (m : ℕ) → IsTooLoud a bits m → m < end → ⊥
+IsQuietTo a bits end = (m : ℕ) (loud : IsTooLoud a bits m) → end ≤ loud.place
+
+-- the channel is judged up to a place: these are its stretches, and no place is too loud
+pub record IsJudgedTo (a : AskedContent) (bits : List Bool) (end : ℕ) (stretches : List Stretch) : Type 0 where
+  pub stretches_so_far : AreStretchesTo a bits end stretches
+  pub quiet : IsQuietTo a bits end
+
+-- the channel is judged up to a place; or the first place that is too loud was found
+abbrev pub JudgesSpan : AskedContent → List Bool → ℕ → List Stretch → Option ℕ → Type 0
+JudgesSpan a bits end stretches loud = MatchOption loud (IsJudgedTo a bits end stretches) (IsFirst (IsTooLoud a bits))
 
 -- what was found, its stretches as a list
 abbrev pub judged_items : Result (Vec Stretch Global) ℕ → Result (List Stretch) ℕ

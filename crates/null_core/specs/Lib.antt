@@ -1,9 +1,11 @@
 pub mod Alone
 pub mod Asking
+pub mod Chunks
 pub mod Errors
 pub mod Holding
 pub mod Judged
 pub mod Judging
+pub mod Laws
 pub mod Mixing
 pub mod Own
 pub mod Parts

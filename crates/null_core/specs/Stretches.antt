@@ -1,5 +1,5 @@
 -- Stretches: judged places near each other, and the greatest residual there.
-use Rattle.std.specs.Prelude.{◌≡◌, ℕ, ◌+◌, ◌<◌, ◌≤◌, Bool, List, All, length, slice_get, Some}
+use Rattle.std.specs.Prelude.{◌≡◌, ℕ, ◌+◌, ◌<◌, ◌≤◌, max, Bool, List, [], ◌∷◌, All, length, slice_get, Some}
 use Rattle.null_core.specs.declared.stretch.Stretch.{Stretch}
 use Rattle.null_core.specs.Errors.{residual_size}
 use Rattle.null_core.specs.Judged.{IsJudged}
@@ -50,3 +50,26 @@ pub record AreStretchesTo (a : AskedContent) (bits : List Bool) (end : ℕ) (str
 -- the stretches of a channel
 abbrev pub AreStretches : AskedContent → List Bool → List Stretch → Type 0
 AreStretches a bits stretches = AreStretchesTo a bits (length bits) stretches
+
+-- the greatest residual of some stretches, 0 if there are none
+abbrev pub greatest_residual : List Stretch → ℕ
+greatest_residual [] = 0
+greatest_residual (s ∷ stretches) = max s.residual (greatest_residual stretches)
+
+-- a stretch and the one that is next to it: no judged place is between them, and fewer places than `audible` has taps
+pub record AreNear (a : AskedContent) (bits : List Bool) (s t : Stretch) : Type 0 where
+  pub one : IsStretch a bits s
+  pub other : IsStretch a bits t
+  pub before : s.last < t.first
+  pub near : t.first ≤ s.last + length a.audible
+  pub between : (n : ℕ) → IsJudged a bits n → s.last < n → t.first ≤ n
+
+-- two stretches that are near each other are one
+pub record IsJoined (s t joined : Stretch) : Type 0 where
+  pub first : joined.first ≡ s.first
+  pub last : joined.last ≡ t.last
+  pub stretch : (a : AskedContent) (bits : List Bool) → AreNear a bits s t → IsStretch a bits joined
+
+-- a stretch that follows the others was added to them
+abbrev pub AddsStretch : ℕ → Stretch → List Stretch → List Stretch → Type 0
+AddsStretch tap_number next old new = (a : AskedContent) (bits : List Bool) → length a.audible ≡ tap_number → IsStretch a bits next → AreStretchesTo a bits next.first old → AreStretchesTo a bits (next.last + 1) new

@@ -1,0 +1,35 @@
+//! The errors that windows read.
+
+ghost use Rattle.std.specs.Prelude.{◌^◌, ◌≤◌, IfOk, length};
+ghost use Rattle.null_core.specs.Chunks.{ListsErrors};
+ghost use Rattle.null_core.specs.Parts.{IsAsked, asked_content};
+
+use crate::asked::Asked;
+use crate::errors::push_errors;
+use dsd_bits::Bits;
+use std::alloc::{AllocError, Global};
+
+/// Lists the errors that windows read which begin `reach` places before place `first`: 0 outside of the master. If one
+/// is `2^31` or more in absolute value, the first such place is returned, and what is listed is of no use.
+pub(crate) fn list_errors_around(
+    alloc: Global,
+    errors: &mut Vec<i32>,
+    asked: Asked<'_>,
+    bits: &Bits,
+    first: usize,
+    number: usize,
+) -> Result<Option<usize>, AllocError>
+    requires asked { IsAsked (asked_content asked) }
+    requires inside { first ≤ length bits.now }
+    requires small { number ≤ 2 ^ 17 }
+    ensures { IfOk result (ListsErrors (asked_content asked.entry) bits.now first number errors.new.items) }
+{
+    let reach = asked.audible.len() / 2;
+    let count = bits.len();
+    let end = (first + number).saturating_sub(reach).min(count);
+    errors.clear();
+    errors.resize(reach.saturating_sub(first), 0)?;
+    let loud = push_errors(alloc, errors, asked, bits, first.saturating_sub(reach), end)?;
+    errors.resize(number, 0)?;
+    Ok(loud)
+}

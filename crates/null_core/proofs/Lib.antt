@@ -4,3 +4,5 @@ pub mod GainLaws
 pub mod MidLaws
 pub mod PartLaws
 pub mod SmallLaws
+pub mod ExcerptLaws
+pub mod LikeLaws

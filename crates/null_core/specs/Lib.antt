@@ -3,6 +3,8 @@ pub mod Errors
 pub mod Holding
 pub mod Judged
 pub mod Judging
+pub mod Laws
+pub mod Likeness
 pub mod Mixing
 pub mod Own
 pub mod Parts

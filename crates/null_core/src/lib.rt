@@ -6,6 +6,7 @@ mod asked;
 mod edited;
 mod errors;
 mod judging;
+mod laws;
 mod mixing;
 mod own;
 mod part;

@@ -5,4 +5,5 @@ pub mod MidLaws
 pub mod PartLaws
 pub mod SmallLaws
 pub mod ExcerptLaws
+pub mod HoldingLaws
 pub mod LikeLaws

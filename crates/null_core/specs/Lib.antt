@@ -1,5 +1,6 @@
 pub mod Asking
 pub mod Errors
+pub mod Fitting
 pub mod Holding
 pub mod Judged
 pub mod Judging
@@ -8,5 +9,6 @@ pub mod Likeness
 pub mod Mixing
 pub mod Own
 pub mod Parts
+pub mod Reading
 pub mod Stretches
 pub mod Walks

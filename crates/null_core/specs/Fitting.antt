@@ -39,18 +39,18 @@ pub record ClipFits (shapes : ℕ → TakeShape) (c : ClipContent) : Type 0 wher
   pub inside : EndsInside shapes c
   pub gains : AreForChannels (shapes 0).channels c.gains
 
--- the takes of a mix are alike
-abbrev pub AreAlike : MixContent → (ℕ → TakeShape) → Type 0
-AreAlike mix shapes = (number : ℕ) → number < length mix.takes → IsLikeFirst shapes number
+-- the first takes, as many as this, are alike
+abbrev pub AreAlike : ℕ → (ℕ → TakeShape) → Type 0
+AreAlike takes shapes = (number : ℕ) → number < takes → IsLikeFirst shapes number
 
 -- takes of these shapes fit the mix: they are alike, and each clip fits
 pub record ShapesFit (mix : MixContent) (shapes : ℕ → TakeShape) : Type 0 where
-  pub alike : AreAlike mix shapes
+  pub alike : AreAlike (length mix.takes) shapes
   pub each_fits : (i : ℕ) → i < length mix.clips → ClipFits shapes (clip_at mix i)
 
--- a take isn't like the first
-pub record IsUnlike (mix : MixContent) (shapes : ℕ → TakeShape) (number : ℕ) : Type 0 where
-  pub there : number < length mix.takes
+-- one of this many takes isn't like the first
+pub record IsUnlike (takes : ℕ) (shapes : ℕ → TakeShape) (number : ℕ) : Type 0 where
+  pub there : number < takes
   pub unlike : IsLikeFirst shapes number → ⊥
 
 -- a clip doesn't fit
@@ -60,12 +60,12 @@ pub record IsMisfit (mix : MixContent) (shapes : ℕ → TakeShape) (i : ℕ) : 
 
 -- the takes are alike, and this is the first clip that doesn't fit
 pub record IsFirstMisfit (mix : MixContent) (shapes : ℕ → TakeShape) (i : ℕ) : Type 0 where
-  pub alike : AreAlike mix shapes
+  pub alike : AreAlike (length mix.takes) shapes
   pub first : IsFirst (IsMisfit mix shapes) i
 
 -- the first fault of takes of these shapes
 abbrev pub IsFaultOf : MixContent → (ℕ → TakeShape) → MixedFault → Type 0
-IsFaultOf mix shapes (TakeMismatch number) = IsFirst (IsUnlike mix shapes) number
+IsFaultOf mix shapes (TakeMismatch number) = IsFirst (IsUnlike (length mix.takes) shapes) number
 IsFaultOf mix shapes (ClipOutside i) = IsFirstMisfit mix shapes i × (EndsInside shapes (clip_at mix i) → ⊥)
 IsFaultOf mix shapes (ClipGains i) = IsFirstMisfit mix shapes i × EndsInside shapes (clip_at mix i)
 IsFaultOf mix shapes Memory = ⊥

@@ -6,6 +6,7 @@ mod asked;
 mod edited;
 mod errors;
 mod fault;
+mod fitting;
 mod judging;
 mod laws;
 mod mixing;

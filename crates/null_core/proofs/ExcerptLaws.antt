@@ -11,7 +11,7 @@ use Rattle.heard_core.specs.Sounds.{decoded}
 use Rattle.null_core.specs.Likeness.{AreAskedAlike, AreExcerptsOf, IsExcerptOf, SoundAlike}
 use Rattle.null_core.specs.Parts.{AskedContent, PartContent, added, has_place, part_bit, part_gain}
 
-length-slice : (xs : List Bool) (s t : ℕ) → length (slice_range xs s t) ≡ min (t - s) (length xs - s)
+pub length-slice : (xs : List Bool) (s t : ℕ) → length (slice_range xs s t) ≡ min (t - s) (length xs - s)
 length-slice xs s t = omega (arith, length-take (t - s) (drop s xs), length-drop s xs)
 
 slice_at : (xs : List Bool) (s t i : ℕ) → i < t - s → get_or (slice_range xs s t) i false ≡ get_or xs (s + i) false

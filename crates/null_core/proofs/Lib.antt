@@ -3,6 +3,7 @@ pub mod ErrorLaws
 pub mod GainLaws
 pub mod MidLaws
 pub mod PartLaws
+pub mod ReadingLaws
 pub mod SmallLaws
 pub mod ExcerptLaws
 pub mod HoldingLaws

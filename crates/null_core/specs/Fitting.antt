@@ -69,8 +69,3 @@ IsFaultOf mix shapes (TakeMismatch number) = IsFirst (IsUnlike (length mix.takes
 IsFaultOf mix shapes (ClipOutside i) = IsFirstMisfit mix shapes i × (EndsInside shapes (clip_at mix i) → ⊥)
 IsFaultOf mix shapes (ClipGains i) = IsFirstMisfit mix shapes i × EndsInside shapes (clip_at mix i)
 IsFaultOf mix shapes Memory = ⊥
-
--- memory ran out, or this is the first fault of takes of these shapes
-abbrev pub IsFaultOrMemory : MixContent → (ℕ → TakeShape) → MixedFault → Type 0
-IsFaultOrMemory mix shapes Memory = ⊤
-IsFaultOrMemory mix shapes fault = IsFaultOf mix shapes fault

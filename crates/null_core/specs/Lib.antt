@@ -11,4 +11,5 @@ pub mod Own
 pub mod Parts
 pub mod Reading
 pub mod Stretches
+pub mod View
 pub mod Walks

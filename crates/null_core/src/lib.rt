@@ -3,12 +3,14 @@
 
 mod alone;
 mod asked;
+mod channels;
 mod edited;
 mod errors;
 mod fault;
 mod fitting;
 mod judging;
 mod laws;
+mod mixed;
 mod mixing;
 mod own;
 mod part;
@@ -21,6 +23,7 @@ pub use edited::Span;
 pub use fault::MixedFault;
 pub use judging::judge_channel;
 pub use laws::{alike_are_judged_alike, excerpts_sound_alike};
+pub use mixed::{Mixed, take_excerpts};
 pub use own::OwnRun;
 pub use part::Part;
 pub use ranges::ranges_of;

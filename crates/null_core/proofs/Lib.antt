@@ -1,4 +1,5 @@
 pub mod UnitLaws
+pub mod ChannelLaws
 pub mod ErrorLaws
 pub mod GainLaws
 pub mod MidLaws

@@ -1,5 +1,5 @@
 -- What was read of takes has their shapes, and the bits that clips need.
-use Rattle.std.proofs.Common.{◌≡◌, ℕ, ◌+◌, ◌-◌, ◌<◌, ◌≤◌, Bool, inl, inr, List, [], length, map, get_or, slice_range, replicate, refl, sym, ap, subst, ◌∙◌, arith, eq-eqb, All, ◌==◌}
+use Rattle.std.proofs.Common.{◌≡◌, ℕ, ◌+◌, ◌-◌, ◌<◌, ◌≤◌, Bool, inl, inr, List, [], length, map, get_or, slice_range, replicate, refl, sym, ap, subst, ◌∙◌, arith, eq-eqb, All, ◌==◌, ◌^◌}
 use Rattle.std.proofs.lemmas.Bool.{and_from, cases_lt, cond-true}
 use Rattle.std.proofs.lemmas.List.{get_or-map, get_or_past, length-map, length-replicate}
 use Rattle.std.proofs.lemmas.List.FromFn.{get_or-map-range_with_len, length-map-range_with_len}
@@ -8,8 +8,9 @@ use Rattle.dsd_bits.specs.Channels.{count_of}
 use Rattle.dsd_bits.specs.Contents.{Content}
 use Rattle.dsd_bits.specs.Shape.{HasShape}
 use Rattle.dsd_bits.specs.Stretches.{stretch_of}
-use Rattle.clip_core.specs.Clips.{IsClipWithin}
-use Rattle.clip_core.specs.Mixes.{MixContent}
+use Rattle.clip_core.specs.Clips.{IsClipWithin, points_of}
+use Rattle.clip_core.specs.Gains.{ArePoints}
+use Rattle.clip_core.specs.Mixes.{AreTaps, IsMixing, MixContent}
 use Rattle.cut_core.specs.Cuts.{each_below, take_at}
 use Rattle.cut_core.specs.Excerpts.{ExcerptsContent, TakeShape, excerpts_at, excerpts_content, excerpts_shape}
 use Rattle.cut_core.specs.declared.excerpts.Excerpts.{Excerpts}
@@ -17,6 +18,7 @@ use Rattle.null_core.specs.Fitting.{IsFaultOf, ShapesFit, read_shapes, shapes_of
 use Rattle.null_core.specs.Asking.{part_of}
 use Rattle.null_core.specs.Holding.{AreExcerpts, clip_at, clip_range, excerpts_of, is_kept, range_of, ranges_of}
 use Rattle.null_core.specs.Likeness.{IsExcerptOf}
+use Rattle.null_core.specs.Parts.{IsPart, PartContent}
 use Rattle.null_core.specs.Reading.{HasBits, IsFaultOfTakes, IsHolder, IsMixed, IsReadOf, MixedContent, TakesFit, bits_at, channels_of, mixed_of}
 use Rattle.null_core.proofs.ExcerptLaws.{length-slice}
 use Rattle.null_core.proofs.HoldingLaws.{Serves, holder_below, holder_kept, serving}
@@ -52,6 +54,13 @@ module _ (mixed : MixedContent) (takes : List Content) (of : IsReadOf mixed take
   shapes_are j number = shape_is number j
 
 -- ---- what was read for a clip
+-- clip i as a channel has it, with the bits that were read for clip `held`
+abbrev pub held_part : MixedContent → ℕ → ℕ → ℕ → PartContent
+held_part mixed channel i held = record (part_of mixed.mix [] channel (clip_at mixed.mix i)) {
+  bits = bits_at mixed.read (clip_at mixed.mix i).take held channel;
+  start = (clip_at mixed.mix i).start - (clip_range mixed.mix held).start;
+}
+
 module _ (mixed : MixedContent) (is : IsMixed mixed) (takes : List Content) (of : IsReadOf mixed takes) where
   pub as_many : length takes ≡ length mixed.mix.takes
   as_many = sym (read_long mixed takes of) ∙ read_long mixed is.takes is.read ∙ is.as_many
@@ -59,15 +68,18 @@ module _ (mixed : MixedContent) (is : IsMixed mixed) (takes : List Content) (of 
   pub fit : ShapesFit mixed.mix (shapes_of takes)
   fit = subst (ShapesFit mixed.mix) (sym (shapes_are mixed is.takes is.read) ∙ shapes_are mixed takes of) is.fit
 
-  module _ (within : All (IsClipWithin (length mixed.mix.takes) (length mixed.mix.decoders)) mixed.mix.clips) (channel i held : ℕ) (there : i < length mixed.mix.clips) (channel_there : channel < channels_of mixed) (holder : IsHolder mixed.mix i held) where
+  module _ (mixing : IsMixing mixed.mix) (channel i held : ℕ) (there : i < length mixed.mix.clips) (channel_there : channel < channels_of mixed) (holder : IsHolder mixed.mix i held) where
     abbrev t : ℕ
     t = (clip_at mixed.mix i).take
 
     abbrev zs : List (List Bool)
     zs = (take_at takes t).channels
 
-    pub take_there : t < length takes
-    take_there = let fits = All-get_or (IsClipWithin (length mixed.mix.takes) (length mixed.mix.decoders)) mixed.mix.clips i _ there within in omega (arith, fits.take_is_there, as_many)
+    within : IsClipWithin (length mixed.mix.takes) (length mixed.mix.decoders) (clip_at mixed.mix i)
+    within = All-get_or (IsClipWithin (length mixed.mix.takes) (length mixed.mix.decoders)) mixed.mix.clips i _ there mixing.each_fits
+
+    take_there : t < length takes
+    take_there = omega (arith, within.take_is_there, as_many)
 
     channels_are : length zs ≡ channels_of mixed
     channels_are = (fit.alike t (omega (arith, take_there, as_many))).as_many_channels ∙ sym (ap (λ (s : ℕ → TakeShape). (s 0).channels) (shapes_are mixed takes of))
@@ -92,7 +104,7 @@ module _ (mixed : MixedContent) (is : IsMixed mixed) (takes : List Content) (of 
         ∙ get_or-map (stretch_of zs) (ranges_of mixed.mix t) held (record { start = 0; stop = 0 }) [] (omega (arith, ranges_long, held_there))
         ∙ ap (stretch_of zs) range_is
 
-    cut : List Bool → List Bool
+    abbrev cut : List Bool → List Bool
     cut z = slice_range z (clip_range mixed.mix held).start (clip_range mixed.mix held).stop
 
     pub has_bits : HasBits mixed.read t held channel
@@ -108,8 +120,7 @@ module _ (mixed : MixedContent) (is : IsMixed mixed) (takes : List Content) (of 
     pub starts_before : (clip_range mixed.mix held).start ≤ (clip_at mixed.mix i).start
     starts_before = omega (arith, serves_it.before)
 
-    -- the part with the bits that were read
-    pub is_excerpt : IsExcerptOf (part_of mixed.mix takes channel (clip_at mixed.mix i)) (record (part_of mixed.mix takes channel (clip_at mixed.mix i)) { bits = bits_at mixed.read t held channel; start = (clip_at mixed.mix i).start - (clip_range mixed.mix held).start })
+    pub is_excerpt : IsExcerptOf (part_of mixed.mix takes channel (clip_at mixed.mix i)) (held_part mixed channel i held)
     is_excerpt = record {
       from = (clip_range mixed.mix held).start;
       to = (clip_range mixed.mix held).stop;
@@ -123,8 +134,16 @@ module _ (mixed : MixedContent) (is : IsMixed mixed) (takes : List Content) (of 
         let shape = All-get_or HasShape takes t _ take_there of.shaped in
         All-get_or (λ z. length z ≡ count_of zs) zs channel [] (omega (arith, channels_are, channel_there)) shape.level.same
 
-    pub bits_reach : (clip_at mixed.mix i).start - (clip_range mixed.mix held).start + (clip_at mixed.mix i).length ≤ length (bits_at mixed.read t held channel)
+    bits_reach : (clip_at mixed.mix i).start - (clip_range mixed.mix held).start + (clip_at mixed.mix i).length ≤ length (bits_at mixed.read t held channel)
     bits_reach = omega (arith, ap length bits_are, length-slice (get_or zs channel []) (clip_range mixed.mix held).start (clip_range mixed.mix held).stop, long, (fit.each_fits i there).inside, starts_before, serves_it.after)
+
+    pub held_fits : ArePoints (points_of (clip_at mixed.mix i).gains channel) → IsPart (held_part mixed channel i held)
+    held_fits points = record {
+      end_fits = within.end_fits;
+      bits_reach = bits_reach;
+      points_fit = points;
+      taps_fit = All-get_or (AreTaps (2 ^ 28)) mixed.mix.decoders (clip_at mixed.mix i).decoder [] within.decoder_is_there mixing.decoders_fit;
+    }
 
 -- ---- excerpts of takes
 pub is_read : (mix : MixContent) (whole : List Content) (hs : List Excerpts) → AreExcerpts mix whole hs → IsReadOf (mixed_of mix hs) whole

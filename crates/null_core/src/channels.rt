@@ -1,6 +1,6 @@
 //! The clips of a mix as a channel has them, with the bits that were read for them.
 
-ghost use Rattle.std.specs.Prelude.{◌≡◌, ◌<◌, All, IfOk, length, map};
+ghost use Rattle.std.specs.Prelude.{◌≡◌, ◌^◌, ◌<◌, ◌≤◌, ◌-ℤ◌, All, IfOk, length, map, pos, unsigned_abs};
 ghost use Rattle.clip_core.specs.Contents.{mix_content};
 ghost use Rattle.cut_core.specs.Excerpts.{excerpts_content};
 ghost use Rattle.null_core.specs.Parts.{IsPart, part_content};
@@ -55,7 +55,7 @@ fn part_of<'a>(
     let held = holder(mix, clip);
     Part {
         take: here.take,
-        ahead: here.start as i64 - here.at as i64,
+        ahead: ahead(here.start, here.at),
         at: here.at,
         size: here.length,
         points: here.gains.points(channel),
@@ -63,6 +63,16 @@ fn part_of<'a>(
         bits: bits_for(takes, here.take, held, channel),
         start: here.start - clip_range(mix, held).start,
     }
+}
+
+// How many bits a take is ahead of the mix if bit `start` is at place `at`.
+fn ahead(start: usize, at: usize) -> i64
+    requires start { start ≤ 2 ^ 36 }
+    requires at { at ≤ 2 ^ 36 }
+    ensures value { result ≡ pos start -ℤ pos at }
+    ensures bound { unsigned_abs result ≤ 2 ^ 36 }
+{
+    start as i64 - at as i64
 }
 
 // The bits of a channel that were read for a clip from the take of a number.

@@ -1,5 +1,5 @@
 -- A mix with what was read of its takes.
-use Rattle.std.specs.Prelude.{◌≡◌, ℕ, ◌-◌, ◌<◌, Bool, IsTrue, List, [], All, length, map, slice_index_or, ⊤}
+use Rattle.std.specs.Prelude.{◌≡◌, ℕ, ◌-◌, ◌<◌, Bool, IsTrue, List, [], All, length, map, slice_index_or, Result, ⊤}
 use Rattle.dsd_bits.specs.Contents.{Content}
 use Rattle.dsd_bits.specs.Shape.{HasShape}
 use Rattle.clip_core.specs.Mixes.{MixContent}
@@ -7,13 +7,14 @@ use Rattle.cut_core.specs.Cuts.{each_below, take_at}
 use Rattle.cut_core.specs.Excerpts.{ExcerptsContent, excerpts_at, excerpts_content}
 use Rattle.cut_core.specs.declared.excerpts.Excerpts.{Excerpts}
 use Rattle.null_core.specs.Fitting.{IsFaultOf, ShapesFit, shapes_of}
-use Rattle.null_core.specs.Asking.{part_of}
+use Rattle.null_core.specs.Asking.{asked_of, part_of}
 use Rattle.null_core.specs.Holding.{AreExcerpts, clip_at, excerpts_of, serves}
-use Rattle.null_core.specs.Judging.{IsFirst}
+use Rattle.null_core.specs.Judging.{IsFirst, JudgesChannel}
 use Rattle.null_core.specs.Likeness.{AreExcerptsOf, IsExcerptOf}
 use Rattle.null_core.specs.Parts.{PartContent}
 use Rattle.null_core.specs.declared.fault.MixedFault.{MixedFault}
 use Rattle.null_core.specs.declared.fault.MixedFault.TheVariants.{Memory}
+use Rattle.null_core.specs.declared.stretch.Stretch.{Stretch}
 
 -- what is read for clip j is the first that has all that clip i needs
 abbrev pub IsHolder : MixContent → ℕ → ℕ → Type 0
@@ -77,3 +78,7 @@ IsPartOf mixed channel i p = (takes : List Content) → IsReadOf mixed takes →
 -- whichever takes were read, the parts are excerpts of all clips as a channel has them
 abbrev pub ArePartsOf : MixedContent → ℕ → List PartContent → Type 0
 ArePartsOf mixed channel parts = (takes : List Content) → IsReadOf mixed takes → AreExcerptsOf (map (part_of mixed.mix takes channel) mixed.mix.clips) parts
+
+-- whichever takes were read, this is found in the bits of a channel, of which all clips are asked for
+abbrev pub JudgesChannelOf : MixedContent → ℕ → List Bool → Result (List Stretch) ℕ → Type 0
+JudgesChannelOf mixed channel bits found = (takes : List Content) → IsReadOf mixed takes → JudgesChannel (asked_of mixed.mix takes channel) bits found

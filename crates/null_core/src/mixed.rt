@@ -1,18 +1,26 @@
 //! A mix with what it reads of its takes.
 
-ghost use Rattle.std.specs.Prelude.{◌≡◌, ◌^◌, All, IfErr, IfOk, map};
+ghost use Rattle.std.specs.Prelude.{◌≡◌, ◌^◌, ◌<◌, ◌≤◌, All, IfErr, IfOk, map};
 ghost use Rattle.clip_core.specs.Contents.{mix_content};
+ghost use Rattle.clip_core.specs.Mixes as mixes;
 ghost use Rattle.clip_core.specs.Mixes.{AreTaps};
-ghost use Rattle.cut_core.specs.Excerpts.{excerpts_content};
+ghost use Rattle.cut_core.specs.Excerpts.{excerpts_at, excerpts_content};
 ghost use Rattle.null_core.specs.Holding.{excerpts_of};
-ghost use Rattle.null_core.specs.Reading.{AreOfTakes, IsFaultOfTakes, TakesFit, mixed_of};
+ghost use Rattle.null_core.specs.Judging.{judged_items};
+ghost use Rattle.null_core.specs.Parts.{IsPart, part_content};
+ghost use Rattle.null_core.specs.Reading.{AreOfTakes, ArePartsOf, IsFaultOfTakes, JudgesChannelOf, TakesFit, channels_of, mixed_of};
 
+use crate::asked::Asked;
+use crate::channels::parts_of;
 use crate::fault::MixedFault;
-use crate::fitting::fits;
+use crate::fitting::{fits, take_at};
+use crate::judging::judge_channel;
+use crate::part::Part;
 use crate::ranges::ranges_of;
-use clip_core::Mix;
+use crate::stretch::Stretch;
+use clip_core::{Mix, mix_length};
 use cut_core::Excerpts;
-use dsd_bits::{Recording, stretches_of};
+use dsd_bits::{Bits, Recording, stretches_of};
 use heard_core::{Audible, Decoder};
 use std::alloc::{AllocError, Global};
 use std::marker::Model;
@@ -81,6 +89,59 @@ impl Mixed {
             decoders,
             audible,
         })
+    }
+
+    /// The clips as a channel has them, in their order. Of its take each has the bits that were read for it, or for a
+    /// clip before it that needs these too. Err is out of memory.
+    pub fn parts(&self, alloc: Global, channel: usize) -> Result<Vec<Part<'_>>, AllocError>
+        requires { channel < channels_of self.now }
+        ensures parts { IfOk result (λ parts. ArePartsOf self.now channel (map part_content parts.items)) }
+        ensures fit { IfOk result (λ parts. All IsPart (map part_content parts.items)) }
+    {
+        parts_of(alloc, &self.mix, &self.takes, &self.decoders, channel)
+    }
+
+    /// The stretches of a channel of a master, or the first place that is too loud, as [`judge_channel`] finds them. Err
+    /// is out of memory.
+    pub fn judge_channel(
+        &self,
+        alloc: Global,
+        channel: usize,
+        bits: &Bits,
+    ) -> Result<Result<Vec<Stretch>, usize>, AllocError>
+        requires { channel < channels_of self.now }
+        ensures { IfOk result (λ found. JudgesChannelOf self.now channel bits.now (judged_items found)) }
+    {
+        let parts = self.parts(alloc, channel)?;
+        let asked = Asked {
+            unit: self.mix.unit,
+            audible: &self.audible,
+            every: self.mix.every,
+            parts: &parts,
+        };
+        judge_channel(alloc, asked, bits)
+    }
+
+    /// The first take without its bits: a master has its sample rate and number of channels.
+    pub fn first(&self) -> &Recording
+        ensures { result.now ≡ (excerpts_at self.now.read 0).recording }
+    {
+        &take_at(&self.takes, 0).recording
+    }
+
+    /// How many bits each channel of a master has: up to the last end of a clip.
+    pub fn length(&self) -> usize
+        ensures value { result ≡ mixes.mix_length self.now.mix.clips }
+        ensures bound { result ≤ 2 ^ 36 }
+    {
+        mix_length(&self.mix.clips)
+    }
+
+    /// The greatest residual that is accepted, below `2^63`.
+    pub fn limit(&self) -> u64
+        ensures { result ≡ self.now.mix.limit }
+    {
+        self.mix.limit
     }
 }
 

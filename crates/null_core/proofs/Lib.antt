@@ -1,17 +1,22 @@
-mod EditLaws
 pub mod AloneLaws
-pub mod UnitLaws
 pub mod AroundLaws
+pub mod ChannelLaws
 pub mod ChunkLaws
 pub mod DueLaws
+mod EditLaws
 pub mod ErrorLaws
+pub mod ExcerptLaws
 pub mod GainLaws
+pub mod HoldingLaws
+pub mod LikeLaws
 pub mod MidLaws
 pub mod MixLaws
+pub mod NullLaws
 mod OwnLaws
 pub mod PartLaws
+pub mod ReadingLaws
 pub mod SmallLaws
-mod WordLaws
-pub mod NullLaws
 pub mod SpanLaws
 pub mod StretchLaws
+pub mod UnitLaws
+mod WordLaws

@@ -2,13 +2,17 @@ pub mod Alone
 pub mod Asking
 pub mod Chunks
 pub mod Errors
+pub mod Fitting
 pub mod Holding
 pub mod Judged
 pub mod Judging
 pub mod Laws
+pub mod Likeness
 pub mod Mixing
 pub mod Own
 pub mod Parts
+pub mod Reading
 pub mod Stretches
+pub mod View
 pub mod Walks
 pub mod Words

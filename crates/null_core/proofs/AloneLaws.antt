@@ -1,5 +1,5 @@
 -- Laws of what is heard of parts.
-use Rattle.std.proofs.Common.{◌≡◌, eqb, ◌&&◌, ℕ, zero, suc, ◌+◌, ◌-◌, ◌/◌, ◌<◌, ◌≤◌, ◌⊎◌, ◌++◌, ◌∷◌, [], ℤ, pos, negsuc, ◌+ℤ◌, ◌-ℤ◌, ◌*ℤ◌, List, length, slice_get, Option, Some, None, refl, sym, ◌∙◌, ap, subst, inl, inr, arith, mul-le-mul_left}
+use Rattle.std.proofs.Common.{rules, IsTrue, ◌≡◌, eqb, ◌&&◌, ℕ, zero, suc, ◌+◌, ◌-◌, ◌/◌, ◌<◌, ◌≤◌, ◌⊎◌, ◌++◌, ◌∷◌, [], ℤ, pos, negsuc, ◌+ℤ◌, ◌-ℤ◌, ◌*ℤ◌, List, length, slice_get, Option, Some, None, refl, sym, ◌∙◌, ap, subst, inl, inr, arith, mul-le-mul_left}
 use Rattle.std.specs.Prelude.{◌≤ℤ◌}
 use Rattle.std.specs.Int.{int_div_euclid}
 use Rattle.std.specs.Bool.{Decides}
@@ -11,15 +11,15 @@ use Rattle.std.proofs.Math.Nat.{div-mul-le_self}
 use Rattle.clip_core.specs.declared.gain.Point.{Point}
 use Rattle.clip_core.specs.declared.line.Line.{Line}
 use Rattle.clip_core.specs.Gains.{on_line}
-use Rattle.clip_core.specs.Lines.{IsOnLine, line_gain, until}
+use Rattle.clip_core.specs.Lines.{IsLineOf, IsOnLine, line_gain, until}
 use Rattle.null_core.specs.declared.alone.Heard.{Heard}
 use Rattle.null_core.specs.declared.alone.Heard.TheVariants.{Nothing, Single, Mixed}
 use Rattle.null_core.specs.declared.alone.Level.{Level}
 use Rattle.null_core.specs.declared.alone.Level.TheVariants.{Negative, Zero, Reduced, Full, Raised}
 use Rattle.null_core.specs.declared.alone.Source.{Source}
-use Rattle.null_core.specs.Alone.{AreHeard, IsLevel, IsLevelUntil, IsPartHeard, IsSourceOf}
+use Rattle.null_core.specs.Alone.{AreHeard, HasLevel, IsLevel, IsLevelUntil, IsPartHeard, IsPartHeardFrom, IsSourceOf}
 use Rattle.null_core.specs.Own.{IsHeard, IsWhole}
-use Rattle.null_core.specs.Parts.{PartContent}
+use Rattle.null_core.specs.Parts.{PartContent, has_place}
 use Rattle.null_core.specs.Walks.{IsAloneFrom}
 
 -- ---- a gain that is between two others
@@ -79,7 +79,42 @@ same_sources a b =
     Decides-like (eqb a.take b.take && int_eq a.ahead b.ahead) (λ h j. record { take = h.0 j; ahead = h.1 j }) (λ e. (ap (λ (s : Source). s.take) e, ap (λ (s : Source). s.ahead) e))
     (Decides-and (eqb a.take b.take) (int_eq a.ahead b.ahead) (Decides-eqb a.take b.take) (Decides-int_eq a.ahead b.ahead))
 
+-- ---- one part
+
+-- a part has its places and no others
+has_within : (p : PartContent) (k : ℕ) → p.at ≤ k → k < p.at + p.size → IsTrue (has_place k p)
+has_within p k from to = search rules
+
+within : (p : PartContent) (k : ℕ) → IsTrue (has_place k p) → (p.at ≤ k) × (k < p.at + p.size)
+within p k there = search rules
+
+silent_before : (p : PartContent) (k : ℕ) → k < p.at → IsHeard k p → ⊥
+silent_before p k before heard = let there = within p k heard.there in omega (arith, there)
+
+silent_after : (p : PartContent) (k : ℕ) → p.at + p.size ≤ k → IsHeard k p → ⊥
+silent_after p k after heard = let there = within p k heard.there in omega (arith, there)
+
+pub before_part : (p : PartContent) (m : ℕ) → m < p.at → IsPartHeardFrom p m (record { heard = Nothing; until = p.at })
+before_part p m before = record { some = before; each = λ k from to. (silent_before p m before, silent_before p k to) }
+
+pub after_part : (p : PartContent) (m until : ℕ) → p.at + p.size ≤ m → m < until → IsPartHeardFrom p m (record { heard = Nothing; until = until })
+after_part p m until after below = record { some = below; each = λ k from to. (silent_after p m after, silent_after p k (omega (arith, after, from))) }
+
+module _ (p : PartContent) (m : ℕ) (line : Line) (level : Level) (after : ℕ) (from : p.at ≤ m) (gains : IsLineOf p.points line) (on : IsOnLine line (m - p.at)) (kept : IsLevelUntil line (m - p.at) level after) where
+  has_level : (k : ℕ) → m ≤ k → k < p.at + p.size → k < p.at + after → HasLevel level p k
+  has_level k later inside to = record {
+    there = has_within p k (omega arith) inside;
+    gain = subst (IsLevel level) (gains (k - p.at) (record { begun = omega (arith, on.begun); not_ended = omega (arith, kept.inside) })) (kept.each (k - p.at) (omega arith) (omega arith));
+  }
+
+  pub within_part : (heard : Heard) (end : ℕ) → ((m k : ℕ) → HasLevel level p m → HasLevel level p k → IsPartHeard heard p m k) → m < end → end ≤ p.at + p.size → end ≤ p.at + after → IsPartHeardFrom p m (record { heard = heard; until = end })
+  within_part heard end is some inside to = record {
+    some = some;
+    each = λ k later below. is m k (has_level m (omega arith) (omega arith) (omega arith)) (has_level k later (omega arith) (omega arith));
+  }
+
 -- ---- parts in a list
+
 sg_left : (xs : List PartContent) (y : PartContent) (i : ℕ) (p : PartContent) → slice_get xs i ≡ Some p → slice_get (xs ++ y ∷ []) i ≡ Some p
 sg_left [] y i p at = absurd (cc at)
 sg_left (x ∷ xs) y zero p at = at

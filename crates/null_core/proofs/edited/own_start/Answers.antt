@@ -1,4 +1,4 @@
-use Rattle.std.proofs.Common.{arith, map}
+use Rattle.std.proofs.Common.{map}
 use Rattle.null_core.specs.Parts.{part_content}
 use Rattle.null_core.proofs.EditLaws.{start_end, start_none, start_own, start_past}
 use Rattle.null_core.proofs.edited.own_start.Goals as goal

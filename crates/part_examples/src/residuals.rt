@@ -18,7 +18,7 @@ fn are_small(errors: &[i32]) -> bool
     errors.iter().all(|error| error.unsigned_abs() < 1 << 31)
 }
 
-// The residuals by taps of 1, 2 and 1 at each so manieth place.
+// The residuals by taps of 1, 2 and 1, each some places after the one before.
 fn residuals(alloc: Global, step: usize, sums: &mut [i64]) -> Result<bool, AllocError>
     requires { (i : ℕ) → i < length sums.old → i * step + 3 ≤ 18 }
 {

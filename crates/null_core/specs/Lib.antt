@@ -11,5 +11,6 @@ pub mod Own
 pub mod Parts
 pub mod Reading
 pub mod Stretches
+pub mod Verdicts
 pub mod View
 pub mod Walks

@@ -16,6 +16,7 @@ mod own;
 mod part;
 mod ranges;
 mod stretch;
+mod verdict;
 
 pub use alone::{Alone, Source};
 pub use asked::Asked;
@@ -28,3 +29,4 @@ pub use own::OwnRun;
 pub use part::Part;
 pub use ranges::ranges_of;
 pub use stretch::Stretch;
+pub use verdict::{Heard, LoudPlace, Shape, Verdict, judge};

@@ -1,11 +1,12 @@
-pub mod UnitLaws
 pub mod ChannelLaws
 pub mod ErrorLaws
+pub mod ExcerptLaws
 pub mod GainLaws
+pub mod HoldingLaws
+pub mod LikeLaws
 pub mod MidLaws
 pub mod PartLaws
 pub mod ReadingLaws
 pub mod SmallLaws
-pub mod ExcerptLaws
-pub mod HoldingLaws
-pub mod LikeLaws
+pub mod UnitLaws
+pub mod VerdictLaws

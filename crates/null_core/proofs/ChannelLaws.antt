@@ -3,6 +3,7 @@ use Rattle.std.proofs.Common.{◌≡◌, ℕ, zero, suc, Bool, Result, refl, ap�
 use Rattle.std.proofs.lemmas.Bool.{cases_lt}
 use Rattle.std.proofs.lemmas.List.{get_or-map, get_or_append_left, get_or_push, length-append, length-map}
 use Rattle.std.proofs.lemmas.List.Elements.{All-nil, All-push}
+use Rattle.std.proofs.lemmas.List.Sums.{sum_by-cons}
 use Rattle.std.proofs.lemmas.Option.{get_or_from_slice_get, none-some, slice_get_within, slice_get-get_or, same_Some}
 use Rattle.std.specs.List.{sum_by}
 use Rattle.dsd_bits.specs.Contents.{Content}
@@ -59,11 +60,14 @@ same_sum : {X : Type 0} (f : X → ℕ) (xs ys : List X) → length xs ≡ lengt
 same_sum f [] [] as_many same = refl
 same_sum f [] (y ∷ ys) as_many same = absurd (omega (arith, as_many))
 same_sum f (x ∷ xs) [] as_many same = absurd (omega (arith, as_many))
-same_sum f (x ∷ xs) (y ∷ ys) as_many same = ap₂ ◌+◌ (same 0 x y refl refl) (same_sum f xs ys (omega (arith, as_many)) (λ i. same (suc i)))
+same_sum f (x ∷ xs) (y ∷ ys) as_many same = sum_by-cons f x xs ∙ ap₂ ◌+◌ (same 0 x y refl refl) (same_sum f xs ys (omega (arith, as_many)) (λ i. same (suc i))) ∙ sym (sum_by-cons f y ys)
 
 clips_are : (mixed : MixedContent) (takes : List Content) (channel m : ℕ) (clips : List ClipContent) → parts_at m (map (part_of mixed.mix takes channel) clips) ≡ clips_at m clips
 clips_are mixed takes channel m [] = refl
-clips_are mixed takes channel m (c ∷ cs) = ap (λ n. (if clips.has_place m c then 1 else 0) + n) (clips_are mixed takes channel m cs)
+clips_are mixed takes channel m (c ∷ cs) =
+    sum_by-cons (λ p. if has_place m p then 1 else 0) (part_of mixed.mix takes channel c) (map (part_of mixed.mix takes channel) cs)
+    ∙ ap (λ n. (if clips.has_place m c then 1 else 0) + n) (clips_are mixed takes channel m cs)
+    ∙ sym (sum_by-cons (λ k. if clips.has_place m k then 1 else 0) c cs)
 
 module _ (mixed : MixedContent) (is : IsMixed mixed) (mixing : IsMixing mixed.mix) (channel : ℕ) (parts : List PartContent) (are : ArePartsOf mixed channel parts) (fit : All IsPart parts) where
   excerpts : AreExcerptsOf (map (part_of mixed.mix is.takes channel) mixed.mix.clips) parts

@@ -20,3 +20,4 @@ pub mod SpanLaws
 pub mod StretchLaws
 pub mod UnitLaws
 mod WordLaws
+pub mod VerdictLaws

@@ -13,6 +13,7 @@ pub mod Own
 pub mod Parts
 pub mod Reading
 pub mod Stretches
+pub mod Verdicts
 pub mod View
 pub mod Walks
 pub mod Words

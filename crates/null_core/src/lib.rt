@@ -21,6 +21,7 @@ mod part;
 mod peak;
 mod ranges;
 mod stretch;
+mod verdict;
 
 pub use alone::{Alone, Source};
 pub use asked::Asked;
@@ -33,3 +34,4 @@ pub use own::OwnRun;
 pub use part::Part;
 pub use ranges::ranges_of;
 pub use stretch::Stretch;
+pub use verdict::{Heard, LoudPlace, Shape, Verdict, judge};

@@ -1,0 +1,198 @@
+//! What is heard of a master.
+
+ghost use Rattle.std.specs.Prelude.{◌≡◌, ◌≤◌, All, IfOk, IfSome, None, [], length, map};
+ghost use Rattle.null_core.specs.Judging.{IsFirst};
+ghost use Rattle.null_core.specs.Reading.{channels_of};
+ghost use Rattle.null_core.specs.Verdicts as specs;
+ghost use Rattle.null_core.specs.Verdicts.{FitsFirst, IsAbove, IsGreatestIn, IsHeard, IsVerdictBy, IsVerdictOn, JudgesAll, found_lists};
+
+use crate::mixed::Mixed;
+use crate::stretch::Stretch;
+use cut_core::differ;
+use dsd_bits::{Bits, Recording};
+use std::alloc::{AllocError, Global};
+
+/// The sample rate of a recording, and how many channels it has.
+#[derive(Clone, Copy)]
+pub struct Shape {
+    /// The sample rate in Hz.
+    pub rate: u32,
+    /// How many channels there are.
+    pub channels: usize,
+}
+
+/// A place of a master that is too loud to be judged.
+#[derive(Clone, Copy)]
+pub struct LoudPlace {
+    /// The number of the channel.
+    pub channel: usize,
+    /// The place.
+    pub place: usize,
+}
+
+/// A verdict on a master: the first of these that applies.
+#[derive(Clone, Copy)]
+pub enum Verdict {
+    /// It nulls: no residual at a judged place of a channel is above the limit. This is the greatest, 0 if no place is
+    /// judged.
+    Accepted(u64),
+    /// It has another sample rate or number of channels than the takes.
+    MasterShape {
+        /// What the master has.
+        found: Shape,
+        /// What the takes have.
+        wanted: Shape,
+    },
+    /// Its channels don't have as many bits as the mix has places.
+    MasterLength {
+        /// How many bits each of its channels has.
+        found: usize,
+        /// How many places the mix has.
+        wanted: usize,
+    },
+    /// A place is too loud to be judged: its error is `2^31` or more in absolute value, and it is within reach of a
+    /// judged place. This is the first such place of the first channel that has one.
+    TooLoud {
+        /// The number of the channel.
+        channel: usize,
+        /// The place.
+        place: usize,
+    },
+    /// A residual is above the limit. This is the place of the first such stretch of the first channel that has one.
+    Residual {
+        /// The number of the channel.
+        channel: usize,
+        /// The place.
+        place: usize,
+    },
+}
+
+/// What is heard of a master.
+#[derive(Drop)]
+pub struct Heard {
+    /// The stretches of each channel. There are none for a master that doesn't fit, or in which a place is too loud.
+    pub stretches: Vec<Vec<Stretch>>,
+    /// The verdict.
+    pub verdict: Verdict,
+}
+
+/// Judges a master by a mix: how large the residual is at most that can be heard of it. Err is out of memory.
+pub fn judge(alloc: Global, mixed: &Mixed, master: &Recording) -> Result<Heard, AllocError>
+    // Whichever takes were read, the verdict is the first that applies, and the stretches are those of each channel.
+    ensures { IfOk result (IsHeard mixed.now master.now) }
+{
+    if let Some(verdict) = misfit(mixed, master) {
+        return Ok(unheard(alloc, verdict));
+    }
+    match judge_channels(alloc, mixed, master.channels())? {
+        Ok(stretches) => {
+            let verdict = verdict_by(mixed.limit(), &stretches);
+            Ok(Heard { stretches, verdict })
+        }
+        Err(LoudPlace { channel, place }) => {
+            Ok(unheard(alloc, Verdict::TooLoud { channel, place }))
+        }
+    }
+}
+
+// A verdict without stretches.
+fn unheard(alloc: Global, verdict: Verdict) -> Heard
+    ensures stretches { result.stretches.items ≡ [] }
+    ensures verdict { result.verdict ≡ verdict }
+{
+    Heard {
+        stretches: Vec::new(alloc),
+        verdict,
+    }
+}
+
+// Why a master can't be compared with a mix, if it can't.
+fn misfit(mixed: &Mixed, master: &Recording) -> Option<Verdict>
+    ensures fits { result ≡ None → FitsFirst mixed.now master.now }
+    ensures verdict { IfSome result (IsVerdictOn mixed.now master.now []) }
+{
+    let first = mixed.first();
+    if differ(first, master) {
+        return Some(Verdict::MasterShape {
+            found: shape_of(master),
+            wanted: shape_of(first),
+        });
+    }
+    let found = master.count();
+    let wanted = mixed.length();
+    if found != wanted {
+        return Some(Verdict::MasterLength { found, wanted });
+    }
+    None
+}
+
+// The rate and the number of channels of a recording.
+fn shape_of(recording: &Recording) -> Shape
+    ensures { result ≡ specs.shape_of recording.now }
+{
+    Shape {
+        rate: recording.rate(),
+        channels: recording.channels().len(),
+    }
+}
+
+// The stretches of each channel of a master, or the first place that is too loud of the first channel that has one.
+fn judge_channels(
+    alloc: Global,
+    mixed: &Mixed,
+    channels: &[Bits],
+) -> Result<Result<Vec<Vec<Stretch>>, LoudPlace>, AllocError>
+    requires { length channels.now ≡ channels_of mixed.now }
+    ensures { IfOk result (λ found. JudgesAll mixed.now channels.now (found_lists found)) }
+{
+    let mut stretches = Vec::new(alloc);
+    for channel in 0..channels.len() {
+        match mixed.judge_channel(alloc, channel, &channels[channel])? {
+            Ok(found) => stretches.push(found)?,
+            Err(place) => return Ok(Err(LoudPlace { channel, place })),
+        }
+    }
+    Ok(Ok(stretches))
+}
+
+// The verdict by the stretches of all channels.
+fn verdict_by(limit: u64, stretches: &[Vec<Stretch>]) -> Verdict
+    ensures { IsVerdictBy limit (map (λ found. found.items) stretches.now) result }
+{
+    let mut greatest = 0;
+    for channel in 0..stretches.len() {
+        let found = stretches[channel].as_slice();
+        if let Some(number) = first_above(limit, found) {
+            return Verdict::Residual {
+                channel,
+                place: found[number].place,
+            };
+        }
+        greatest = greatest.max(greatest_of(found));
+    }
+    Verdict::Accepted(greatest)
+}
+
+// The first stretch with a residual above the limit, if there is one.
+fn first_above(limit: u64, stretches: &[Stretch]) -> Option<usize>
+    ensures none { result ≡ None → All (λ s. s.residual ≤ limit) stretches.now }
+    ensures first { IfSome result (IsFirst (IsAbove limit stretches.now)) }
+{
+    for number in 0..stretches.len() {
+        if stretches[number].residual > limit {
+            return Some(number);
+        }
+    }
+    None
+}
+
+// The greatest residual of some stretches, 0 if there are none.
+fn greatest_of(stretches: &[Stretch]) -> u64
+    ensures { IsGreatestIn stretches.now result }
+{
+    let mut greatest = 0;
+    for stretch in stretches {
+        greatest = greatest.max(stretch.residual);
+    }
+    greatest
+}

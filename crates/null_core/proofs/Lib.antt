@@ -19,5 +19,5 @@ pub mod SmallLaws
 pub mod SpanLaws
 pub mod StretchLaws
 pub mod UnitLaws
-mod WordLaws
 pub mod VerdictLaws
+mod WordLaws

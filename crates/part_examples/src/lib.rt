@@ -1,5 +1,6 @@
 //! Worked examples of the parts of which files and masters are made, as tests: bits, chunks, devices, the sound of both
-//! formats, samples and WAVE files; costs, bits and certificates of bridges; mix texts; and the texts of faults.
+//! formats, samples, decoded sound, residuals and WAVE files; costs, bits and certificates of bridges; mix texts and gains;
+//! and the texts of faults.
 //!
 //! What they share, with those of `archive_examples`, is in [`fixtures`]: small files, and devices that fail where they
 //! are asked to. Whole files are in `archive_examples`. What commands show is in `tests/try_commands`.

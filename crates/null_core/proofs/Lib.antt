@@ -2,6 +2,7 @@ pub mod ChannelLaws
 pub mod ErrorLaws
 pub mod ExcerptLaws
 pub mod GainLaws
+pub mod HeardLaws
 pub mod HoldingLaws
 pub mod LikeLaws
 pub mod MidLaws

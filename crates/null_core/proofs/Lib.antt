@@ -7,6 +7,7 @@ mod EditLaws
 pub mod ErrorLaws
 pub mod ExcerptLaws
 pub mod GainLaws
+pub mod HeardLaws
 pub mod HoldingLaws
 pub mod LikeLaws
 pub mod MidLaws

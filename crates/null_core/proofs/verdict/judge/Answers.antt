@@ -1,0 +1,31 @@
+use Rattle.std.proofs.Common.{◌≡◌, ◌∙◌, [], Bool, Global, List, Vec, ap, length, map, subst, sym}
+use Rattle.null_core.specs.declared.stretch.Stretch.{Stretch}
+use Rattle.null_core.specs.declared.verdict.Verdict.TheVariants.{TooLoud}
+use Rattle.null_core.specs.Verdicts.{AreJudgedTo, IsFirstLoud, IsVerdictBy, IsVerdictOn, JudgesAll, found_lists}
+use Rattle.null_core.proofs.HeardLaws.{heard_by, heard_loud}
+use Rattle.null_core.proofs.verdict.judge.Goals as goal
+
+abbrev items : Vec Stretch Global → List Stretch
+items found = found.items
+
+pub judge_channels-requires : goal.judge_channels-requires
+judge_channels-requires c = ap length c.channels.ensures.value ∙ (c.misfit.ensures.fits c.in_default.is).alike.as_many_channels
+
+pub returns-in-Ok : goal.returns-in-Ok
+returns-in-Ok c =
+    let mixed = c.args.mixed.now in
+    let lists = map items c.in-Ok.stretches.items in
+    let verdict = c.verdict_by-verdict.result in
+    heard_by mixed c.args.master.now (c.misfit.ensures.fits c.in_default.is) lists
+    (subst (λ (zs : List (List Bool)). AreJudgedTo mixed zs (length zs) lists) c.channels.ensures.value (subst (λ found. JudgesAll mixed c.channels.result.now (found_lists found)) c.in-Ok.is c.in_ok-stretches.ensures))
+    verdict
+    (subst (λ (stretches : List (Vec Stretch Global)). IsVerdictBy mixed.mix.limit (map items stretches) verdict) c.deref.ensures.value (subst (λ limit. IsVerdictBy limit (map items c.deref.result.now) verdict) c.limit.ensures c.verdict_by-verdict.ensures))
+
+pub returns-in-Err : goal.returns-in-Err
+returns-in-Err c =
+    let mixed = c.args.mixed.now in
+    let loud = c.in-Err.field-0 in
+    let first = subst (λ (zs : List (List Bool)). IsFirstLoud mixed zs loud) c.channels.ensures.value (subst (λ found. JudgesAll mixed c.channels.result.now (found_lists found)) c.in-Err.is c.in_ok-stretches.ensures) in
+    let verdict : TooLoud loud.channel loud.place ≡ c.unheard-in-Err.result.verdict = sym c.unheard-in-Err.ensures.verdict in
+    subst (λ (stretches : List (Vec Stretch Global)). IsVerdictOn mixed c.args.master.now (map items stretches) c.unheard-in-Err.result.verdict) (sym c.unheard-in-Err.ensures.stretches)
+    (subst (IsVerdictOn mixed c.args.master.now []) verdict (heard_loud mixed c.args.master.now (c.misfit.ensures.fits c.in_default.is) loud first))

@@ -1,5 +1,5 @@
 -- What is heard of a master, by what was found in its channels.
-use Rattle.std.proofs.Common.{◌≡◌, ◌≢◌, ℕ, ◌<◌, ◌≤◌, ◌⊎◌, Bool, List, [], All, Ok, Err, Some, length, get_or, slice_get, sym, ap, subst, ◌∙◌, inl, inr, arith}
+use Rattle.std.proofs.Common.{◌≡◌, ◌≢◌, ℕ, ◌<◌, ◌≤◌, ◌⊎◌, ◌↔◌, refl, Bool, List, [], All, Ok, Err, Some, length, get_or, slice_get, sym, ap, subst, ◌∙◌, inl, inr, arith}
 use Rattle.std.proofs.lemmas.List.Elements.{All-get_or}
 use Rattle.std.proofs.lemmas.Option.{get_or_from_slice_get, slice_get_within}
 use Rattle.dsd_bits.specs.Channels.{count_of}
@@ -12,13 +12,13 @@ use Rattle.null_core.specs.declared.verdict.LoudPlace.{LoudPlace}
 use Rattle.null_core.specs.declared.verdict.Shape.{Shape}
 use Rattle.null_core.specs.declared.verdict.Verdict.{Verdict}
 use Rattle.null_core.specs.declared.verdict.Verdict.TheVariants.{Accepted, MasterShape, MasterLength, TooLoud, Residual}
-use Rattle.null_core.specs.Asking.{Fits, NullsAll, asked_of}
+use Rattle.null_core.specs.Asking.{Fits, IsQuiet, NullsAll, asked_of}
 use Rattle.null_core.specs.Errors.{residual_size}
 use Rattle.null_core.specs.Judged.{IsJudged}
 use Rattle.null_core.specs.Parts.{AskedContent}
 use Rattle.null_core.specs.Reading.{IsReadOf, MixedContent}
 use Rattle.null_core.specs.Stretches.{AreStretches, IsStretch}
-use Rattle.null_core.specs.Verdicts.{AreFound, AreJudgedTo, FitsFirst, IsFirstLoud, IsGreatestOfAll, IsGreatestTo, IsJudgedIn, IsTooLoudIn, IsVerdict, IsVerdictBy, IsVerdictOn, channel_bits, shape_of, size_in}
+use Rattle.null_core.specs.Verdicts.{AreFound, AreJudgedTo, FitsFirst, HasAbove, IsAccepted, IsFirstLoud, IsGreatestOfAll, IsGreatestTo, IsJudgedIn, IsTooLoudIn, IsVerdict, IsVerdictBy, IsVerdictOn, channel_bits, shape_of, size_in}
 use Rattle.null_core.proofs.ReadingLaws.{shapes_are}
 
 module _ (mixed : MixedContent) (master : Content) (takes : List Content) (read : IsReadOf mixed takes) where
@@ -115,3 +115,26 @@ heard_by mixed master first stretches judged verdict is takes read = by mixed ma
 
 pub heard_loud : (mixed : MixedContent) (master : Content) → FitsFirst mixed master → (loud : LoudPlace) → IsFirstLoud mixed master.channels loud → IsVerdictOn mixed master [] (TooLoud loud.channel loud.place)
 heard_loud mixed master first loud is takes read = too_loud mixed master first takes read loud is
+
+-- ---- which masters are accepted
+-- a stretch above the limit is that of a judged place
+above_limit : (mix : MixContent) (takes : List Content) (master : Content) (stretches : List (List Stretch)) (channel : ℕ) → AreFound mix takes master stretches → HasAbove mix.limit stretches channel → NullsAll mix takes master mix.limit → ⊥
+above_limit mix takes master stretches channel found has nulls =
+    let there : channel < length master.channels = omega (arith, has.there, found.found.as_many) in
+    let of = (stretch_at (asked_of mix takes channel) (channel_bits master channel) (get_or stretches channel []) (found.found.each channel there) has.number has.above.stretch has.above.there).greatest in
+    omega (arith, nulls.each channel there has.above.stretch.place of.judged.judged, of.size, has.above.above)
+
+module _ (mix : MixContent) (takes : List Content) (master : Content) (stretches : List (List Stretch)) where
+  if_accepted : (verdict : Verdict) → IsVerdict mix takes master stretches verdict → IsAccepted verdict → NullsAll mix takes master mix.limit × IsQuiet mix takes master
+  if_accepted verdict is accepted = let by : IsVerdict mix takes master stretches (Accepted accepted.0) = subst (IsVerdict mix takes master stretches) accepted.1 is in (by.1, by.0.quiet)
+
+  accepted_if : (verdict : Verdict) → IsVerdict mix takes master stretches verdict → NullsAll mix takes master mix.limit × IsQuiet mix takes master → IsAccepted verdict
+  accepted_if (Accepted residual) is both = (residual, refl)
+  accepted_if (MasterShape has wanted) is both = absurd (is.0 both.0.fits.alike)
+  accepted_if (MasterLength has wanted) is both = absurd (is.1 (is.2 ∙ both.0.fits.long ∙ sym is.3))
+  accepted_if (TooLoud channel place) is both = absurd (both.1 channel place is.2.here.there is.2.here.loud)
+  accepted_if (Residual channel place) is both = absurd (above_limit mix takes master stretches channel is.0 is.1.here both.0)
+
+pub accepts_exactly : (mixed : MixedContent) (master : Content) (stretches : List (List Stretch)) (verdict : Verdict) → IsVerdictOn mixed master stretches verdict
+    → (takes : List Content) → IsReadOf mixed takes → IsAccepted verdict ↔ (NullsAll mixed.mix takes master mixed.mix.limit × IsQuiet mixed.mix takes master)
+accepts_exactly mixed master stretches verdict is takes read = (if_accepted mixed.mix takes master stretches verdict (is takes read), accepted_if mixed.mix takes master stretches verdict (is takes read))

@@ -1,5 +1,5 @@
 -- What a verdict on a master says.
-use Rattle.std.specs.Prelude.{◌≡◌, ℕ, ◌+◌, ◌<◌, ◌≤◌, ◌⊎◌, Bool, List, [], length, map, slice_get, slice_index_or, MatchResult, Result, Ok, Err, Some, Vec, ◌≢◌}
+use Rattle.std.specs.Prelude.{◌≡◌, ℕ, ◌+◌, ◌<◌, ◌≤◌, ◌⊎◌, ◌↔◌, Bool, List, [], length, map, slice_get, slice_index_or, MatchResult, Result, Ok, Err, Some, Vec, ◌≢◌}
 use Rattle.std.specs.declared.alloc.Global.{Global}
 use Rattle.dsd_bits.specs.Channels.{count_of}
 use Rattle.dsd_bits.specs.Contents.{Content}
@@ -96,6 +96,14 @@ IsVerdict mix takes master stretches (Accepted residual) = AreFound mix takes ma
 -- whichever takes were read, this is what is heard of a master
 abbrev pub IsHeard : MixedContent → Content → Heard → Type 0
 IsHeard mixed master heard = (takes : List Content) → IsReadOf mixed takes → IsVerdict mixed.mix takes master (stretch_lists heard) heard.verdict
+
+-- the master is accepted
+abbrev pub IsAccepted : Verdict → Type 0
+IsAccepted verdict = (residual : ℕ) × (verdict ≡ Accepted residual)
+
+-- whichever takes were read, a master is accepted exactly if it nulls with the mix's limit and no place is too loud
+abbrev pub AcceptsExactly : MixedContent → Content → Heard → Type 0
+AcceptsExactly mixed master heard = (takes : List Content) → IsReadOf mixed takes → IsAccepted heard.verdict ↔ (NullsAll mixed.mix takes master mixed.mix.limit × IsQuiet mixed.mix takes master)
 
 -- ---- step by step
 -- whichever takes were read, this is a verdict

@@ -4,7 +4,7 @@ ghost use Rattle.std.specs.Prelude.{◌≡◌, ◌≤◌, All, IfOk, IfSome, Non
 ghost use Rattle.null_core.specs.Judging.{IsFirst};
 ghost use Rattle.null_core.specs.Reading.{channels_of};
 ghost use Rattle.null_core.specs.Verdicts as specs;
-ghost use Rattle.null_core.specs.Verdicts.{FitsFirst, IsAbove, IsGreatestIn, IsHeard, IsVerdictBy, IsVerdictOn, JudgesAll, found_lists};
+ghost use Rattle.null_core.specs.Verdicts.{AcceptsExactly, FitsFirst, IsAbove, IsGreatestIn, IsHeard, IsVerdictBy, IsVerdictOn, JudgesAll, found_lists};
 
 use crate::mixed::Mixed;
 use crate::stretch::Stretch;
@@ -79,7 +79,9 @@ pub struct Heard {
 /// Judges a master by a mix: how large the residual is at most that can be heard of it. Err is out of memory.
 pub fn judge(alloc: Global, mixed: &Mixed, master: &Recording) -> Result<Heard, AllocError>
     // Whichever takes were read, the verdict is the first that applies, and the stretches are those of each channel.
-    ensures { IfOk result (IsHeard mixed.now master.now) }
+    ensures verdict { IfOk result (IsHeard mixed.now master.now) }
+    // It is accepted exactly if it nulls with the mix's limit and no place is too loud.
+    ensures exact { IfOk result (AcceptsExactly mixed.now master.now) }
 {
     if let Some(verdict) = misfit(mixed, master) {
         return Ok(unheard(alloc, verdict));

@@ -44,9 +44,6 @@ module _ (mixed : MixedContent) (master : Content) (takes : List Content) (read 
 pub shape_differs : (mixed : MixedContent) (master : Content) (found wanted : Shape) → (AreAlike (excerpts_at mixed.read 0).recording master → ⊥) → found ≡ shape_of master → wanted ≡ shape_of (excerpts_at mixed.read 0).recording → IsVerdictOn mixed master [] (MasterShape found wanted)
 shape_differs mixed master found wanted other is_found is_wanted takes read = (λ alike. other (like_first mixed master takes read alike), is_found, is_wanted ∙ first_shape mixed master takes read)
 
-pub length_differs : (mixed : MixedContent) (master : Content) (found wanted : ℕ) → AreAlike (excerpts_at mixed.read 0).recording master → found ≢ wanted → found ≡ count_of master.channels → wanted ≡ mix_length mixed.mix.clips → IsVerdictOn mixed master [] (MasterLength found wanted)
-length_differs mixed master found wanted alike other is_found is_wanted takes read = (alike_first mixed master takes read alike, other, is_found, is_wanted)
-
 -- ---- masters that fit
 -- a judged place has at most the residual of its stretch
 module _ (a : AskedContent) (bits : List Bool) (stretches : List Stretch) (are : AreStretches a bits stretches) where

@@ -19,6 +19,5 @@ pub mod ReadingLaws
 pub mod SmallLaws
 pub mod SpanLaws
 pub mod StretchLaws
-pub mod UnitLaws
 pub mod VerdictLaws
 mod WordLaws

@@ -22,9 +22,6 @@ pub record IsMixOf (parts : List PartContent) (j from number : ℕ) (mixed : Lis
   pub long : length mixed ≡ number
   pub each : (i : ℕ) → i < number → get_or mixed i (pos 0) ≡ mix_at (take j parts) (from + i)
 
-pub none_mixed : (parts : List PartContent) (from number : ℕ) (mixed : List ℤ) → length mixed ≡ number → mixed ≡ replicate number (pos 0) → IsMixOf parts 0 from number mixed
-none_mixed parts from number mixed long zeros = record { long = long; each = λ i inside. ap (λ xs. get_or xs i (pos 0)) zeros ∙ get_or-replicate number i (pos 0) (pos 0) inside }
-
 pub one_more_mixed : (parts : List PartContent) (j from number : ℕ) (old new : List ℤ) (p : PartContent) → j < length parts → p ≡ get_or parts j p → IsPartAdded p from old new → IsMixOf parts j from number old → IsMixOf parts (j + 1) from number new
 one_more_mixed parts j from number old new p there is adds sofar = record {
   long = adds.long ∙ sofar.long;

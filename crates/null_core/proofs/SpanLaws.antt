@@ -14,18 +14,6 @@ use Rattle.null_core.specs.Walks.{AreUnedited}
 use Rattle.null_core.proofs.DueLaws.{due_next}
 
 module _ (a : AskedContent) (bits : List Bool) where
-  -- nothing is judged before place 0
-  pub judged_none : (ss : List Stretch) → ss ≡ [] → IsJudgedTo a bits 0 ss
-  judged_none ss none = subst (IsJudgedTo a bits 0) (sym none) (record {
-    stretches_so_far = record {
-      each = All-nil (IsStretch a bits);
-      apart = λ i s t at next. absurd (none-some s at);
-      before = λ i s at. absurd (none-some s at);
-      all = λ n judged lt. absurd (omega (arith, lt));
-    };
-    quiet = λ m loud. omega arith;
-  })
-
   -- a channel is judged further where nothing is to be judged
   pub judged_on : (ss : List Stretch) (end end' : ℕ) → IsJudgedTo a bits end ss → end ≤ end' → ((n : ℕ) → IsJudged a bits n → end ≤ n → end' ≤ n) → IsJudgedTo a bits end' ss
   judged_on ss end end' so_far le none = record {

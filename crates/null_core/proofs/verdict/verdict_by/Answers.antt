@@ -35,3 +35,9 @@ returns-in-Some c =
     (first_channel (lists here) c.loop-channel.channel c.loop-channel.greatest c.loop-channel.invariant.0 c.as_slice-found.result.now (found_is here) c.args.limit c.in-Some.number c.loop-channel.invariant.1 there c.in-Some.ensures.first,
      subst (λ l. IsFirstAbove c.args.limit l (get_or c.as_slice-found.result.now c.in-Some.number (record { first = 0; last = 0; residual = 0; place = 0 })).place) (found_is here)
      (record { number = c.in-Some.number; first = first; place_is = ap (λ (k : Stretch). k.place) (get_or_from_slice_get c.as_slice-found.result.now c.in-Some.number first.here.stretch _ first.here.there) }))
+
+pub returns : goal.returns
+returns c =
+    let all = map items c.args.stretches.now in
+    let end : c.loop-channel.channel ≡ length all = omega (arith, c.loop-channel-test.false, c.loop-channel.auto.channel-end, length-map c.args.stretches.now items) in
+    (subst (λ n. IsGreatestTo all n c.loop-channel.greatest) end c.loop-channel.invariant.0, c.loop-channel.invariant.1)

@@ -1,10 +1,10 @@
 -- A part that holds the bits that its sound needs sounds like the one that holds all bits of its take.
-use Rattle.std.proofs.Common.{◌≡◌, ℕ, ◌+◌, ◌-◌, ◌*◌, ◌/◌, ◌<◌, ◌≤◌, min, ℤ, pos, negsuc, ◌-ℤ◌, ◌*ℤ◌, Bool, true, false, IsTrue, ◌&&◌, nat_le, nat_lt, if◌then◌else◌, List, length, map, get_or, slice_range, take, drop, get_or-take, get_or-drop, length-drop, length-take, refl, sym, ◌∙◌, ap, subst, inl, inr, arith}
+use Rattle.std.proofs.Common.{◌≡◌, ℕ, ◌+◌, ◌-◌, ◌/◌, ◌<◌, ◌≤◌, min, ℤ, pos, ◌-ℤ◌, ◌*ℤ◌, Bool, true, false, IsTrue, nat_le, nat_lt, if◌then◌else◌, List, length, map, get_or, slice_range, drop, get_or-take, get_or-drop, length-drop, length-take, refl, sym, ◌∙◌, ap, inl, inr, arith}
 use Rattle.std.proofs.lemmas.Bool.{and_parts, cases_Bool, cases_lt, cond-false, leb-true, ltb-true}
 use Rattle.std.proofs.lemmas.Int.{ints}
 use Rattle.std.proofs.lemmas.List.{get_or-map, get_or_past, length-map}
-use Rattle.dsd_bits.specs.Sums.{sign, sum_below}
-use Rattle.fir_core.specs.Convolution.{conv, signal}
+use Rattle.dsd_bits.specs.Sums.{sign}
+use Rattle.fir_core.specs.Convolution.{signal}
 use Rattle.fir_core.proofs.SumOrder.{sum_below_same}
 use Rattle.fir_core.proofs.Sums.{signal_before}
 use Rattle.heard_core.specs.Sounds.{decoded}

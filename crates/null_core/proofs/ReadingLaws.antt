@@ -1,5 +1,5 @@
 -- What was read of takes has their shapes, and the bits that clips need.
-use Rattle.std.proofs.Common.{◌≡◌, ℕ, ◌+◌, ◌-◌, ◌<◌, ◌≤◌, Bool, inl, inr, List, [], length, map, get_or, slice_range, replicate, refl, sym, ap, subst, ◌∙◌, arith, eq-eqb, All, ◌==◌, ◌^◌}
+use Rattle.std.proofs.Common.{◌≡◌, ℕ, ◌+◌, ◌-◌, ◌<◌, ◌≤◌, Bool, inl, inr, List, [], length, map, get_or, slice_range, sym, ap, subst, ◌∙◌, arith, eq-eqb, ◌==◌, ◌^◌}
 use Rattle.std.proofs.lemmas.Bool.{and_from, cases_lt, cond-true}
 use Rattle.std.proofs.lemmas.List.{get_or-map, get_or_past, length-map, length-replicate}
 use Rattle.std.proofs.lemmas.List.FromFn.{get_or-map-range_with_len, length-map-range_with_len}

@@ -1,17 +1,13 @@
 -- Laws of verdicts.
-use Rattle.std.proofs.Common.{◌≡◌, ◌≢◌, ℕ, ◌+◌, ◌<◌, ◌≤◌, ◌⊎◌, Bool, List, [], ◌∷◌, ◌++◌, All, Result, Ok, Err, Some, length, map, max, take, get_or, slice_get, refl, sym, ap, subst, ◌∙◌, inl, inr, arith}
+use Rattle.std.proofs.Common.{◌≡◌, ℕ, ◌+◌, ◌<◌, ◌≤◌, ◌⊎◌, Bool, List, [], ◌∷◌, ◌++◌, All, Ok, Some, length, max, get_or, slice_get, refl, sym, ap, subst, ◌∙◌, inl, inr, arith}
 use Rattle.std.proofs.lemmas.Bool.{cases_lt}
 use Rattle.std.proofs.lemmas.List.{get_or_append_left, get_or_push, length-append}
 use Rattle.std.proofs.lemmas.Option.{get_or_from_slice_get, slice_get_within, slice_get-get_or}
 use Rattle.std.specs.Ordering.{nat_cmp, ord_max}
-use Rattle.dsd_bits.specs.Channels.{count_of}
-use Rattle.dsd_bits.specs.Contents.{Content}
-use Rattle.clip_core.specs.Mixes.{mix_length}
 use Rattle.null_core.specs.declared.stretch.Stretch.{Stretch}
-use Rattle.null_core.specs.declared.verdict.LoudPlace.{LoudPlace}
 use Rattle.null_core.specs.Judging.{IsFirst}
 use Rattle.null_core.specs.Reading.{JudgesChannelOf, MixedContent}
-use Rattle.null_core.specs.Verdicts.{AreJudgedTo, HasAbove, IsAbove, IsFirstAbove, IsGreatestIn, IsGreatestTo}
+use Rattle.null_core.specs.Verdicts.{AreJudgedTo, HasAbove, IsAbove, IsGreatestIn, IsGreatestTo}
 
 -- ---- the greatest residual
 pub greater : (a b : ℕ) → ord_max nat_cmp a b ≡ max a b

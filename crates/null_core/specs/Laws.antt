@@ -1,5 +1,5 @@
 -- Law: parts that hold the bits that their sound needs are judged as those that hold all bits of their takes.
-use Rattle.std.specs.Prelude.{◌≡◌, ℕ, Bool, List, Result}
+use Rattle.std.specs.Prelude.{ℕ, Bool, List, Result}
 use Rattle.null_core.specs.declared.stretch.Stretch.{Stretch}
 use Rattle.null_core.specs.Judging.{JudgesChannel}
 use Rattle.null_core.specs.Likeness.{AreAskedAlike, AreExcerptsOf}

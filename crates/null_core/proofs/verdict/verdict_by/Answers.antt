@@ -1,8 +1,8 @@
-use Rattle.std.proofs.Common.{◌≡◌, ◌∙◌, ◌<◌, ◌≤◌, [], Global, List, Vec, ap, arith, get_or, length, map, subst, sym}
-use Rattle.std.proofs.lemmas.List.{get_or-map, get_or_read_under, length-map}
+use Rattle.std.proofs.Common.{◌≡◌, ◌∙◌, ◌<◌, [], Global, List, Vec, ap, arith, get_or, length, map, subst, sym}
+use Rattle.std.proofs.lemmas.List.{get_or-map, length-map}
 use Rattle.std.proofs.lemmas.Option.{get_or_from_slice_get}
 use Rattle.null_core.specs.declared.stretch.Stretch.{Stretch}
-use Rattle.null_core.specs.Verdicts.{IsAbove, IsFirstAbove, IsGreatestTo}
+use Rattle.null_core.specs.Verdicts.{IsFirstAbove, IsGreatestTo}
 use Rattle.null_core.proofs.VerdictLaws.{first_channel, greatest_low, greatest_to_more, greatest_to_none, greater}
 use Rattle.null_core.proofs.verdict.verdict_by.Goals as goal
 use Rattle.null_core.proofs.verdict.verdict_by.Goals.{After-first_above}

@@ -36,12 +36,12 @@ module _ (mixed : MixedContent) (channel : ℕ) where
     each = λ i q is_q.
         let at = get_or_from_slice_get (parts ++ p ∷ []) i q p is_q in
         elim (cases_lt i (length parts)) [
-          inl earlier ↦ before.each i q (slice_get-get_or parts i p earlier ∙ ap Some (sym (get_or_append_left parts (p ∷ []) p i earlier) ∙ at))
-        | inr later ↦
-            let last : length parts ≡ i = omega (arith, later, slice_get_within (parts ++ p ∷ []) i q is_q, length-append parts (p ∷ [])) in
-            let number : n ≡ i = omega (arith, last, before.as_many) in
-            let same : p ≡ q = sym (get_or_push parts p p i last) ∙ at in
-            subst (λ (k : ℕ). IsPartOf mixed channel k q) number (subst (IsPartOf mixed channel n) same is)
+          | inl earlier ↦ before.each i q (slice_get-get_or parts i p earlier ∙ ap Some (sym (get_or_append_left parts (p ∷ []) p i earlier) ∙ at))
+          | inr later ↦
+              let last : length parts ≡ i = omega (arith, later, slice_get_within (parts ++ p ∷ []) i q is_q, length-append parts (p ∷ [])) in
+              let number : n ≡ i = omega (arith, last, before.as_many) in
+              let same : p ≡ q = sym (get_or_push parts p p i last) ∙ at in
+              subst (λ (k : ℕ). IsPartOf mixed channel k q) number (subst (IsPartOf mixed channel n) same is)
         ];
     fit = All-push IsPart parts p before.fit fits;
   }

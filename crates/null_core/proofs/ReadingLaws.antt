@@ -42,13 +42,13 @@ module _ (mixed : MixedContent) (takes : List Content) (of : IsReadOf mixed take
 
   shape_is : (number : ℕ) → read_shapes mixed.read number ≡ shapes_of takes number
   shape_is number = elim (cases_lt number (length takes)) [
-      inl lt ↦
+    | inl lt ↦
         let many = length-replicate {A = List Bool} (length (take_at takes number).channels) [] in
         ap excerpts_shape (read_is number lt) ∙ (λ j. record { rate = (take_at takes number).rate; channels = many j; count = count_of (take_at takes number).channels })
     | inr past ↦
         let none = get_or_past mixed.read number (record { recording = take_at [] 0; count = 0; stretches = [] }) (omega (arith, read_long, past)) in
         ap excerpts_shape none ∙ sym (ap (λ (r : Content). record { rate = r.rate; channels = length r.channels; count = count_of r.channels }) (get_or_past takes number (take_at [] 0) past))
-    ]
+  ]
 
   pub shapes_are : read_shapes mixed.read ≡ shapes_of takes
   shapes_are j number = shape_is number j

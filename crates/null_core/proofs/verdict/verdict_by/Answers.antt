@@ -1,6 +1,6 @@
 use Rattle.std.proofs.Common.{◌≡◌, ◌∙◌, ◌<◌, [], Global, List, Vec, ap, arith, get_or, length, map, subst, sym}
 use Rattle.std.proofs.lemmas.List.{get_or-map, length-map}
-use Rattle.std.proofs.lemmas.Option.{get_or_from_slice_get}
+use Rattle.std.proofs.lemmas.Option.{get_or_from_slice_get, slice_get_within}
 use Rattle.null_core.specs.declared.stretch.Stretch.{Stretch}
 use Rattle.null_core.specs.Verdicts.{IsFirstAbove, IsGreatestTo}
 use Rattle.null_core.proofs.VerdictLaws.{first_channel, greatest_low, greatest_to_more, greatest_to_none, greater}
@@ -42,3 +42,8 @@ returns c =
     let all = map items c.args.stretches.now in
     let end : c.loop-channel.channel ≡ length all = omega (arith, c.loop-channel-test.false, c.loop-channel.auto.channel-end, length-map c.args.stretches.now items) in
     (subst (λ n. IsGreatestTo all n c.loop-channel.greatest) end c.loop-channel.invariant.0, c.loop-channel.invariant.1)
+
+pub bounds-found-number : goal.bounds-found-number
+bounds-found-number c =
+    let first = c.in-Some.ensures.first.here in
+    slice_get_within c.as_slice-found.result.now c.in-Some.number first.stretch first.there

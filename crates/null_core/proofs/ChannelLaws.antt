@@ -1,10 +1,10 @@
 -- The clips as a channel has them, one by one.
-use Rattle.std.proofs.Common.{◌≡◌, ℕ, zero, suc, Bool, Result, refl, ap₂, if◌then◌else◌, ◌+◌, ◌<◌, ◌≤◌, List, [], ◌∷◌, ◌++◌, All, Some, length, map, get_or, slice_get, sym, ap, subst, ◌∙◌, inl, inr, arith}
+use Rattle.std.proofs.Common.{◌≡◌, ℕ, suc, Bool, Result, refl, ap₂, if◌then◌else◌, ◌+◌, ◌<◌, List, [], ◌∷◌, ◌++◌, All, Some, length, map, slice_get, sym, ap, subst, ◌∙◌, inl, inr, arith}
 use Rattle.std.proofs.lemmas.Bool.{cases_lt}
 use Rattle.std.proofs.lemmas.List.{get_or-map, get_or_append_left, get_or_push, length-append, length-map}
 use Rattle.std.proofs.lemmas.List.Elements.{All-nil, All-push}
 use Rattle.std.proofs.lemmas.List.Sums.{sum_by-cons}
-use Rattle.std.proofs.lemmas.Option.{get_or_from_slice_get, none-some, slice_get_within, slice_get-get_or, same_Some}
+use Rattle.std.proofs.lemmas.Option.{get_or_from_slice_get, slice_get_within, slice_get-get_or}
 use Rattle.std.specs.List.{sum_by}
 use Rattle.dsd_bits.specs.Contents.{Content}
 use Rattle.clip_core.specs.Clips as clips
@@ -16,7 +16,7 @@ use Rattle.null_core.specs.Holding.{clip_at}
 use Rattle.null_core.specs.Likeness.{AreExcerptsOf, IsExcerptOf}
 use Rattle.null_core.specs.Judging.{JudgesChannel}
 use Rattle.null_core.specs.Parts.{IsAsked, IsPart, PartContent, has_place, parts_at}
-use Rattle.null_core.specs.Reading.{ArePartsOf, IsMixed, IsPartOf, IsReadOf, JudgesChannelOf, MixedContent}
+use Rattle.null_core.specs.Reading.{ArePartsOf, IsMixed, IsPartOf, JudgesChannelOf, MixedContent}
 use Rattle.null_core.proofs.ExcerptLaws.{excerpts_alike, sounds_alike}
 use Rattle.null_core.proofs.LikeLaws.{judged_alike}
 
@@ -36,12 +36,12 @@ module _ (mixed : MixedContent) (channel : ℕ) where
     each = λ i q is_q.
         let at = get_or_from_slice_get (parts ++ p ∷ []) i q p is_q in
         elim (cases_lt i (length parts)) [
-          inl earlier ↦ before.each i q (slice_get-get_or parts i p earlier ∙ ap Some (sym (get_or_append_left parts (p ∷ []) p i earlier) ∙ at))
-        | inr later ↦
-            let last : length parts ≡ i = omega (arith, later, slice_get_within (parts ++ p ∷ []) i q is_q, length-append parts (p ∷ [])) in
-            let number : n ≡ i = omega (arith, last, before.as_many) in
-            let same : p ≡ q = sym (get_or_push parts p p i last) ∙ at in
-            subst (λ (k : ℕ). IsPartOf mixed channel k q) number (subst (IsPartOf mixed channel n) same is)
+          | inl earlier ↦ before.each i q (slice_get-get_or parts i p earlier ∙ ap Some (sym (get_or_append_left parts (p ∷ []) p i earlier) ∙ at))
+          | inr later ↦
+              let last : length parts ≡ i = omega (arith, later, slice_get_within (parts ++ p ∷ []) i q is_q, length-append parts (p ∷ [])) in
+              let number : n ≡ i = omega (arith, last, before.as_many) in
+              let same : p ≡ q = sym (get_or_push parts p p i last) ∙ at in
+              subst (λ (k : ℕ). IsPartOf mixed channel k q) number (subst (IsPartOf mixed channel n) same is)
         ];
     fit = All-push IsPart parts p before.fit fits;
   }

@@ -1,10 +1,10 @@
 -- A part that holds the bits that its sound needs sounds like the one that holds all bits of its take.
-use Rattle.std.proofs.Common.{◌≡◌, ℕ, ◌+◌, ◌-◌, ◌*◌, ◌/◌, ◌<◌, ◌≤◌, min, ℤ, pos, negsuc, ◌-ℤ◌, ◌*ℤ◌, Bool, true, false, IsTrue, ◌&&◌, nat_le, nat_lt, if◌then◌else◌, List, length, map, get_or, slice_range, take, drop, get_or-take, get_or-drop, length-drop, length-take, refl, sym, ◌∙◌, ap, subst, inl, inr, arith}
+use Rattle.std.proofs.Common.{◌≡◌, ℕ, ◌+◌, ◌-◌, ◌/◌, ◌<◌, ◌≤◌, min, ℤ, pos, ◌-ℤ◌, ◌*ℤ◌, Bool, true, false, IsTrue, nat_le, nat_lt, if◌then◌else◌, List, length, map, get_or, slice_range, drop, get_or-take, get_or-drop, length-drop, length-take, refl, sym, ◌∙◌, ap, inl, inr, arith}
 use Rattle.std.proofs.lemmas.Bool.{and_parts, cases_Bool, cases_lt, cond-false, leb-true, ltb-true}
 use Rattle.std.proofs.lemmas.Int.{ints}
 use Rattle.std.proofs.lemmas.List.{get_or-map, get_or_past, length-map}
-use Rattle.dsd_bits.specs.Sums.{sign, sum_below}
-use Rattle.fir_core.specs.Convolution.{conv, signal}
+use Rattle.dsd_bits.specs.Sums.{sign}
+use Rattle.fir_core.specs.Convolution.{signal}
 use Rattle.fir_core.proofs.SumOrder.{sum_below_same}
 use Rattle.fir_core.proofs.Sums.{signal_before}
 use Rattle.heard_core.specs.Sounds.{decoded}
@@ -21,27 +21,27 @@ module _ (bits : List Bool) (from to : ℕ) where
   -- the signal at a place of the range
   signal_in : (k : ℕ) → from + k < to → signal (slice_range bits from to) (pos k) ≡ signal bits (pos (from + k))
   signal_in k below = elim (cases_lt (from + k) (length bits)) [
-      inl there ↦
-          get_or-map sign (slice_range bits from to) k false (pos 0) (omega (arith, length-slice bits from to, below, there))
-          ∙ ap sign (slice_at bits from to k (omega (arith, below)))
-          ∙ sym (get_or-map sign bits (from + k) false (pos 0) there)
+    | inl there ↦
+        get_or-map sign (slice_range bits from to) k false (pos 0) (omega (arith, length-slice bits from to, below, there))
+        ∙ ap sign (slice_at bits from to k (omega (arith, below)))
+        ∙ sym (get_or-map sign bits (from + k) false (pos 0) there)
     | inr past ↦
-          get_or_past (map sign (slice_range bits from to)) k (pos 0) (omega (arith, length-map (slice_range bits from to) sign, length-slice bits from to, past))
-          ∙ sym (get_or_past (map sign bits) (from + k) (pos 0) (omega (arith, length-map bits sign, past)))
-    ]
+        get_or_past (map sign (slice_range bits from to)) k (pos 0) (omega (arith, length-map (slice_range bits from to) sign, length-slice bits from to, past))
+        ∙ sym (get_or_past (map sign bits) (from + k) (pos 0) (omega (arith, length-map bits sign, past)))
+  ]
 
   -- the sound of a bit, if the range has the bits that the taps reach, or the take has none there
   pub decoded_in : (taps : List ℤ) (n : ℕ) → from ≤ n - length taps / 2 → n + length taps / 2 < to → decoded taps (slice_range bits from to) (n - from) ≡ decoded taps bits n
   decoded_in taps n low high =
       let reach = length taps / 2 in
       sum_below_same (length taps) _ _ (λ k lt. ap (λ z. get_or taps k (pos 0) *ℤ z) (elim (cases_lt (n - from + reach) k) [
-          inl before ↦ signal_before (slice_range bits from to) (n - from + reach) k before ∙ sym (signal_before bits (n + reach) k (omega (arith, before, low, lt)))
+        | inl before ↦ signal_before (slice_range bits from to) (n - from + reach) k before ∙ sym (signal_before bits (n + reach) k (omega (arith, before, low, lt)))
         | inr here ↦
             let place = n - from + reach - k in
             let in_range : pos (n - from + reach) -ℤ pos k ≡ pos place = omega (arith, ints, here) in
             let in_take : pos (n + reach) -ℤ pos k ≡ pos (from + place) = omega (arith, ints, here, low) in
             ap (signal (slice_range bits from to)) in_range ∙ signal_in place (omega (arith, here, low, high)) ∙ ap (signal bits) (sym in_take)
-        ]))
+      ]))
 
 module _ (whole p : PartContent) (of : IsExcerptOf whole p) where
   same_place : (m : ℕ) → has_place m p ≡ has_place m whole
@@ -63,9 +63,9 @@ module _ (whole p : PartContent) (of : IsExcerptOf whole p) where
       let sound = decoded p.taps p.bits (p.start + (m - p.at)) in
       (λ j. if same_place m j then part_gain (of.is j) m *ℤ sound else pos 0)
       ∙ elim (cases_Bool (has_place m whole)) [
-          inl has ↦ ap (λ (z : ℤ). if has_place m whole then part_gain whole m *ℤ z else pos 0) (sound_at m has)
+        | inl has ↦ ap (λ (z : ℤ). if has_place m whole then part_gain whole m *ℤ z else pos 0) (sound_at m has)
         | inr none ↦ cond-false _ _ _ none ∙ sym (cond-false _ _ _ none)
-        ]
+      ]
 
   bit_alike : (m : ℕ) → IsTrue (has_place m p) → part_bit p m ≡ part_bit whole m
   bit_alike m has =

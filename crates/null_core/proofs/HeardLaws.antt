@@ -1,5 +1,5 @@
 -- What is heard of a master, by what was found in its channels.
-use Rattle.std.proofs.Common.{◌≡◌, ◌≢◌, ℕ, ◌<◌, ◌≤◌, ◌⊎◌, ◌↔◌, refl, Bool, List, [], All, Ok, Err, Some, length, get_or, slice_get, sym, ap, subst, ◌∙◌, inl, inr, arith}
+use Rattle.std.proofs.Common.{◌≡◌, ◌≢◌, ℕ, ◌<◌, ◌≤◌, ◌↔◌, refl, Bool, List, [], Some, length, get_or, slice_get, sym, ap, subst, ◌∙◌, inl, inr, arith}
 use Rattle.std.proofs.lemmas.List.Elements.{All-get_or}
 use Rattle.std.proofs.lemmas.Option.{get_or_from_slice_get, slice_get_within}
 use Rattle.dsd_bits.specs.Channels.{count_of}
@@ -76,14 +76,14 @@ module _ (mixed : MixedContent) (master : Content) (first : FitsFirst mixed mast
       greatest_of_all = record {
         most = low;
         reached = elim is.reached [
-            inl none ↦ inl none
+          | inl none ↦ inl none
           | inr some ↦
               let channel = some.0 in
               let s = some.2 in
               let there : channel < length master.channels = omega (arith, some.3, judged.as_many) in
               let of = (stretch_at (asked_of mixed.mix takes channel) (channel_bits master channel) (get_or stretches channel []) (found.found.each channel there) some.1 s some.4).greatest in
               inr (channel, s.place, record { there = there; judged = of.judged.judged }, of.size ∙ some.5)
-          ];
+        ];
       }
 
       nulls : greatest ≤ mixed.mix.limit → NullsAll mixed.mix takes master mixed.mix.limit
@@ -102,10 +102,11 @@ module _ (mixed : MixedContent) (master : Content) (first : FitsFirst mixed mast
   too_loud : (loud : LoudPlace) → IsFirstLoud mixed master.channels loud → IsVerdict mixed.mix takes master [] (TooLoud loud.channel loud.place)
   too_loud loud is =
       let place = is.first takes read in
-      let here : IsTooLoudIn mixed.mix takes master loud.channel loud.place = record { there = is.there; loud = place.here } in
-      (fits mixed master takes read first,
-       record { here = (loud.place, here); before = λ earlier lt has. (is.judged.each earlier lt takes read).1 has.0 has.1.loud },
-       record { here = here; before = λ earlier lt has. place.before earlier lt has.loud })
+      let here : IsTooLoudIn mixed.mix takes master loud.channel loud.place = record { there = is.there; loud = place.here } in (
+        fits mixed master takes read first,
+        record { here = (loud.place, here); before = λ earlier lt has. (is.judged.each earlier lt takes read).1 has.0 has.1.loud },
+        record { here = here; before = λ earlier lt has. place.before earlier lt has.loud },
+      )
 
 pub heard_by : (mixed : MixedContent) (master : Content) → FitsFirst mixed master → (stretches : List (List Stretch)) → AreJudgedTo mixed master.channels (length master.channels) stretches → (verdict : Verdict) → IsVerdictBy mixed.mix.limit stretches verdict → IsVerdictOn mixed master stretches verdict
 heard_by mixed master first stretches judged verdict is takes read = by mixed master first takes read stretches judged verdict is

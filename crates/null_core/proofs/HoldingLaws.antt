@@ -1,10 +1,10 @@
 -- Laws of what a mix reads of its takes.
-use Rattle.std.proofs.Common.{◌≡◌, ℕ, ◌+◌, ◌-◌, ◌<◌, ◌≤◌, Bool, true, false, ◌&&◌, not, nat_le, ◌==◌, IsTrue, List, length, get_or, refl, sym, ◌∙◌, ap, subst, inl, inr, arith, le-leb, eq-eqb, ◌≢◌}
+use Rattle.std.proofs.Common.{◌≡◌, ℕ, ◌<◌, ◌≤◌, true, false, ◌&&◌, not, nat_le, ◌==◌, get_or, refl, ◌∙◌, ap, inl, inr, arith, le-leb, eq-eqb, ◌≢◌}
 use Rattle.std.proofs.lemmas.Bool.{and_from, and_left, and_parts, and_right, cases_lt, cond-false, cond-true, eqb-true, false_from_ne_true, leb-true, ne_eqb}
 use Rattle.std.proofs.lemmas.List.Folds.{list_any_none, list_any_at}
 use Rattle.std.proofs.lemmas.List.FromFn.{get_or-range_with_len, length-range_with_len}
 use Rattle.std.proofs.lemmas.List.Elements.{All-from_get_or}
-use Rattle.std.specs.List.{list_any, range_with_len}
+use Rattle.std.specs.List.{range_with_len}
 use Rattle.clip_core.specs.Mixes.{MixContent}
 use Rattle.null_core.specs.Holding.{clip_at, clip_range, is_kept, range_of, serves}
 use Rattle.null_core.specs.Reading.{IsHolder}

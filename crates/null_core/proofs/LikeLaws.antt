@@ -1,5 +1,5 @@
 -- What asks for the same is judged alike.
-use Rattle.std.proofs.Common.{◌≡◌, ℕ, ◌+◌, ◌/◌, ◌%◌, ◌^◌, ◌<◌, ◌≤◌, ℤ, pos, Bool, false, true, IsTrue, List, [], ◌∷◌, All, Result, Ok, Err, Some, length, map, get_or, slice_get, unsigned_abs, refl, sym, ◌∙◌, ap, subst, arith}
+use Rattle.std.proofs.Common.{◌≡◌, ℕ, ◌+◌, ◌/◌, ◌%◌, ◌^◌, ◌<◌, ◌≤◌, ℤ, pos, Bool, false, List, [], Result, Ok, Err, Some, length, map, get_or, slice_get, unsigned_abs, sym, ◌∙◌, ap, subst, arith}
 use Rattle.std.proofs.lemmas.List.{ext_get_or, length-map, get_or-map}
 use Rattle.std.proofs.lemmas.List.Elements.{All-weaker}
 use Rattle.std.proofs.lemmas.Option.{slice_get-get_or, slice_get_within}
@@ -9,10 +9,10 @@ use Rattle.heard_core.specs.Residuals.{residual}
 use Rattle.null_core.specs.declared.stretch.Stretch.{Stretch}
 use Rattle.null_core.specs.Errors.{IsLoud, error_at, error_of, residual_size}
 use Rattle.null_core.specs.Judged.{IsJudged, IsTooLoud}
-use Rattle.null_core.specs.Judging.{IsFirst, JudgesChannel}
+use Rattle.null_core.specs.Judging.{JudgesChannel}
 use Rattle.null_core.specs.Likeness.{AreAskedAlike, SoundAlike}
-use Rattle.null_core.specs.Own.{HasBit, IsAlone, IsEdited, IsHeard, IsOwn, IsOwnAround, IsWhole}
-use Rattle.null_core.specs.Parts.{AskedContent, PartContent, added, has_place, mix_at, part_bit, part_gain, reach}
+use Rattle.null_core.specs.Own.{HasBit, IsAlone, IsHeard, IsOwnAround, IsWhole}
+use Rattle.null_core.specs.Parts.{AskedContent, PartContent, added, has_place, mix_at, part_gain, reach}
 use Rattle.null_core.specs.Stretches.{AreStretches, HasNext, IsGreatest, IsJudgedFrom, IsStretch}
 
 back : (p q : PartContent) → SoundAlike p q → SoundAlike q p

@@ -1,5 +1,5 @@
 -- What was read of takes has their shapes, and the bits that clips need.
-use Rattle.std.proofs.Common.{◌≡◌, ℕ, ◌+◌, ◌-◌, ◌<◌, ◌≤◌, Bool, inl, inr, List, [], length, map, get_or, slice_range, replicate, refl, sym, ap, subst, ◌∙◌, arith, eq-eqb, All, ◌==◌, ◌^◌}
+use Rattle.std.proofs.Common.{◌≡◌, ℕ, ◌+◌, ◌-◌, ◌<◌, ◌≤◌, Bool, inl, inr, List, [], length, map, get_or, slice_range, sym, ap, subst, ◌∙◌, arith, eq-eqb, ◌==◌, ◌^◌}
 use Rattle.std.proofs.lemmas.Bool.{and_from, cases_lt, cond-true}
 use Rattle.std.proofs.lemmas.List.{get_or-map, get_or_past, length-map, length-replicate}
 use Rattle.std.proofs.lemmas.List.FromFn.{get_or-map-range_with_len, length-map-range_with_len}
@@ -42,13 +42,13 @@ module _ (mixed : MixedContent) (takes : List Content) (of : IsReadOf mixed take
 
   shape_is : (number : ℕ) → read_shapes mixed.read number ≡ shapes_of takes number
   shape_is number = elim (cases_lt number (length takes)) [
-      inl lt ↦
+    | inl lt ↦
         let many = length-replicate {A = List Bool} (length (take_at takes number).channels) [] in
         ap excerpts_shape (read_is number lt) ∙ (λ j. record { rate = (take_at takes number).rate; channels = many j; count = count_of (take_at takes number).channels })
     | inr past ↦
         let none = get_or_past mixed.read number (record { recording = take_at [] 0; count = 0; stretches = [] }) (omega (arith, read_long, past)) in
         ap excerpts_shape none ∙ sym (ap (λ (r : Content). record { rate = r.rate; channels = length r.channels; count = count_of r.channels }) (get_or_past takes number (take_at [] 0) past))
-    ]
+  ]
 
   pub shapes_are : read_shapes mixed.read ≡ shapes_of takes
   shapes_are j number = shape_is number j

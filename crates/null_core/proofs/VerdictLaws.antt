@@ -1,17 +1,13 @@
 -- Laws of verdicts.
-use Rattle.std.proofs.Common.{◌≡◌, ◌≢◌, ℕ, ◌+◌, ◌<◌, ◌≤◌, ◌⊎◌, Bool, List, [], ◌∷◌, ◌++◌, All, Result, Ok, Err, Some, length, map, max, take, get_or, slice_get, refl, sym, ap, subst, ◌∙◌, inl, inr, arith}
+use Rattle.std.proofs.Common.{◌≡◌, ℕ, ◌+◌, ◌<◌, ◌≤◌, ◌⊎◌, Bool, List, [], ◌∷◌, ◌++◌, All, Ok, Some, length, max, get_or, slice_get, refl, sym, ap, subst, ◌∙◌, inl, inr, arith}
 use Rattle.std.proofs.lemmas.Bool.{cases_lt}
 use Rattle.std.proofs.lemmas.List.{get_or_append_left, get_or_push, length-append}
 use Rattle.std.proofs.lemmas.Option.{get_or_from_slice_get, slice_get_within, slice_get-get_or}
 use Rattle.std.specs.Ordering.{nat_cmp, ord_max}
-use Rattle.dsd_bits.specs.Channels.{count_of}
-use Rattle.dsd_bits.specs.Contents.{Content}
-use Rattle.clip_core.specs.Mixes.{mix_length}
 use Rattle.null_core.specs.declared.stretch.Stretch.{Stretch}
-use Rattle.null_core.specs.declared.verdict.LoudPlace.{LoudPlace}
 use Rattle.null_core.specs.Judging.{IsFirst}
 use Rattle.null_core.specs.Reading.{JudgesChannelOf, MixedContent}
-use Rattle.null_core.specs.Verdicts.{AreJudgedTo, HasAbove, IsAbove, IsFirstAbove, IsGreatestIn, IsGreatestTo}
+use Rattle.null_core.specs.Verdicts.{AreJudgedTo, HasAbove, IsAbove, IsGreatestIn, IsGreatestTo}
 
 -- ---- the greatest residual
 pub greater : (a b : ℕ) → ord_max nat_cmp a b ≡ max a b
@@ -37,27 +33,27 @@ module _ (stretches : List Stretch) (greatest : ℕ) (before : IsGreatestIn stre
   cases i t is =
       let at = get_or_from_slice_get (stretches ++ s ∷ []) i t t is in
       elim (cases_lt i (length stretches)) [
-        inl earlier ↦ inl (slice_get-get_or stretches i t earlier ∙ ap Some (sym (get_or_append_left stretches (s ∷ []) t i earlier) ∙ at))
-      | inr later ↦
-          let end : length stretches ≡ i = omega (arith, later, slice_get_within (stretches ++ s ∷ []) i t is, length-append stretches (s ∷ [])) in
-          inr (sym (get_or_push stretches s t i end) ∙ at)
+        | inl earlier ↦ inl (slice_get-get_or stretches i t earlier ∙ ap Some (sym (get_or_append_left stretches (s ∷ []) t i earlier) ∙ at))
+        | inr later ↦
+            let end : length stretches ≡ i = omega (arith, later, slice_get_within (stretches ++ s ∷ []) i t is, length-append stretches (s ∷ [])) in
+            inr (sym (get_or_push stretches s t i end) ∙ at)
       ]
 
   pub greatest_more : (r : ℕ) → r ≡ max greatest s.residual → IsGreatestIn (stretches ++ s ∷ []) r
   greatest_more r is = record {
     most = λ i t at. elim (cases i t at) [
-        inl old ↦ omega (arith, is, before.most i t old)
+      | inl old ↦ omega (arith, is, before.most i t old)
       | inr new ↦ omega (arith, is, ap (λ (k : Stretch). k.residual) new)
-      ];
+    ];
     reached = elim (cases_lt greatest s.residual) [
-        inl more ↦ inr (length stretches, s, last, omega (arith, is, more))
+      | inl more ↦ inr (length stretches, s, last, omega (arith, is, more))
       | inr same ↦
           let unchanged : r ≡ greatest = omega (arith, is, same) in
           elim before.reached [
-            inl none ↦ inl (unchanged ∙ none)
-          | inr some ↦ inr (some.0, some.1, kept some.0 some.1 some.2, some.3 ∙ sym unchanged)
+            | inl none ↦ inl (unchanged ∙ none)
+            | inr some ↦ inr (some.0, some.1, kept some.0 some.1 some.2, some.3 ∙ sym unchanged)
           ]
-      ];
+    ];
   }
 
 -- ---- the verdict by stretches
@@ -69,26 +65,26 @@ module _ (lists : List (List Stretch)) where
     pub greatest_to_more : (more r : ℕ) → IsGreatestIn found more → r ≡ max greatest more → IsGreatestTo lists (n + 1) r
     greatest_to_more more r of r_is = record {
       most = λ channel i s lt at. elim (cases_lt channel n) [
-          inl earlier ↦ omega (arith, r_is, before.most channel i s earlier at)
+        | inl earlier ↦ omega (arith, r_is, before.most channel i s earlier at)
         | inr later ↦
             let here : channel ≡ n = omega (arith, later, lt) in
             let in_found : slice_get found i ≡ Some s = ap (λ l. slice_get l i) is ∙ ap (λ c. slice_get (get_or lists c []) i) (sym here) ∙ at in
             omega (arith, r_is, of.most i s in_found)
-        ];
+      ];
       reached = elim (cases_lt greatest more) [
-          inl greater ↦
+        | inl greater ↦
             let new : r ≡ more = omega (arith, r_is, greater) in
             elim of.reached [
-              inl none ↦ inl (new ∙ none)
-            | inr some ↦ inr (n, some.0, some.1, omega arith, ap (λ l. slice_get l some.0) (sym is) ∙ some.2, some.3 ∙ sym new)
+              | inl none ↦ inl (new ∙ none)
+              | inr some ↦ inr (n, some.0, some.1, omega arith, ap (λ l. slice_get l some.0) (sym is) ∙ some.2, some.3 ∙ sym new)
             ]
         | inr same ↦
             let unchanged : r ≡ greatest = omega (arith, r_is, same) in
             elim before.reached [
-              inl none ↦ inl (unchanged ∙ none)
-            | inr some ↦ inr (some.0, some.1, some.2, omega (arith, some.3), some.4, some.5 ∙ sym unchanged)
+              | inl none ↦ inl (unchanged ∙ none)
+              | inr some ↦ inr (some.0, some.1, some.2, omega (arith, some.3), some.4, some.5 ∙ sym unchanged)
             ]
-        ];
+      ];
     }
 
     -- the first channel that has a stretch above
@@ -101,12 +97,12 @@ module _ (lists : List (List Stretch)) where
 -- the greatest of some stretches is at most what each of them is
 pub greatest_low : (stretches : List Stretch) (greatest limit : ℕ) → IsGreatestIn stretches greatest → All (λ (s : Stretch). s.residual ≤ limit) stretches → greatest ≤ limit
 greatest_low stretches greatest limit of all = elim of.reached [
-      inl none ↦ omega (arith, none)
-    | inr some ↦
-        let low = all some.0 some.1 (slice_get_within stretches some.0 some.1 some.2) in
-        let at = get_or_from_slice_get stretches some.0 some.1 some.1 some.2 in
-        omega (arith, ap (λ (k : Stretch). k.residual) at, low, some.3)
-    ]
+  | inl none ↦ omega (arith, none)
+  | inr some ↦
+      let low = all some.0 some.1 (slice_get_within stretches some.0 some.1 some.2) in
+      let at = get_or_from_slice_get stretches some.0 some.1 some.1 some.2 in
+      omega (arith, ap (λ (k : Stretch). k.residual) at, low, some.3)
+]
 
 -- ---- the channels one by one
 module _ (mixed : MixedContent) (channels : List (List Bool)) where
@@ -117,7 +113,7 @@ module _ (mixed : MixedContent) (channels : List (List Bool)) where
   more_judged n stretches found before judges = record {
     as_many = omega (arith, length-append stretches (found ∷ []), before.as_many);
     each = λ channel lt. elim (cases_lt channel n) [
-        inl earlier ↦
+      | inl earlier ↦
           let there : channel < length stretches = omega (arith, earlier, before.as_many) in
           subst (λ l. JudgesChannelOf mixed channel (get_or channels channel []) (Ok l)) (sym (get_or_append_left stretches (found ∷ []) [] channel there)) (before.each channel earlier)
       | inr later ↦
@@ -125,5 +121,5 @@ module _ (mixed : MixedContent) (channels : List (List Bool)) where
           let end : length stretches ≡ channel = before.as_many ∙ here in
           subst (λ l. JudgesChannelOf mixed channel (get_or channels channel []) (Ok l)) (sym (get_or_push stretches found [] channel end))
           (subst (λ c. JudgesChannelOf mixed c (get_or channels c []) (Ok found)) here judges)
-      ];
+    ];
   }

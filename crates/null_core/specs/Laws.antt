@@ -1,5 +1,5 @@
 -- How the words of the contracts are related.
-use Rattle.std.specs.Prelude.{◌≡◌, ℕ, ◌≤◌, ◌↔◌, Bool, List, All, Result}
+use Rattle.std.specs.Prelude.{ℕ, ◌≤◌, ◌↔◌, Bool, List, All, Result}
 use Rattle.null_core.specs.declared.stretch.Stretch.{Stretch}
 use Rattle.null_core.specs.Judged.{Nulls}
 use Rattle.null_core.specs.Judging.{JudgesChannel}

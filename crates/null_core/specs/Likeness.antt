@@ -1,5 +1,5 @@
 -- Parts that hold some bits of their takes, and are judged as those that hold all.
-use Rattle.std.specs.Prelude.{◌≡◌, ℕ, ◌+◌, ◌-◌, ◌/◌, ◌≤◌, Bool, IsTrue, List, length, slice_get, slice_range, Some}
+use Rattle.std.specs.Prelude.{◌≡◌, ℕ, ◌+◌, ◌-◌, ◌/◌, ◌≤◌, IsTrue, List, length, slice_get, slice_range, Some}
 use Rattle.null_core.specs.Parts.{AskedContent, PartContent, added, has_place, part_bit}
 
 -- a part has, of the bits of a whole one, those of a range that has all that its sound needs; otherwise it is the same

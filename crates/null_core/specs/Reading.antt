@@ -1,5 +1,5 @@
 -- A mix with what was read of its takes.
-use Rattle.std.specs.Prelude.{◌≡◌, ℕ, ◌-◌, ◌<◌, Bool, IsTrue, List, [], All, length, map, slice_index_or, Result, ⊤}
+use Rattle.std.specs.Prelude.{◌≡◌, ℕ, ◌<◌, Bool, IsTrue, List, [], All, length, map, slice_index_or, Result, ⊤}
 use Rattle.dsd_bits.specs.Contents.{Content}
 use Rattle.dsd_bits.specs.Shape.{HasShape}
 use Rattle.clip_core.specs.Mixes.{MixContent}

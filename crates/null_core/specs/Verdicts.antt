@@ -1,5 +1,5 @@
 -- What a verdict on a master says.
-use Rattle.std.specs.Prelude.{◌≡◌, ℕ, ◌+◌, ◌<◌, ◌≤◌, ◌⊎◌, ◌↔◌, Bool, List, [], length, map, slice_get, slice_index_or, MatchResult, Result, Ok, Err, Some, Vec, ◌≢◌}
+use Rattle.std.specs.Prelude.{◌≡◌, ℕ, ◌<◌, ◌≤◌, ◌⊎◌, ◌↔◌, Bool, List, [], length, map, slice_get, slice_index_or, MatchResult, Result, Ok, Err, Some, Vec, ◌≢◌}
 use Rattle.std.specs.declared.alloc.Global.{Global}
 use Rattle.dsd_bits.specs.Channels.{count_of}
 use Rattle.dsd_bits.specs.Contents.{Content}
@@ -16,7 +16,6 @@ use Rattle.null_core.specs.Asking.{Fits, IsQuiet, NullsAll, asked_of}
 use Rattle.null_core.specs.Errors.{residual_size}
 use Rattle.null_core.specs.Judged.{IsJudged, IsTooLoud}
 use Rattle.null_core.specs.Judging.{IsFirst}
-use Rattle.null_core.specs.Parts.{AskedContent}
 use Rattle.null_core.specs.Reading.{IsReadOf, JudgesChannelOf, MixedContent}
 use Rattle.null_core.specs.Stretches.{AreStretches}
 

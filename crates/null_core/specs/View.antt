@@ -1,5 +1,5 @@
 -- What a `Mixed` means.
-use Rattle.std.specs.Prelude.{◌≡◌, List, map}
+use Rattle.std.specs.Prelude.{◌≡◌, map}
 use Rattle.clip_core.specs.Contents.{mix_content}
 use Rattle.cut_core.specs.Excerpts.{excerpts_content}
 use Rattle.null_core.specs.Reading.{IsMixed, MixedContent}

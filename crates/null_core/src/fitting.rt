@@ -53,7 +53,10 @@ fn is_like_first(takes: &[Excerpts], number: usize) -> bool
     ensures yes { result ≡ true → IsLikeFirst (read_shapes (map excerpts_content takes.now)) number }
     ensures no { result ≡ false → IsLikeFirst (read_shapes (map excerpts_content takes.now)) number → ⊥ }
 {
-    !differ(&take_at(takes, 0).recording, &take_at(takes, number).recording)
+    !differ(
+        &take_at(takes, 0).recording,
+        &take_at(takes, number).recording,
+    )
 }
 
 // The first clip that doesn't fit, if there is one.

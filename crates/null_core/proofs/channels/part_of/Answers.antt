@@ -1,4 +1,4 @@
-use Rattle.std.proofs.Common.{◌≡◌, ◌∙◌, ◌-◌, List, [], ap, get_or, length, map, subst, sym, arith, pos, ◌-ℤ◌, of_z, to_z, w64}
+use Rattle.std.proofs.Common.{◌≡◌, ◌∙◌, ◌-◌, [], ap, get_or, length, map, subst, sym, arith, pos, ◌-ℤ◌, of_z, to_z, w64}
 use Rattle.std.proofs.lemmas.List.{get_or_read_under}
 use Rattle.clip_core.specs.Clips.{ClipContent, points_of}
 use Rattle.clip_core.specs.Contents.{mix_content}
@@ -7,7 +7,7 @@ use Rattle.cut_core.specs.Excerpts.{excerpts_content}
 use Rattle.null_core.specs.Asking.{part_of, taps_of}
 use Rattle.null_core.specs.Holding.{clip_at}
 use Rattle.null_core.specs.Likeness.{IsExcerptOf}
-use Rattle.null_core.specs.Parts.{IsPart, PartContent, part_content}
+use Rattle.null_core.specs.Parts.{IsPart}
 use Rattle.null_core.specs.Reading.{HasBits, MixedContent, bits_at, mixed_of}
 use Rattle.null_core.proofs.ErrorLaws.{same_w64}
 use Rattle.null_core.proofs.ReadingLaws.{has_bits, held_fits, held_part, is_excerpt}

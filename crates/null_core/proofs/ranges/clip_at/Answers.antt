@@ -1,7 +1,7 @@
 use Rattle.std.proofs.Common.{◌∙◌, ap, arith, get_or, length, map, subst, sym, ◌≡◌}
 use Rattle.std.proofs.lemmas.List.{get_or-map, length-map}
 use Rattle.std.proofs.lemmas.List.Elements.{All-get_or}
-use Rattle.clip_core.specs.Clips.{ClipContent, IsClipWithin, clip_content}
+use Rattle.clip_core.specs.Clips.{IsClipWithin, clip_content}
 use Rattle.clip_core.specs.Contents.{mix_content}
 use Rattle.null_core.proofs.ranges.clip_at.Goals as goal
 

@@ -1,6 +1,5 @@
-use Rattle.std.proofs.Common.{◌≡◌, ◌∙◌, ap, arith, subst, sym}
+use Rattle.std.proofs.Common.{◌≡◌, ◌∙◌, arith, sym}
 use Rattle.clip_core.specs.Contents.{mix_content}
-use Rattle.null_core.specs.Reading.{IsHolder}
 use Rattle.null_core.proofs.HoldingLaws.{serves_itself}
 use Rattle.null_core.proofs.ranges.holder.Goals as goal
 

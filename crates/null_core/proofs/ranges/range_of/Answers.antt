@@ -8,11 +8,11 @@ use Rattle.null_core.proofs.ranges.range_of.Goals.{then-clip_at-number-via-then-
 
 pub returns-then-clip_at-number : goal.returns-then-clip_at-number
 returns-then-clip_at-number c = elim c.then-clip_at-number.branch [
-    then-clip_at-number-via-then-clip_at-number w ↦
+  | then-clip_at-number-via-then-clip_at-number w ↦
       sym (range_other (mix_content c.args.mix.now) c.args.number c.args.clip (λ same. w.if-clip_at-number.true (ap (λ (k : ClipContent). k.take) c.clip_at.ensures.value ∙ same)))
   | then-clip_at-number-via-else-clip_at-number+then-holder-clip w ↦
       sym (range_served (mix_content c.args.mix.now) c.args.number c.args.clip w.holder.result w.holder.ensures w.if-holder-clip.true)
-  ]
+]
 
 pub returns : goal.returns
 returns c =

@@ -1,4 +1,4 @@
-use Rattle.std.proofs.Common.{◌∙◌, ◌∷◌, ◌++◌, [], arith, get_or, subst, sym, take}
+use Rattle.std.proofs.Common.{◌∙◌, arith, get_or, subst, sym, take}
 use Rattle.std.proofs.lemmas.List.{take_all, take_more}
 use Rattle.null_core.specs.Verdicts.{IsGreatestIn}
 use Rattle.null_core.proofs.VerdictLaws.{greatest_more, greatest_of_none, greater}

@@ -1,4 +1,4 @@
-use Rattle.std.proofs.Common.{◌≡◌, ◌∙◌, ◌+◌, ◌∷◌, [], Bool, Global, List, Ok, Err, Vec, ap, arith, get_or, length, map, refl, subst, sym}
+use Rattle.std.proofs.Common.{◌≡◌, ◌∙◌, ◌+◌, ◌∷◌, [], Bool, Global, List, Ok, Err, Vec, ap, get_or, length, map, refl, subst, sym}
 use Rattle.std.proofs.lemmas.List.{get_or_read_under, map-append}
 use Rattle.null_core.specs.declared.stretch.Stretch.{Stretch}
 use Rattle.null_core.specs.Judging.{judged_items}

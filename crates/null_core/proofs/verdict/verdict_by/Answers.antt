@@ -1,8 +1,8 @@
-use Rattle.std.proofs.Common.{◌≡◌, ◌∙◌, ◌<◌, ◌≤◌, [], Global, List, Vec, ap, arith, get_or, length, map, subst, sym}
-use Rattle.std.proofs.lemmas.List.{get_or-map, get_or_read_under, length-map}
-use Rattle.std.proofs.lemmas.Option.{get_or_from_slice_get}
+use Rattle.std.proofs.Common.{◌≡◌, ◌∙◌, ◌<◌, [], Global, List, Vec, ap, arith, get_or, length, map, subst, sym}
+use Rattle.std.proofs.lemmas.List.{get_or-map, length-map}
+use Rattle.std.proofs.lemmas.Option.{get_or_from_slice_get, slice_get_within}
 use Rattle.null_core.specs.declared.stretch.Stretch.{Stretch}
-use Rattle.null_core.specs.Verdicts.{IsAbove, IsFirstAbove, IsGreatestTo}
+use Rattle.null_core.specs.Verdicts.{IsFirstAbove, IsGreatestTo}
 use Rattle.null_core.proofs.VerdictLaws.{first_channel, greatest_low, greatest_to_more, greatest_to_none, greater}
 use Rattle.null_core.proofs.verdict.verdict_by.Goals as goal
 use Rattle.null_core.proofs.verdict.verdict_by.Goals.{After-first_above}
@@ -31,7 +31,19 @@ pub returns-in-Some : goal.returns-in-Some
 returns-in-Some c =
     let here = (goal.at.returns-in-Some c).After-first_above in
     let first = c.in-Some.ensures.first in
-    let there : c.loop-channel.channel < length (lists here) = omega (arith, length-map c.args.stretches.now items, c.loop-channel-test.true) in
-    (first_channel (lists here) c.loop-channel.channel c.loop-channel.greatest c.loop-channel.invariant.0 c.as_slice-found.result.now (found_is here) c.args.limit c.in-Some.number c.loop-channel.invariant.1 there c.in-Some.ensures.first,
-     subst (λ l. IsFirstAbove c.args.limit l (get_or c.as_slice-found.result.now c.in-Some.number (record { first = 0; last = 0; residual = 0; place = 0 })).place) (found_is here)
-     (record { number = c.in-Some.number; first = first; place_is = ap (λ (k : Stretch). k.place) (get_or_from_slice_get c.as_slice-found.result.now c.in-Some.number first.here.stretch _ first.here.there) }))
+    let there : c.loop-channel.channel < length (lists here) = omega (arith, length-map c.args.stretches.now items, c.loop-channel-test.true) in (
+      first_channel (lists here) c.loop-channel.channel c.loop-channel.greatest c.loop-channel.invariant.0 c.as_slice-found.result.now (found_is here) c.args.limit c.in-Some.number c.loop-channel.invariant.1 there c.in-Some.ensures.first,
+      subst (λ l. IsFirstAbove c.args.limit l (get_or c.as_slice-found.result.now c.in-Some.number (record { first = 0; last = 0; residual = 0; place = 0 })).place) (found_is here)
+          (record { number = c.in-Some.number; first = first; place_is = ap (λ (k : Stretch). k.place) (get_or_from_slice_get c.as_slice-found.result.now c.in-Some.number first.here.stretch _ first.here.there) }),
+    )
+
+pub returns : goal.returns
+returns c =
+    let all = map items c.args.stretches.now in
+    let end : c.loop-channel.channel ≡ length all = omega (arith, c.loop-channel-test.false, c.loop-channel.auto.channel-end, length-map c.args.stretches.now items) in
+    (subst (λ n. IsGreatestTo all n c.loop-channel.greatest) end c.loop-channel.invariant.0, c.loop-channel.invariant.1)
+
+pub bounds-found-number : goal.bounds-found-number
+bounds-found-number c =
+    let first = c.in-Some.ensures.first.here in
+    slice_get_within c.as_slice-found.result.now c.in-Some.number first.stretch first.there

@@ -1,8 +1,8 @@
-use Rattle.std.proofs.Common.{◌≡◌, List, map, subst, sym}
+use Rattle.std.proofs.Common.{◌≡◌, map, subst, sym}
 use Rattle.std.proofs.lemmas.Result.{IfOk-weaker}
 use Rattle.clip_core.specs.Contents.{mix_content}
 use Rattle.null_core.specs.Judging.{JudgesChannel, judged_items}
-use Rattle.null_core.specs.Parts.{AskedContent, IsAsked, PartContent, part_content}
+use Rattle.null_core.specs.Parts.{AskedContent, IsAsked, part_content}
 use Rattle.null_core.specs.Reading.{ArePartsOf, JudgesChannelOf, MixedContent}
 use Rattle.null_core.specs.View.{mixed_content}
 use Rattle.null_core.proofs.ChannelLaws.{is_asked, judged_of}

@@ -1,4 +1,4 @@
-use Rattle.std.proofs.Common.{◌≡◌, ◌∙◌, Global, List, Vec, ℤ, ap, length, map, subst, sym}
+use Rattle.std.proofs.Common.{◌∙◌, Global, List, Vec, ℤ, ap, length, map, subst, sym}
 use Rattle.std.proofs.lemmas.Result.{err_from_is_err_and}
 use Rattle.clip_core.specs.Contents.{mix_content}
 use Rattle.cut_core.specs.Excerpts.{excerpts_content}

@@ -8,6 +8,7 @@ pub mod ErrorLaws
 pub mod ExcerptLaws
 pub mod GainLaws
 pub mod HoldingLaws
+pub mod KeptLaws
 pub mod LikeLaws
 pub mod MidLaws
 pub mod MixLaws

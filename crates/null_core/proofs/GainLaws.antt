@@ -6,6 +6,7 @@ use Rattle.std.proofs.lemmas.List.{get_or_default, get_or-set_same, get_or-set_o
 use Rattle.std.proofs.lemmas.List.Edits.{get_or-between, length-between}
 use Rattle.std.proofs.Math.Nat.{le_refl}
 use Rattle.null_core.specs.Mixing.{AreSmall, IsGained}
+use Rattle.null_core.proofs.KeptLaws.{number_within}
 use Rattle.null_core.proofs.MidLaws.{length_mid, mid_before, mid_within, mid_after}
 use borrow.Rule.Slice.PartMut.{put_mid}
 
@@ -21,6 +22,10 @@ module _ (gains : ℕ → ℤ) (k : ℕ) (sound old : List ℤ) (n : ℕ) (new :
 
   there : n < length new
   there = omega (arith, sofar.long, inside)
+
+  -- the next number is as it was, and small
+  pub next_within : AreSmall (2 ^ 61) old → unsigned_abs (to_z w64 (of_z w64 (get_or new n (pos 0)))) ≤ 2 ^ 61
+  next_within small = subst (λ (z : ℤ). unsigned_abs (to_z w64 (of_z w64 z)) ≤ 2 ^ 61) (sym (sofar.rest n (le_refl n) inside)) (number_within (get_or old n (pos 0)) (small n inside))
 
   other : (v : ℤ) (i : ℕ) → i ≢ n → get_or (set new n v) i (pos 0) ≡ get_or new i (pos 0)
   other v i apart = get_or-set_other new n i v (pos 0) apart
@@ -58,6 +63,19 @@ module _ (gains : ℕ → ℤ) (k : ℕ) (sound old : List ℤ) (n : ℕ) (new :
         ∙ ap (λ z. z +ℤ (to_z w32 (of_z w32 gain) *ℤ to_z w32 (of_z w32 (get_or sound n e)))) (to_z-of_z w64 _ (fits_signed_from_abs w64 _ held_small) ∙ held)
         ∙ ap (λ z. get_or old n (pos 0) +ℤ (z *ℤ to_z w32 (of_z w32 (get_or sound n e)))) (to_z-of_z w32 gain (fits_signed_from_abs w32 gain (omega (arith, quiet))) ∙ is)
         ∙ ap (λ z. get_or old n (pos 0) +ℤ (gains (k + n) *ℤ z)) (to_z-of_z w32 _ (fits_signed_from_abs w32 _ sound_small) ∙ of_sound)
+
+-- a part of small numbers is small
+pub between_small : (most : ℕ) (xs : List ℤ) (done end : ℕ) → end ≤ length xs → AreSmall most xs → AreSmall most (slice_range xs done end)
+between_small most xs done end inside small j below =
+    let there : done + j < end = omega (arith, below, length-between xs done end inside) in
+    subst (λ (z : ℤ). unsigned_abs z ≤ most) (sym (get_or-between xs done end j (pos 0) there)) (small (done + j) (omega (arith, there, inside)))
+
+-- and so is a part of what is as it was
+pub rest_small : (gains : ℕ → ℤ) (k : ℕ) (sound old : List ℤ) (done : ℕ) (new : List ℤ) → IsGainedTo done gains k sound old new → (most end : ℕ) → end ≤ length old → AreSmall most old → AreSmall most (slice_range new done end)
+rest_small gains k sound old done new sofar most end inside small j below =
+    let there : done + j < end = omega (arith, below, length-between new done end (omega (arith, sofar.long, inside))) in
+    let same = get_or-between new done end j (pos 0) there ∙ sofar.rest (done + j) (omega arith) (omega (arith, there, inside)) in
+    subst (λ (z : ℤ). unsigned_abs z ≤ most) (sym same) (small (done + j) (omega (arith, there, inside)))
 
 -- sound that is added in a part of the numbers goes on with what was added before it
 module _ (gains line : ℕ → ℤ) (k : ℕ) (sound old : List ℤ) (done end : ℕ) (new part : List ℤ) (sofar : IsGainedTo done gains k sound old new) (order : done ≤ end) (inside : end ≤ length old) (long : length sound ≡ length old)

@@ -9,6 +9,7 @@ pub mod ExcerptLaws
 pub mod GainLaws
 pub mod HeardLaws
 pub mod HoldingLaws
+pub mod KeptLaws
 pub mod LikeLaws
 pub mod MidLaws
 pub mod MixLaws

@@ -1,7 +1,7 @@
 -- Laws of parts that are added one after the other.
-use Rattle.std.proofs.Common.{◌≡◌, ℕ, ◌+◌, ◌-◌, ◌*◌, ◌<◌, ◌≤◌, ◌^◌, ℤ, pos, ◌+ℤ◌, unsigned_abs, List, [], ◌∷◌, ◌++◌, All, length, map, take, get_or, replicate, refl, sym, ◌∙◌, ap, subst, arith, if◌then◌else◌}
+use Rattle.std.proofs.Common.{◌≡◌, ℕ, ◌+◌, ◌-◌, ◌*◌, ◌<◌, ◌≤◌, ◌^◌, ℤ, pos, ◌+ℤ◌, unsigned_abs, List, [], ◌∷◌, ◌++◌, All, length, map, take, drop, get_or, replicate, refl, sym, ◌∙◌, ap, subst, arith, if◌then◌else◌}
 use Rattle.std.proofs.Math.IntN.{+ℤ_idl, +ℤ_idr, +ℤ_assoc}
-use Rattle.std.proofs.lemmas.List.{ext_get_or, get_or-replicate, map_push, take_more, take_all}
+use Rattle.std.proofs.lemmas.List.{ext_get_or, get_or-replicate, map_push, take-append-le, take_more, take_all}
 use Rattle.std.proofs.lemmas.List.FromFn.{get_or-map-range_with_len, length-map-range_with_len}
 use Rattle.std.proofs.lemmas.List.Elements.{All-take}
 use Rattle.std.proofs.lemmas.List.Sums.{sum_by-take-le}
@@ -43,3 +43,8 @@ module _ (parts : List PartContent) (few : AreFewParts parts) (from number : ℕ
   all_mixed j past sofar = ext_get_or (pos 0) mixed (mixes_from parts from number) (sofar.long ∙ sym (length-map-range_with_len (mix_at parts) from number))
       (λ i inside. let below : i < number = omega (arith, inside, sofar.long) in
           sofar.each i below ∙ ap (λ ps. mix_at ps (from + i)) (take_all j parts past) ∙ sym (get_or-map-range_with_len (mix_at parts) from number i (from + i) (pos 0) below refl))
+
+-- what was written back to a list as long
+pub written_back : (n : ℕ) (xs ys : List ℤ) → n ≡ length ys → length xs ≡ length ys → take n (xs ++ drop (length xs) ys) ≡ xs
+written_back n xs ys long same =
+    take-append-le n xs (drop (length xs) ys) (omega (arith, long, same)) ∙ take_all n xs (omega (arith, long, same))

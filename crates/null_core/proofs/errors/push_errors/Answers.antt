@@ -1,7 +1,7 @@
-use Rattle.std.proofs.Common.{◌≡◌, ◌+◌, ◌-◌, ℕ, ◌<◌, map, length, refl, ap, ◌∙◌, arith}
+use Rattle.std.proofs.Common.{◌≡◌, ◌+◌, ◌-◌, ℕ, ◌<◌, map, length, refl, ap, ◌∙◌, subst, arith}
 use Rattle.std.proofs.lemmas.List.FromFn.{length-map-range_with_len}
 use Rattle.null_core.specs.Parts.{asked_content, mix_at, part_content}
-use Rattle.null_core.proofs.ErrorLaws.{none_so_far, one_more, same_w32, same_w64, listed_at, listed_small}
+use Rattle.null_core.proofs.ErrorLaws.{AreSoFar, none_so_far, one_more, same_w32, same_w64, listed_at, listed_small}
 use Rattle.null_core.proofs.errors.push_errors.Goals as goal
 
 pub loop-i-init : goal.loop-i-init
@@ -20,3 +20,15 @@ pub loop-i-preserved : goal.loop-i-preserved
 loop-i-preserved c =
     let more = one_more (asked_content c.args.asked) c.args.bits.now c.args.from c.args.errors.now.items c.loop-i.i c.loop-i.errors.items c.loop-i.invariant.1 c.in-Some.error c.in-Some.ensures.value c.in-Some.ensures.quiet in
     (c.loop-i.invariant.0, rw (c.in_ok-push-in-Some.ensures.items, same_w32 c.in-Some.error c.in-Some.ensures.quiet) more)
+
+pub returns-in-None : goal.returns-in-None
+returns-in-None c = record {
+  here = record { after = omega arith; before = omega (arith, c.loop-i-test.true, c.loop-i.invariant.0); loud = c.in-None.ensures };
+  before = λ m earlier h. c.loop-i.invariant.1.quiet m (record { after = h.after; before = earlier; loud = h.loud });
+}
+
+pub returns : goal.returns
+returns c =
+    let done : c.loop-i.i ≡ c.args.to - c.args.from = omega (arith, c.loop-i.invariant.0, c.loop-i-test.false, c.loop-i.auto.i-end, c.len-i-end.ensures) in
+    let all = subst (λ n. AreSoFar (asked_content c.args.asked) c.args.bits.now c.args.from n c.args.errors.now.items c.loop-i.errors.items) done c.loop-i.invariant.1 in
+    (all.items, λ m h. all.quiet m (record { after = h.after; before = omega (arith, h.before, c.requires.in_order); loud = h.loud }))

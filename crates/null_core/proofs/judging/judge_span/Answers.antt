@@ -47,3 +47,16 @@ returns c =
     let last = c.loop-first-test.false in
     let so_far = c.loop-first.invariant.so_far in
     subst (λ n. IsJudgedTo (asked_content c.args.asked) c.args.bits.now n c.loop-first.stretches.items) {x = min c.loop-first.first c.args.span.stop} {y = c.args.span.stop} (omega (arith, last)) so_far
+
+pub judge_chunk-requires-clause-chunk : goal.judge_chunk-requires-clause-chunk
+judge_chunk-requires-clause-chunk c =
+    let last = c.chunk_end-last.ensures in
+    record {
+      in_order = last.after;
+      inside = omega (arith, last.before, c.requires.inside);
+      small = last.small;
+      due_first = c.loop-first.invariant.due;
+      due_last = last.due;
+      edited = λ n from to. c.requires.edited n (omega (arith, from, c.loop-first.invariant.after)) (omega (arith, to, last.before));
+      reached = λ more. omega (arith, last.reached more, c.len-tap_number.ensures.value);
+    }

@@ -23,8 +23,8 @@ module _ (a : AskedContent) (bits : List Bool) (from : ℕ) (old : List ℤ) whe
     one_more small = record {
       items = ap (λ x. x ++ e ∷ []) sofar.items ∙ append_assoc old (errors_from a bits from n) (e ∷ []) ∙ ap (λ x. old ++ x) (ap (λ x. errors_from a bits from n ++ x ∷ []) is ∙ sym (map-range_with_len_more (error_at a bits) from n (from + n) refl));
       quiet = λ m h. elim (cases_lt m (from + n)) [
-        inl earlier ↦ sofar.quiet m (record { after = h.after; before = earlier; loud = h.loud })
-      | inr later ↦ let at : m ≡ from + n = omega (arith, later, h.before) in let loud : 2 ^ 31 ≤ unsigned_abs e = subst (λ x. 2 ^ 31 ≤ unsigned_abs x) (sym is) (subst (λ k. IsLoud a bits k) at h.loud) in omega (arith, small, loud)
+        | inl earlier ↦ sofar.quiet m (record { after = h.after; before = earlier; loud = h.loud })
+        | inr later ↦ let at : m ≡ from + n = omega (arith, later, h.before) in let loud : 2 ^ 31 ≤ unsigned_abs e = subst (λ x. 2 ^ 31 ≤ unsigned_abs x) (sym is) (subst (λ k. IsLoud a bits k) at h.loud) in omega (arith, small, loud)
       ];
     }
 

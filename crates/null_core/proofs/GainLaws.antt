@@ -34,9 +34,9 @@ module _ (gains : ℕ → ℤ) (k : ℕ) (sound old : List ℤ) (n : ℕ) (new :
   gained_more v is = record {
     long = length-set new n v ∙ sofar.long;
     each = λ i below. elim (cases_lt i n) [
-        inl earlier ↦ other v i (λ e. omega (arith, earlier, e)) ∙ sofar.each i earlier
+      | inl earlier ↦ other v i (λ e. omega (arith, earlier, e)) ∙ sofar.each i earlier
       | inr later ↦ let at : n ≡ i = omega (arith, later, below) in subst (λ j. get_or (set new n v) j (pos 0) ≡ get_or old j (pos 0) +ℤ (gains (k + j) *ℤ get_or sound j (pos 0))) at (get_or-set_same new n v (pos 0) there ∙ is)
-      ];
+    ];
     rest = λ i from below. other v i (λ e. omega (arith, from, e)) ∙ sofar.rest i (omega (arith, from)) below;
   }
 
@@ -117,9 +117,9 @@ module _ (gains line : ℕ → ℤ) (k : ℕ) (sound old : List ℤ) (done end :
   gained_part = record {
     long = mid_long;
     each = λ i below. elim (cases_lt i done) [
-        inl earlier ↦ mid_before done (end - done) new part old_there part_long (pos 0) i earlier ∙ sofar.each i earlier
+      | inl earlier ↦ mid_before done (end - done) new part old_there part_long (pos 0) i earlier ∙ sofar.each i earlier
       | inr later ↦ let at : done + (i - done) ≡ i = omega (arith, later) in subst IsIt at (in_part (i - done) (omega (arith, later, below)))
-      ];
+    ];
     rest = λ i from below. let at : done + (end - done) + (i - end) ≡ i = omega (arith, from, order) in
         subst (λ n. get_or (put_mid done (end - done) new part) n (pos 0) ≡ get_or new n (pos 0)) at (mid_after done (end - done) new part old_there part_long (pos 0) (i - end)) ∙ sofar.rest i (omega (arith, from, order)) below;
   }

@@ -42,7 +42,7 @@ module _ (parts : List PartContent) (few : AreFewParts parts) (from number : ℕ
   pub all_mixed : (j : ℕ) → length parts ≤ j → IsMixOf parts j from number mixed → mixed ≡ mixes_from parts from number
   all_mixed j past sofar = ext_get_or (pos 0) mixed (mixes_from parts from number) (sofar.long ∙ sym (length-map-range_with_len (mix_at parts) from number))
       (λ i inside. let below : i < number = omega (arith, inside, sofar.long) in
-          sofar.each i below ∙ ap (λ ps. mix_at ps (from + i)) (take_all j parts past) ∙ sym (get_or-map-range_with_len (mix_at parts) from number i (from + i) (pos 0) below refl))
+      sofar.each i below ∙ ap (λ ps. mix_at ps (from + i)) (take_all j parts past) ∙ sym (get_or-map-range_with_len (mix_at parts) from number i (from + i) (pos 0) below refl))
 
 -- what was written back to a list as long
 pub written_back : (n : ℕ) (xs ys : List ℤ) → n ≡ length ys → length xs ≡ length ys → take n (xs ++ drop (length xs) ys) ≡ xs

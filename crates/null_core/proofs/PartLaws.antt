@@ -84,12 +84,12 @@ module _ (p : PartContent) where
     part_added = record {
       long = length_mid (low - from) (high - from - (low - from)) old new (omega (arith, high_is, order)) new_long;
       each = λ i inside. elim (cases_lt i (low - from)) [
-          inl earlier ↦ before i earlier
+        | inl earlier ↦ before i earlier
         | inr later ↦ elim (cases_lt (i - (low - from)) (high - low)) [
-            inl now ↦ let at : low - from + (i - (low - from)) ≡ i = omega (arith, later) in subst IsIt at (between (i - (low - from)) now)
+          | inl now ↦ let at : low - from + (i - (low - from)) ≡ i = omega (arith, later) in subst IsIt at (between (i - (low - from)) now)
           | inr past ↦
               let at : low - from + (high - from - (low - from)) + (i - (high - from)) ≡ i = omega (arith, past, later, low_is, order) in
               subst IsIt at (after (i - (high - from)) (omega (arith, at, inside)))
-          ]
-        ];
+        ]
+      ];
     }

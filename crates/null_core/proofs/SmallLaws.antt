@@ -23,16 +23,16 @@ after_small p [] all rising k from = (all 0 p (omega arith)).gain_fits
 after_small p (q ∷ qs) all rising k from =
     let others = All-tail IsPoint p (q ∷ qs) all in
     elim (cases_lt k q.place) [
-      inl to ↦ rw (lt-ltb k q.place to) (on_line_in p q (record { first = all 0 p (omega arith); last = others 0 q (omega arith); rising = rising 0 p q refl refl }) k from to)
-    | inr past ↦ rw (le-ltb k q.place past) (after_small q qs others (rising_tail p q qs rising) k past)
+      | inl to ↦ rw (lt-ltb k q.place to) (on_line_in p q (record { first = all 0 p (omega arith); last = others 0 q (omega arith); rising = rising 0 p q refl refl }) k from to)
+      | inr past ↦ rw (le-ltb k q.place past) (after_small q qs others (rising_tail p q qs rising) k past)
     ]
 
 pub gain_small : (points : List Point) → ArePoints points → (k : ℕ) → unsigned_abs (gain points k) ≤ 2 ^ 26
 gain_small [] fit k = omega arith
 gain_small (p ∷ ps) fit k = elim (cases_lt k p.place) [
-      inl before ↦ rw (lt-ltb k p.place before) ((fit.each 0 p (omega arith)).gain_fits)
-    | inr from ↦ rw (le-ltb k p.place from) (after_small p ps fit.each fit.rising k from)
-    ]
+  | inl before ↦ rw (lt-ltb k p.place before) ((fit.each 0 p (omega arith)).gain_fits)
+  | inr from ↦ rw (le-ltb k p.place from) (after_small p ps fit.each fit.rising k from)
+]
 
 sound_small : (p : PartContent) → IsPart p → (n : ℕ) → unsigned_abs (decoded p.taps p.bits n) ≤ 2 ^ 28
 sound_small p fits n = omega (arith, conv_bound p.taps p.bits (n + length p.taps / 2), fits.taps_fit.small_sum)
@@ -50,5 +50,5 @@ pub mix_small : (parts : List PartContent) → All IsPart parts → (m : ℕ) �
 mix_small [] fit m = omega arith
 mix_small (p ∷ ps) fit m =
     let both : unsigned_abs (added m p +ℤ mix_at ps m) ≤ ((if has_place m p then 1 else 0) + parts_at m ps) * 2 ^ 54 =
-        omega (arith, abs_add (added m p) (mix_at ps m), added_small p (fit 0 p (omega arith)) m, mix_small ps (All-tail IsPart p ps fit) m) in
+    omega (arith, abs_add (added m p) (mix_at ps m), added_small p (fit 0 p (omega arith)) m, mix_small ps (All-tail IsPart p ps fit) m) in
     subst (λ n. unsigned_abs (mix_at (p ∷ ps) m) ≤ n * 2 ^ 54) (sym (sum_by-cons (λ q. if has_place m q then 1 else 0) p ps)) both

@@ -11,9 +11,11 @@ loop-done-preserved c =
     let k = c.args.k in
     let ends : end ≤ length c.args.sound.now = omega (arith, c.min-end.ensures) in
     let order : c.loop-done.done ≤ end = omega (arith, c.min-end.ensures, c.until.ensures.value, c.line_at-line.ensures.place.not_ended, c.loop-done-test.true) in
-    let inside : end ≤ length c.args.mixed.now = omega (arith, ends, c.requires.long) in
-    (ends, gained_part (gain c.args.points.now) (line_gain c.line_at-line.result) k c.args.sound.now c.args.mixed.now c.loop-done.done end c.loop-done.mixed c.add_line.new.mixed c.loop-done.invariant.1 order inside c.requires.long c.add_line.ensures
-        (λ j from below. c.line_at-line.ensures.gains (k + j) (record { begun = omega (arith, c.line_at-line.ensures.place.begun, from); not_ended = omega (arith, c.min-end.ensures, c.until.ensures.value, below) })))
+    let inside : end ≤ length c.args.mixed.now = omega (arith, ends, c.requires.long) in (
+      ends,
+      gained_part (gain c.args.points.now) (line_gain c.line_at-line.result) k c.args.sound.now c.args.mixed.now c.loop-done.done end c.loop-done.mixed c.add_line.new.mixed c.loop-done.invariant.1 order inside c.requires.long c.add_line.ensures
+          (λ j from below. c.line_at-line.ensures.gains (k + j) (record { begun = omega (arith, c.line_at-line.ensures.place.begun, from); not_ended = omega (arith, c.min-end.ensures, c.until.ensures.value, below) })),
+    )
 
 pub add_line-requires : goal.add_line-requires
 add_line-requires c =

@@ -33,7 +33,7 @@ returns c =
     let mixed = c.add_parts.new.mixed in
     let items = c.resize-2.new.self.items in
     let same : length mixed ≡ length items =
-        ap length c.add_parts.ensures.mix ∙ length-map-range_with_len (mix_at parts) c.args.from (length c.deref_mut-2.result.now) ∙ ap length c.deref_mut-2.ensures.value in
+    ap length c.add_parts.ensures.mix ∙ length-map-range_with_len (mix_at parts) c.args.from (length c.deref_mut-2.result.now) ∙ ap length c.deref_mut-2.ensures.value in
     let back = written_back c.resize-2.new.self.len mixed items (omega (arith, c.resize-2.new.self.ok.0)) same in
     record {
       mix = back ∙ c.add_parts.ensures.mix ∙ ap (mixes_from parts c.args.from) (long p);

@@ -1,6 +1,5 @@
 -- The errors that windows read.
-use Rattle.std.proofs.Common.{◌≡◌, ℕ, ◌+◌, ◌-◌, ◌<◌, ◌≤◌, min, ◌⊎◌, inl, inr, ℤ, pos, negsuc, ◌-ℤ◌, Bool, List, [], ◌++◌, length, map, get_or, take, replicate, Option, None, Some, sym, ap, subst, ◌∙◌, arith}
-use Rattle.std.specs.List.{range_with_len}
+use Rattle.std.proofs.Common.{◌≡◌, ℕ, ◌+◌, ◌-◌, ◌<◌, ◌≤◌, min, inl, inr, ℤ, pos, negsuc, ◌-ℤ◌, Bool, List, [], ◌++◌, length, get_or, take, replicate, Option, None, Some, sym, ap, subst, ◌∙◌, arith}
 use Rattle.std.proofs.lemmas.Bool.{cases_lt}
 use Rattle.std.proofs.lemmas.Int.{ints}
 use Rattle.std.proofs.lemmas.List.{get_or-append_right, get_or-replicate, get_or-take, get_or_append_left, get_or_past, length-append, length-replicate, length-take, take_all}
@@ -8,7 +7,7 @@ use Rattle.std.proofs.lemmas.List.FromFn.{fill_by_all, get_or-map-range_with_len
 use Rattle.heard_core.specs.Residuals.{at_place}
 use Rattle.null_core.specs.Chunks.{IsLoudAround, ListsErrors, errors_around}
 use Rattle.null_core.specs.Errors.{error_at, errors, errors_from}
-use Rattle.null_core.specs.Judging.{AppendErrors, IsFirst, IsLoudIn}
+use Rattle.null_core.specs.Judging.{AppendErrors, IsLoudIn}
 use Rattle.null_core.specs.Parts.{AskedContent, reach}
 
 abbrev no_errors : List ℤ

@@ -1,5 +1,5 @@
 -- Chunks: what is found there.
-use Rattle.std.proofs.Common.{◌≡◌, ℕ, ◌+◌, ◌-◌, ◌*◌, ◌/◌, ◌%◌, ◌^◌, ◌<◌, ◌≤◌, inl, inr, ℤ, pos, ◌-ℤ◌, unsigned_abs, Bool, List, All, length, map, get_or, refl, sym, ap, subst, ◌∙◌, arith}
+use Rattle.std.proofs.Common.{◌≡◌, ℕ, ◌+◌, ◌-◌, ◌*◌, ◌/◌, ◌%◌, ◌^◌, ◌<◌, ◌≤◌, inl, inr, ℤ, pos, ◌-ℤ◌, unsigned_abs, Bool, List, All, length, get_or, refl, sym, ap, subst, ◌∙◌, arith}
 use Rattle.std.proofs.lemmas.Bool.{cases_lt, ltb-false, ltb-true}
 use Rattle.std.proofs.lemmas.List.{get_or_past}
 use Rattle.std.proofs.lemmas.List.Elements.{All-from_get_or}
@@ -12,11 +12,11 @@ use Rattle.heard_core.specs.Residuals.{at_place, residual, window_residual, wind
 use Rattle.null_core.specs.declared.chunk.Chunk.{Chunk}
 use Rattle.null_core.specs.declared.peak.Peak.{Peak}
 use Rattle.null_core.specs.Chunks.{IsChunk, IsChunkStretch, IsLoudAround, IsPeak, errors_around}
-use Rattle.null_core.specs.Errors.{IsLoud, error_at, errors, residual_size}
+use Rattle.null_core.specs.Errors.{error_at, errors, residual_size}
 use Rattle.null_core.specs.Judged.{IsJudged, IsTooLoud}
 use Rattle.null_core.specs.Judging.{IsFirst, IsQuietTo}
 use Rattle.null_core.specs.Parts.{AskedContent, IsAsked, reach}
-use Rattle.null_core.specs.Stretches.{HasNext, IsGreatest, IsJudgedFrom, IsStretch}
+use Rattle.null_core.specs.Stretches.{HasNext, IsGreatest, IsJudgedFrom}
 use Rattle.null_core.proofs.AroundLaws.{at_before, at_inside}
 use Rattle.null_core.proofs.DueLaws.{due_more, due_next, due_once, due_steps}
 

@@ -1,10 +1,9 @@
 -- What is heard of a master, by what was found in its channels.
-use Rattle.std.proofs.Common.{◌≡◌, ◌≢◌, ℕ, ◌<◌, ◌≤◌, ◌↔◌, refl, Bool, List, [], Some, length, get_or, slice_get, sym, ap, subst, ◌∙◌, inl, inr, arith}
+use Rattle.std.proofs.Common.{◌≡◌, ℕ, ◌<◌, ◌≤◌, ◌↔◌, refl, Bool, List, [], Some, length, get_or, slice_get, sym, ap, subst, ◌∙◌, inl, inr, arith}
 use Rattle.std.proofs.lemmas.List.Elements.{All-get_or}
 use Rattle.std.proofs.lemmas.Option.{get_or_from_slice_get, slice_get_within}
-use Rattle.dsd_bits.specs.Channels.{count_of}
 use Rattle.dsd_bits.specs.Contents.{Content}
-use Rattle.clip_core.specs.Mixes.{MixContent, mix_length}
+use Rattle.clip_core.specs.Mixes.{MixContent}
 use Rattle.cut_core.specs.Cuts.{AreAlike, take_at}
 use Rattle.cut_core.specs.Excerpts.{TakeShape, excerpts_at}
 use Rattle.null_core.specs.declared.stretch.Stretch.{Stretch}

@@ -1,10 +1,9 @@
 -- What a list has after its part from place a on, k long, was written over.
-use Rattle.std.proofs.Common.{◌≡◌, ℕ, ◌+◌, ◌-◌, ◌<◌, ◌≤◌, ◌++◌, ℤ, List, length, take, drop, get_or, refl, sym, ◌∙◌, ap, subst, arith}
+use Rattle.std.proofs.Common.{◌≡◌, ℕ, ◌+◌, ◌-◌, ◌<◌, ◌≤◌, ◌++◌, ℤ, List, length, take, drop, get_or, sym, ◌∙◌, ap, arith}
 use Rattle.std.proofs.lemmas.List.{get_or-take, get_or-drop, length-append, length-drop, length-take-le}
 use Rattle.std.proofs.lemmas.List.Edits.{get_or-between}
 use Rattle.std.proofs.lemmas.Slice.{take-put_mid_below, between-put_mid, drop-put_mid}
 use Rattle.std.proofs.Math.Nat.{le_refl}
-use Rattle.std.specs.List.{between}
 use borrow.Rule.Slice.PartMut.{put_mid}
 
 module _ (a k : ℕ) (xs ys : List ℤ) (inside : a ≤ length xs) (long : length ys ≡ k) (d : ℤ) where

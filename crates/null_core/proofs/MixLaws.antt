@@ -1,13 +1,13 @@
 -- Laws of parts that are added one after the other.
-use Rattle.std.proofs.Common.{◌≡◌, ℕ, ◌+◌, ◌-◌, ◌*◌, ◌<◌, ◌≤◌, ◌^◌, ℤ, pos, ◌+ℤ◌, unsigned_abs, List, [], ◌∷◌, ◌++◌, All, length, map, take, drop, get_or, replicate, refl, sym, ◌∙◌, ap, subst, arith, if◌then◌else◌}
+use Rattle.std.proofs.Common.{◌≡◌, ℕ, ◌+◌, ◌<◌, ◌≤◌, ◌^◌, ℤ, pos, ◌+ℤ◌, unsigned_abs, List, [], ◌∷◌, ◌++◌, length, map, take, drop, get_or, refl, sym, ◌∙◌, ap, subst, arith, if◌then◌else◌}
 use Rattle.std.proofs.Math.IntN.{+ℤ_idl, +ℤ_idr, +ℤ_assoc}
-use Rattle.std.proofs.lemmas.List.{ext_get_or, get_or-replicate, map_push, take-append-le, take_more, take_all}
+use Rattle.std.proofs.lemmas.List.{ext_get_or, map_push, take-append-le, take_more, take_all}
 use Rattle.std.proofs.lemmas.List.FromFn.{get_or-map-range_with_len, length-map-range_with_len}
 use Rattle.std.proofs.lemmas.List.Elements.{All-take}
 use Rattle.std.proofs.lemmas.List.Sums.{sum_by-take-le}
 use Rattle.clip_core.specs.Mixes.{total}
-use Rattle.null_core.specs.Mixing.{AreFewParts, AreSmall, IsPartAdded, mixes_from}
-use Rattle.null_core.specs.Parts.{IsPart, PartContent, added, has_place, mix_at, parts_at}
+use Rattle.null_core.specs.Mixing.{AreFewParts, IsPartAdded, mixes_from}
+use Rattle.null_core.specs.Parts.{IsPart, PartContent, added, has_place, mix_at}
 use Rattle.null_core.proofs.SmallLaws.{mix_small}
 
 total_push : (xs : List ℤ) (x : ℤ) → total (xs ++ x ∷ []) ≡ total xs +ℤ x

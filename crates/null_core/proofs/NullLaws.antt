@@ -1,5 +1,5 @@
 -- To which residuals a channel nulls, by its stretches.
-use Rattle.std.proofs.Common.{◌≡◌, ℕ, ◌<◌, ◌≤◌, ◌↔◌, max, Bool, List, [], ◌∷◌, All, length, get_or, subst, arith}
+use Rattle.std.proofs.Common.{ℕ, ◌≤◌, Bool, List, [], ◌∷◌, All, get_or, subst, arith}
 use Rattle.std.proofs.lemmas.List.Elements.{All-cons, All-get_or, All-head, All-nil, All-tail}
 use Rattle.std.proofs.lemmas.Option.{get_or_from_slice_get, slice_get_within}
 use Rattle.null_core.specs.declared.stretch.Stretch.{Stretch}

@@ -1,15 +1,13 @@
 -- How large gains, sound and the mix can be.
-use Rattle.std.proofs.Common.{◌≡◌, ℕ, ◌+◌, ◌-◌, ◌*◌, ◌/◌, ◌<◌, ◌≤◌, ◌^◌, ℤ, pos, ◌+ℤ◌, ◌*ℤ◌, unsigned_abs, Bool, true, false, if◌then◌else◌, nat_lt, List, [], ◌∷◌, ◌++◌, All, length, map, slice_get, Some, refl, sym, ◌∙◌, ap, subst, inl, inr, arith, add-one}
-use Rattle.std.specs.List.{sum_by}
+use Rattle.std.proofs.Common.{ℕ, ◌+◌, ◌-◌, ◌*◌, ◌/◌, ◌≤◌, ◌^◌, ℤ, pos, ◌+ℤ◌, ◌*ℤ◌, unsigned_abs, Bool, true, false, if◌then◌else◌, List, [], ◌∷◌, All, length, refl, sym, subst, inl, inr, arith, add-one}
 use Rattle.std.proofs.lemmas.Bool.{cases_lt, le-ltb, lt-ltb}
-use Rattle.std.proofs.lemmas.Int.{ints, unsigned_abs-mul}
+use Rattle.std.proofs.lemmas.Int.{unsigned_abs-mul}
 use Rattle.std.proofs.lemmas.List.Elements.{All-tail}
 use Rattle.std.proofs.lemmas.List.Sums.{sum_by-cons}
 use Rattle.std.proofs.lemmas.Nat.{mul-le}
 use Rattle.dsd_bits.proofs.SumLaws.{abs_add}
 use Rattle.clip_core.specs.declared.gain.Point.{Point}
 use Rattle.clip_core.specs.Gains.{ArePoints, AreRising, IsPoint, gain, gain_after}
-use Rattle.clip_core.specs.Mixes.{total}
 use Rattle.clip_core.proofs.LineLaws.{on_line_in}
 use Rattle.heard_core.specs.Sounds.{decoded}
 use Rattle.heard_core.proofs.ConvLaws.{conv_bound}

@@ -1,15 +1,13 @@
 -- A channel that is judged from span to span.
-use Rattle.std.proofs.Common.{◌≡◌, ℕ, ◌+◌, ◌%◌, ◌<◌, ◌≤◌, inl, inr, min, Bool, List, [], length, sym, subst, arith}
+use Rattle.std.proofs.Common.{◌≡◌, ℕ, ◌+◌, ◌%◌, ◌<◌, ◌≤◌, inl, inr, min, Bool, List, length, subst, arith}
 use Rattle.std.proofs.lemmas.Bool.{cases_lt}
-use Rattle.std.proofs.lemmas.List.Elements.{All-nil}
-use Rattle.std.proofs.lemmas.Option.{none-some}
 use Rattle.null_core.specs.declared.chunk.Chunk.{Chunk}
 use Rattle.null_core.specs.declared.stretch.Stretch.{Stretch}
 use Rattle.null_core.specs.Chunks.{IsChunkStretch}
 use Rattle.null_core.specs.Judged.{IsJudged, IsTooLoud}
-use Rattle.null_core.specs.Judging.{IsJudgedTo, IsQuietTo, JudgesChannel}
+use Rattle.null_core.specs.Judging.{IsJudgedTo}
 use Rattle.null_core.specs.Parts.{AskedContent}
-use Rattle.null_core.specs.Stretches.{AddsStretch, AreStretchesTo, IsStretch}
+use Rattle.null_core.specs.Stretches.{AddsStretch, AreStretchesTo}
 use Rattle.null_core.specs.Walks.{AreUnedited}
 use Rattle.null_core.proofs.DueLaws.{due_next}
 

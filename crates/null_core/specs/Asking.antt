@@ -1,9 +1,9 @@
 -- What a mix and its takes ask a master to sound like.
-use Rattle.std.specs.Prelude.{◌≡◌, ℕ, ◌+◌, ◌-◌, ◌<◌, ◌≤◌, ℤ, pos, ◌-ℤ◌, Bool, List, [], All, length, map, slice_index_or}
+use Rattle.std.specs.Prelude.{◌≡◌, ℕ, ◌+◌, ◌<◌, ◌≤◌, ℤ, pos, ◌-ℤ◌, List, [], length, map, slice_index_or}
 use Rattle.dsd_bits.specs.Channels.{count_of}
 use Rattle.dsd_bits.specs.Contents.{Content}
 use Rattle.clip_core.specs.Clips.{ClipContent, points_of}
-use Rattle.clip_core.specs.Mixes.{MixContent, clip_end, mix_length}
+use Rattle.clip_core.specs.Mixes.{MixContent, mix_length}
 use Rattle.cut_core.specs.Cuts.{AreAlike, take_at}
 use Rattle.null_core.specs.Judged.{IsTooLoud, Nulls}
 use Rattle.null_core.specs.Parts.{AskedContent, PartContent}

@@ -1,5 +1,5 @@
 -- Chunks: judged places that are looked at together.
-use Rattle.std.specs.Prelude.{◌≡◌, ℕ, ◌+◌, ◌-◌, ◌%◌, ◌^◌, ◌<◌, ◌≤◌, ℤ, pos, ◌-ℤ◌, Bool, nat_lt, unsigned_abs, List, length, map, MatchOption, MatchResult, Option, Result, slice_index_or}
+use Rattle.std.specs.Prelude.{◌≡◌, ℕ, ◌+◌, ◌%◌, ◌^◌, ◌<◌, ◌≤◌, ℤ, pos, ◌-ℤ◌, Bool, nat_lt, unsigned_abs, List, length, map, MatchOption, MatchResult, Option, Result, slice_index_or}
 use Rattle.std.specs.List.{IsFirstBest, range_with_len}
 use Rattle.heard_core.specs.Residuals.{at_place}
 use Rattle.null_core.specs.declared.chunk.Chunk.{Chunk}

@@ -1,19 +1,18 @@
 -- What a mix reads of its takes.
-use Rattle.std.specs.Prelude.{◌≡◌, ℕ, ◌+◌, ◌-◌, ◌/◌, ◌<◌, ◌≤◌, ℤ, pos, ◌-ℤ◌, Bool, ◌&&◌, not, nat_le, ◌==◌, if◌then◌else◌, List, [], All, length, map, slice_index_or}
+use Rattle.std.specs.Prelude.{◌≡◌, ℕ, ◌+◌, ◌-◌, ◌/◌, Bool, ◌&&◌, not, nat_le, ◌==◌, if◌then◌else◌, List, All, length, map, slice_index_or}
 use Rattle.std.specs.List.{list_any, range_with_len}
 use Rattle.dsd_bits.specs.declared.stretches.BitRange.{BitRange}
 use Rattle.dsd_bits.specs.Contents.{Content}
 use Rattle.dsd_bits.specs.Shape.{HasShape}
 use Rattle.dsd_bits.specs.Channels.{count_of}
 use Rattle.dsd_bits.specs.Stretches.{silent, stretches_of}
-use Rattle.clip_core.specs.Clips.{ClipContent, points_of}
+use Rattle.clip_core.specs.Clips.{ClipContent}
 use Rattle.clip_core.specs.Clips.GainContent.{full}
 use Rattle.clip_core.specs.Mixes.{MixContent}
 use Rattle.cut_core.specs.Cuts.{each_below, take_at}
-use Rattle.cut_core.specs.Excerpts.{ExcerptsContent, excerpts_at, excerpts_content}
+use Rattle.cut_core.specs.Excerpts.{ExcerptsContent, excerpts_content}
 use Rattle.cut_core.specs.declared.excerpts.Excerpts.{Excerpts}
 use Rattle.null_core.specs.Asking.{taps_of}
-use Rattle.null_core.specs.Parts.{AskedContent, PartContent}
 
 -- ---- which bits
 -- clip i; past the last one an empty clip

@@ -1,5 +1,5 @@
 -- What a channel of a master is asked to sound like: parts of takes, added up.
-use Rattle.std.specs.Prelude.{◌≡◌, ℕ, ◌+◌, ◌-◌, ◌/◌, ◌^◌, ◌<◌, ◌≤◌, ℤ, pos, ◌-ℤ◌, ◌*ℤ◌, ◌<ℤ◌, Bool, ◌&&◌, false, nat_le, nat_lt, List, All, length, map, slice_index_or, if◌then◌else◌}
+use Rattle.std.specs.Prelude.{ℕ, ◌+◌, ◌-◌, ◌/◌, ◌^◌, ◌≤◌, ℤ, pos, ◌*ℤ◌, Bool, ◌&&◌, false, nat_le, nat_lt, List, All, length, map, slice_index_or, if◌then◌else◌}
 use Rattle.std.specs.List.{sum_by}
 use Rattle.clip_core.specs.declared.gain.Point.{Point}
 use Rattle.clip_core.specs.Gains.{ArePoints, gain}

@@ -1,4 +1,4 @@
-use Rattle.std.proofs.Common.{◌≡◌, ◌+◌, ◌-◌, ℕ, ◌<◌, map, length, refl, ap, ◌∙◌, subst, arith}
+use Rattle.std.proofs.Common.{◌≡◌, ◌-◌, ◌<◌, map, length, ap, ◌∙◌, subst, arith}
 use Rattle.std.proofs.lemmas.List.FromFn.{length-map-range_with_len}
 use Rattle.null_core.specs.Parts.{asked_content, mix_at, part_content}
 use Rattle.null_core.proofs.ErrorLaws.{AreSoFar, none_so_far, one_more, same_w32, same_w64, listed_at, listed_small}

@@ -1,4 +1,4 @@
-use Rattle.std.proofs.Common.{◌≡◌, ◌+◌, ◌≤◌}
+use Rattle.std.proofs.Common.{◌≡◌, ◌+◌}
 use Rattle.null_core.proofs.ErrorLaws.{AreSoFar}
 use Rattle.null_core.specs.Parts.{asked_content}
 use Rattle.null_core.proofs.errors.push_errors.Given as goal

@@ -1,4 +1,4 @@
-use Rattle.std.proofs.Common.{◌+◌, ◌<◌, ◌≤◌, ◌^◌, ◌∙◌, sym, length, arith}
+use Rattle.std.proofs.Common.{◌+◌, ◌≤◌, ◌^◌, ◌∙◌, sym, length, arith}
 use Rattle.std.proofs.lemmas.List.Edits.{length-between}
 use Rattle.clip_core.specs.Gains.{gain}
 use Rattle.clip_core.specs.Lines.{line_gain}

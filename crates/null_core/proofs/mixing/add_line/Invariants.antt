@@ -1,4 +1,3 @@
-use Rattle.std.proofs.Common.{◌≡◌}
 use Rattle.clip_core.specs.Lines.{line_gain}
 use Rattle.null_core.proofs.GainLaws.{IsGainedTo}
 use Rattle.null_core.proofs.mixing.add_line.Given as goal

@@ -1,4 +1,4 @@
-use Rattle.std.proofs.Common.{◌≡◌, ◌+◌, ◌-◌, ◌<◌, ◌∙◌, ap, length, take, arith}
+use Rattle.std.proofs.Common.{◌≡◌, ◌+◌, ◌-◌, ◌∙◌, ap, length, take, arith}
 use Rattle.std.proofs.lemmas.List.{length-take-le}
 use Rattle.heard_core.specs.Sounds.{decoded_from}
 use Rattle.null_core.specs.Parts.{part_content}

@@ -1,6 +1,6 @@
-use Rattle.std.proofs.Common.{◌≡◌, ◌<◌, ◌≤◌, ◌∙◌, ap, sym, length, map, get_or, arith}
+use Rattle.std.proofs.Common.{◌∙◌, ap, sym, length, map, arith}
 use Rattle.std.proofs.lemmas.List.{get_or-map, length-map}
-use Rattle.null_core.specs.Parts.{PartContent, part_content}
+use Rattle.null_core.specs.Parts.{part_content}
 use Rattle.null_core.proofs.MixLaws.{all_mixed, mixed_small, one_more_mixed}
 use Rattle.null_core.proofs.mixing.add_parts.Goals as goal
 

@@ -3,6 +3,7 @@ use Rattle.std.proofs.Common.{◌≡◌, ◌≢◌, ℕ, ◌+◌, ◌<◌, ◌�
 use Rattle.std.proofs.lemmas.Bool.{cases_lt}
 use Rattle.std.proofs.lemmas.List.{get_or_append_left, get_or_push, length-append}
 use Rattle.std.proofs.lemmas.Option.{get_or_from_slice_get, slice_get_within, slice_get-get_or}
+use Rattle.std.specs.Ordering.{nat_cmp, ord_max}
 use Rattle.dsd_bits.specs.Channels.{count_of}
 use Rattle.dsd_bits.specs.Contents.{Content}
 use Rattle.clip_core.specs.Mixes.{mix_length}
@@ -13,6 +14,9 @@ use Rattle.null_core.specs.Reading.{JudgesChannelOf, MixedContent}
 use Rattle.null_core.specs.Verdicts.{AreJudgedTo, HasAbove, IsAbove, IsFirstAbove, IsGreatestIn, IsGreatestTo}
 
 -- ---- the greatest residual
+pub greater : (a b : ℕ) → ord_max nat_cmp a b ≡ max a b
+greater a b = grind arith
+
 no_stretch : (i : ℕ) (s : Stretch) → slice_get {X = Stretch} [] i ≡ Some s → ⊥
 no_stretch i s is = let none = slice_get_within [] i s is in omega (arith, none)
 

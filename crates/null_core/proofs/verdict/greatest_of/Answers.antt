@@ -1,8 +1,7 @@
 use Rattle.std.proofs.Common.{◌∙◌, ◌∷◌, ◌++◌, [], arith, get_or, subst, sym, take}
 use Rattle.std.proofs.lemmas.List.{take_all, take_more}
-use Rattle.clip_core.proofs.ClipLaws.{greater}
 use Rattle.null_core.specs.Verdicts.{IsGreatestIn}
-use Rattle.null_core.proofs.VerdictLaws.{greatest_more, greatest_of_none}
+use Rattle.null_core.proofs.VerdictLaws.{greatest_more, greatest_of_none, greater}
 use Rattle.null_core.proofs.verdict.greatest_of.Goals as goal
 
 pub loop-stretch-init : goal.loop-stretch-init

@@ -6,6 +6,7 @@ pub mod DueLaws
 mod EditLaws
 pub mod ErrorLaws
 pub mod ExcerptLaws
+pub mod FileLaws
 pub mod GainLaws
 pub mod HeardLaws
 pub mod HoldingLaws

@@ -2,6 +2,7 @@ pub mod Alone
 pub mod Asking
 pub mod Chunks
 pub mod Errors
+pub mod Files
 pub mod Fitting
 pub mod Holding
 pub mod Judged

@@ -20,6 +20,7 @@ mod own;
 mod part;
 mod peak;
 mod ranges;
+mod reading;
 mod stretch;
 mod verdict;
 
@@ -33,5 +34,6 @@ pub use mixed::{Mixed, take_excerpts};
 pub use own::OwnRun;
 pub use part::Part;
 pub use ranges::ranges_of;
+pub use reading::{read_master, read_take};
 pub use stretch::Stretch;
 pub use verdict::{Heard, LoudPlace, Shape, Verdict, judge};

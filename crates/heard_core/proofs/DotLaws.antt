@@ -5,7 +5,7 @@ use Rattle.std.proofs.Math.Nat.{mul-le-mul_left}
 use Rattle.std.proofs.lemmas.Int.{fits_signed_from_abs, ints, to_z-of_z, unsigned_abs-mul}
 use Rattle.std.proofs.lemmas.List.{drop-drop, drop-take, reverse-append, take-take, take_rest}
 use Rattle.std.proofs.lemmas.List.Elements.{All-from_get_or, All-get_or, All-head, All-tail}
-use Rattle.std.proofs.lemmas.List.Sums.{get_or-le-sum_by, sum_by-append, sum_by-cons, sum_by-take-drop, sum_by-take-le}
+use Rattle.std.proofs.lemmas.List.Sums.{get_or-le-sum_by, sum_by-append, sum_by-cons, sum_by-take-le}
 use Rattle.dsd_bits.proofs.SumLaws.{abs_add}
 use Rattle.heard_core.specs.Products.{IsSmall, dot}
 
@@ -55,9 +55,6 @@ small_tap xs k small below = omega (arith, get_or-le-sum_by unsigned_abs xs k (p
 -- each partial sum is below 2 ^ 62
 pub dot_take_small : (xs ys : List ℤ) (k : ℕ) → sum_by unsigned_abs xs < 2 ^ 31 → All IsSmall ys → unsigned_abs (dot (take k xs) ys) < 2 ^ 62
 dot_take_small xs ys k small small_ys = omega (arith, dot_bound (take k xs) ys small_ys, sum_by-take-le unsigned_abs xs k)
-
-pub dot_drop_small : (xs ys : List ℤ) (k : ℕ) → sum_by unsigned_abs xs < 2 ^ 31 → All IsSmall ys → unsigned_abs (dot (drop k xs) ys) < 2 ^ 62
-dot_drop_small xs ys k small small_ys = omega (arith, dot_bound (drop k xs) ys small_ys, sum_by-take-drop unsigned_abs xs k)
 
 pub dot_small : (xs ys : List ℤ) → sum_by unsigned_abs xs < 2 ^ 31 → All IsSmall ys → unsigned_abs (dot xs ys) < 2 ^ 62
 dot_small xs ys small small_ys = omega (arith, dot_bound xs ys small_ys)

@@ -189,14 +189,19 @@ fn overlapping(alloc: Global, number: usize) -> Result<Vec<u8>, AllocError> {
     Ok(text)
 }
 
+// Whether 64 clips at one place are a mix, and 65 are none.
+fn are_counted(alloc: Global) -> Result<bool, AllocError> {
+    let most = overlapping(alloc, 64)?;
+    let Ok(mix) = read(alloc, &most) else {
+        return Ok(false);
+    };
+    let more = overlapping(alloc, 65)?;
+    let is_refused = is_refused(alloc, &[&more], "OutOfLimit clip")?;
+    Ok(mix.clips.len() == 64 && is_refused)
+}
+
 #[test]
-fn counts_what_overlaps(rt: HostRuntime) -> Result<(), Fail> {
-    let most = read(rt.alloc(), &overlapping(rt.alloc(), 64)?)?;
-    assert!(rt; most.clips.len() == 64, "64 clips at one place");
-    let more = overlapping(rt.alloc(), 65)?;
-    assert!(rt;
-        is_refused(rt.alloc(), &[&more], "OutOfLimit clip")?,
-        "65 clips at one place"
-    );
-    Ok(())
+fn counts_what_overlaps(rt: HostRuntime) {
+    let counted = are_counted(rt.alloc());
+    assert!(rt; counted.unwrap_or(false), "64 clips at one place, and 65");
 }

@@ -6,10 +6,10 @@ ghost use Rattle.judge_core.specs.Finding.{FindsHeld, IsFoundHeld, IsFoundInSome
 ghost use Rattle.transfer_commands.specs.Outlining.{IsUnread};
 ghost use Rattle.command_core.specs.Commands.{IsLeastIfAccepted, JudgesBy};
 
-use crate::ending::reads_to_end;
 use cert_core::CertReader;
 use chunk_core::{FusedInlet, Inlet, MOST_READS};
 use cut_core::Cut;
+use folder_core::reads_to_end;
 use form_core::ReadFault;
 use judge_core::{Found, Verdict, check_found};
 use sound_core::StreamFault;

@@ -5,10 +5,9 @@ ghost use Rattle.judge_core.specs.Finding.{IsFoundHeld, IsFoundInSome};
 ghost use Rattle.transfer_commands.specs.Outlining.{IsUnread};
 ghost use Rattle.command_core.specs.Masters.{FindsMaster};
 
-use crate::ending::reads_to_end;
 use chunk_core::Inlet;
 use cut_core::Cut;
-use folder_core::Folder;
+use folder_core::{Folder, reads_to_end};
 use form_core::ReadFault;
 use judge_core::{Found, find_master};
 use sound_core::StreamFault;

@@ -21,6 +21,8 @@ pub enum Work {
     Search,
     /// A certificate is written.
     Certificate,
+    /// A master is compared with a mix.
+    NullTest,
 }
 
 /// Files under names. A file is opened to be read, and created to be written. A created file ends only with

@@ -6,6 +6,7 @@
 //! is kept, whole.
 //!
 //! - [`read_file`] reads a file to its end, [`read_files`] several in turn, [`read_whole`] what any reader has left.
+//! - [`reads_through`] reads a file to its end and keeps none of it, [`reads_to_end`] what any reader has left.
 //! - [`write_file`] creates a file and writes it, [`hand_back`] ends one that was written.
 //! - A [`GappedFile`] is for callers that need no byte of two [`Gaps`] in it: a folder on a disk passes over these.
 //! - A [`WatchedFolder`] shows on a terminal how far the files of another folder are read, in per cent with the time
@@ -45,6 +46,7 @@ mod direct;
 mod disk;
 mod disk_file;
 mod disk_input;
+mod ending;
 mod fault;
 mod files;
 mod folder;
@@ -60,6 +62,7 @@ mod watched_folder;
 pub use disk::Disk;
 pub use disk_file::{DiskFile, FRONT};
 pub use disk_input::DiskInput;
+pub use ending::{reads_through, reads_to_end};
 pub use fault::FileFault;
 pub use files::{hand_back, read_file, read_files, read_whole, write_file};
 pub use folder::{Folder, FolderFault, Work};

@@ -122,6 +122,7 @@ pub(crate) fn show_stint<R: Clock + Eprint>(rt: &R, stint: Stint, done: u64, all
     let what = match stint.work {
         Work::Search => "searched",
         Work::Certificate => "certified",
+        Work::NullTest => "compared",
     };
     let left = seconds_left(seconds, done, all);
     let _ = eprint!(rt; "\r{percent} % {what}, {left} s left  ");

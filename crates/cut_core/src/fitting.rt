@@ -68,6 +68,28 @@ pub fn differ(first: &Recording, take: &Recording) -> bool
     take.rate() != first.rate() || take.channels().len() != first.channels().len()
 }
 
+/// The sample rate of a recording, and how many channels it has.
+#[derive(Clone, Copy, Debug, PartialEq, Eq)]
+pub struct Shape {
+    /// The sample rate in Hz.
+    pub rate: u32,
+    /// How many channels there are.
+    pub channels: usize,
+}
+
+impl Shape {
+    /// That of a recording.
+    pub fn of(recording: &Recording) -> Shape
+        ensures rate { result.rate ≡ recording.now.rate }
+        ensures channels { result.channels ≡ length recording.now.channels }
+    {
+        Shape {
+            rate: recording.rate(),
+            channels: recording.channels().len(),
+        }
+    }
+}
+
 // Whether each cue ends within its take.
 fn are_inside(splice: &Splice, takes: &[Excerpts]) -> Result<(), CutFault>
     requires { length takes.now ≡ length (splice_content splice.now).takes }

@@ -43,6 +43,6 @@ pub use bridges::BridgePlace;
 pub use cut::{CuedBits, Cut};
 pub use excerpts::{Excerpts, ranges_of, take_excerpts};
 pub use fault::CutFault;
-pub use fitting::differ;
+pub use fitting::{Shape, differ};
 pub use laws::opens_in_order;
 pub use takes::{excerpts_of_file, excerpts_of_files, push_excerpts};

@@ -15,7 +15,7 @@ use Rattle.cert_core.specs.declared.verdict.CertReason.{CertReason}
 use Rattle.cut_core.specs.Cuts.{AreAlike, CutContent, master_length}
 use Rattle.cut_core.specs.Titles.{titles_of}
 use Rattle.request_core.specs.declared.reason.Reason.{Reason}
-use Rattle.request_core.specs.declared.reason.Shape.{Shape}
+use Rattle.cut_core.specs.declared.fitting.Shape.{Shape}
 use Rattle.request_core.specs.declared.reason.Reason.TheVariants.{MasterShape, MasterLength, MasterMarks, CuedBit, CertHead, Cert, CertExtra}
 use Rattle.cut_core.specs.Claims.{claims}
 use Rattle.cut_core.specs.Masters.{HoldCues, IsMasterOf, IsTitled, rebuilt}

@@ -5,12 +5,12 @@ ghost use Rattle.dsd_bits.specs.Contents.{mark_content};
 ghost use Rattle.form_core.specs.declared.form.Form.TheVariants.{Dsdiff};
 ghost use Rattle.cut_core.specs.Titles.{titles_of};
 ghost use Rattle.cut_core.specs.Masters.{IsTitled};
-ghost use Rattle.judge_core.specs.Checking.{FindsOuterReason, shape_of};
+ghost use Rattle.judge_core.specs.Checking.{FindsOuterReason};
 
-use cut_core::{Cut, differ};
+use cut_core::{Cut, Shape, differ};
 use dsd_bits::{Mark, Recording};
 use form_core::Form;
-use request_core::{Reason, Shape};
+use request_core::Reason;
 use std::alloc::{AllocError, Global};
 
 /// The first reason why a recording isn't the master of the cut, among those that need none of its bits: its rate or
@@ -26,7 +26,7 @@ pub(crate) fn outer_reason(
     ensures { IfOk result (FindsOuterReason cut.now form recording.now count) }
 {
     if differ(cut.first(), recording) {
-        let (found, wanted) = (shape_of(recording), shape_of(cut.first()));
+        let (found, wanted) = (Shape::of(recording), Shape::of(cut.first()));
         return Ok(Some(Reason::MasterShape { found, wanted }));
     }
     let wanted = cut.length();
@@ -40,16 +40,6 @@ pub(crate) fn outer_reason(
         return Ok(Some(Reason::MasterMarks));
     }
     Ok(None)
-}
-
-// The rate and the number of channels of a recording.
-fn shape_of(recording: &Recording) -> Shape
-    ensures { result ≡ shape_of recording.now }
-{
-    Shape {
-        rate: recording.rate(),
-        channels: recording.channels().len(),
-    }
 }
 
 // Whether the recording of a DSDIFF file has exactly the marks of the titles.

@@ -19,8 +19,9 @@ mod projects;
 mod reason;
 mod span_fault;
 
+pub use cut_core::Shape;
 pub use cutting::{cut_excerpts, cut_files};
 pub use fault::Fault;
 pub use projects::{decimator_of, splice_of, take_names};
-pub use reason::{Reason, Shape};
+pub use reason::Reason;
 pub use span_fault::SpanFault;

@@ -1,17 +1,9 @@
 //! Why a master is rejected.
 
 use cert_core::CertReason;
+use cut_core::Shape;
 use form_core::ReadFault;
 use thiserror::Error;
-
-/// The sample rate and the number of channels of a recording.
-#[derive(Clone, Copy, Debug, PartialEq, Eq)]
-pub struct Shape {
-    /// The sample rate in Hz.
-    pub rate: u32,
-    /// How many channels there are.
-    pub channels: usize,
-}
 
 /// Why a master is rejected: the first reason that applies.
 ///

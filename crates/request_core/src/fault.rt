@@ -39,6 +39,12 @@ pub enum Fault {
     /// The splice can't be cut from the files of its takes. Its text is that of this fault.
     #[error("{0}")]
     Cut(CutFault),
+    /// The mix text can't be read, or a clip has gains for another number of channels than its take has.
+    #[error("Mix {0}")]
+    Mix(ProjectFault),
+    /// The clip of this number ends after the end of its take.
+    #[error("ClipOutside {0}")]
+    ClipOutside(usize),
     /// A file is not read, played or written to its end. Its text is that of this fault.
     #[error("{0}")]
     Stream(StreamFault),

@@ -9,7 +9,8 @@ use Rattle.clip_core.specs.Clips.{AreGains, GainContent, alike, clip_content, ea
 use Rattle.clip_core.specs.Gains.{ArePoints}
 use Rattle.clip_core.specs.Mixes.{clip_end, mix_length}
 
-no_points : ArePoints []
+-- no points are within their limits
+pub no_points : ArePoints []
 no_points = record { few = omega arith; each = λ i d inside. absurd (omega arith); rising = λ i p q here next. cc }
 
 -- the points of a channel are within their limits
@@ -24,6 +25,10 @@ points_within (each lists) c fine = elim (cases_lt c (length lists)) [
 -- the list of a channel
 pub list_of : (lists : List (Vec Point Global)) (c : ℕ) (points : Vec Point Global) → true ≡ ltb c (length lists) → points ≡ get_or lists c points → points.items ≡ points_of (each (map (λ (p : Vec Point Global). p.items) lists)) c
 list_of lists c points inside is = ap (λ (p : Vec Point Global). p.items) is ∙ sym (get_or-map (λ (p : Vec Point Global). p.items) lists c points [] (ltb-true c (length lists) (sym inside)))
+
+-- past the last list there is none
+pub no_list : (lists : List (Vec Point Global)) (c : ℕ) → length lists ≤ c → [] ≡ points_of (each (map (λ (p : Vec Point Global). p.items) lists)) c
+no_list lists c outside = sym (get_or_past (map (λ (p : Vec Point Global). p.items) lists) c [] (omega (arith, outside, length-map lists (λ (p : Vec Point Global). p.items))))
 
 -- a clip among others ends as they do
 pub end_within : (clips : List Clip) → All (λ c. clip_end c ≤ 2 ^ 36) (map clip_content clips) → (i : ℕ) (clip : Clip) → i < length clips → clip ≡ get_or clips i clip → clip.at + clip.length ≤ 2 ^ 36

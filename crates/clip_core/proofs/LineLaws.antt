@@ -1,5 +1,6 @@
 -- How much a line rises or falls.
-use Rattle.std.proofs.Common.{◌≡◌, ℕ, zero, suc, ◌-◌, ◌*◌, ◌/◌, ◌<◌, ◌≤◌, ◌^◌, ℤ, pos, negsuc, ◌+ℤ◌, ◌-ℤ◌, ◌*ℤ◌, neg_ℤ, unsigned_abs, refl, ap, ◌∙◌, arith, mul-le-mul_left, FitsSigned, to_z, of_z, w32, w64}
+use Rattle.std.proofs.Common.{◌≡◌, ℕ, zero, suc, ◌-◌, ◌*◌, ◌/◌, ◌<◌, ◌≤◌, ◌^◌, ℤ, pos, negsuc, ◌+ℤ◌, ◌-ℤ◌, ◌*ℤ◌, neg_ℤ, unsigned_abs, true, eqb, refl, sym, ap, ◌∙◌, arith, mul-le-mul_left, FitsSigned, to_z, of_z, w32, w64}
+use Rattle.std.proofs.lemmas.Bool.{eqb-true}
 use Rattle.std.proofs.lemmas.Int.{ints, unsigned_abs-mul, fits_signed_from_abs, to_z-of_z}
 use Rattle.std.proofs.lemmas.Nat.{div_below, mul-le}
 use Rattle.std.proofs.Math.Nat.{div-le_of_le-mul, zero-div}
@@ -54,6 +55,33 @@ module _ (rise r : ℤ) (places run : ℕ) (small : unsigned_abs rise ≤ 2 ^ 27
       let all : to_z w64 run ≡ pos run = omega (arith, ints) in
       rw (factors, all, kept_wide (rise *ℤ pos places) product_in) refl
 
+-- a level line has one gain
+pub level_gain : (from to : ℕ) (z : ℤ) (k : ℕ) → on_line (record { place = from; gain = z }) (record { place = to; gain = z }) k ≡ z
+level_gain from to z k =
+    let level : z -ℤ z ≡ pos 0 = omega (arith, ints) in
+    let none : 0 * (k - from) ≡ 0 = omega arith in
+    rw (level, none, zero-div (to - from)) (omega (arith, ints))
+
+-- 32 bits suffice for how much a line rises
+module _ (p q : Point) (fine : IsLine p q) where
+  whole_rise : to_z w32 (of_z w32 q.gain) -ℤ to_z w32 (of_z w32 p.gain) ≡ q.gain -ℤ p.gain
+  whole_rise =
+      let last : to_z w32 (of_z w32 q.gain) ≡ q.gain = kept q.gain (omega (arith, fine.last.gain_fits)) in
+      let first : to_z w32 (of_z w32 p.gain) ≡ p.gain = kept p.gain (omega (arith, fine.first.gain_fits)) in
+      λ j. last j -ℤ first j
+
+  rise_in : unsigned_abs (q.gain -ℤ p.gain) ≤ 2 ^ 27
+  rise_in = omega (arith, ints, fine.first.gain_fits, fine.last.gain_fits)
+
+  rise_back : to_z w32 (of_z w32 (to_z w32 (of_z w32 q.gain) -ℤ to_z w32 (of_z w32 p.gain))) ≡ q.gain -ℤ p.gain
+  rise_back = ap (λ z. to_z w32 (of_z w32 z)) whole_rise ∙ kept (q.gain -ℤ p.gain) (omega (arith, rise_in))
+
+  pub rise_fits : FitsSigned w32 (to_z w32 (of_z w32 q.gain) -ℤ to_z w32 (of_z w32 p.gain))
+  rise_fits = rw whole_rise (fits_signed_from_abs w32 (q.gain -ℤ p.gain) (omega (arith, rise_in)))
+
+  pub rise_small : unsigned_abs (to_z w32 (of_z w32 (to_z w32 (of_z w32 q.gain) -ℤ to_z w32 (of_z w32 p.gain)))) ≤ 2 ^ 27
+  rise_small = rw rise_back rise_in
+
 -- the gain on a line is within its ends' limits
 pub on_line_in : (p q : Point) → IsLine p q → (k : ℕ) → p.place ≤ k → k < q.place → unsigned_abs (on_line p q k) ≤ 2 ^ 26
 on_line_in p q fine k from to = gain_in p.gain q.gain (q.gain -ℤ p.gain) (k - p.place) (q.place - p.place) (2 ^ 26) refl (omega (arith, from, to)) fine.first.gain_fits fine.last.gain_fits
@@ -61,12 +89,19 @@ on_line_in p q fine k from to = gain_in p.gain q.gain (q.gain -ℤ p.gain) (k - 
 -- 32 bits suffice for the gain
 pub gain_is : (p q : Point) → IsLine p q → (k : ℕ) → p.place ≤ k → k < q.place → (risen : ℤ) → risen ≡ int_div_euclid (to_z w32 (of_z w32 (to_z w32 (of_z w32 q.gain) -ℤ to_z w32 (of_z w32 p.gain))) *ℤ pos (k - p.place)) (pos (q.place - p.place)) → to_z w32 (of_z w32 p.gain) +ℤ to_z w32 (of_z w32 risen) ≡ on_line p q k
 gain_is p q fine k from to risen is =
-    let first = fine.first.gain_fits in
-    let last = fine.last.gain_fits in
     let rise = q.gain -ℤ p.gain in
-    let low : unsigned_abs rise ≤ 2 ^ 27 = omega (arith, ints, first, last) in
-    let back : to_z w32 (of_z w32 (to_z w32 (of_z w32 q.gain) -ℤ to_z w32 (of_z w32 p.gain))) ≡ rise =
-    rw (kept q.gain (omega (arith, last)), kept p.gain (omega (arith, first))) (kept rise (omega (arith, low))) in
-    let value : risen ≡ int_div_euclid (rise *ℤ pos (k - p.place)) (pos (q.place - p.place)) = is ∙ ap (λ z. int_div_euclid (z *ℤ pos (k - p.place)) (pos (q.place - p.place))) back in
-    let small : unsigned_abs risen ≤ 2 ^ 27 = rw value (omega (arith, risen_in rise (k - p.place) (q.place - p.place) (omega (arith, from, to)), low)) in
-    rw (kept p.gain (omega (arith, first)), kept risen (omega (arith, small)), value) refl
+    let value : risen ≡ int_div_euclid (rise *ℤ pos (k - p.place)) (pos (q.place - p.place)) = is ∙ ap (λ z. int_div_euclid (z *ℤ pos (k - p.place)) (pos (q.place - p.place))) (rise_back p q fine) in
+    let small : unsigned_abs risen ≤ 2 ^ 27 = rw value (omega (arith, risen_in rise (k - p.place) (q.place - p.place) (omega (arith, from, to)), rise_in p q fine)) in
+    rw (kept p.gain (omega (arith, fine.first.gain_fits)), kept risen (omega (arith, small)), value) refl
+
+-- a line with the same gain at both ends has it at all places
+pub level_line : (p q : Point) → IsLine p q → eqb (of_z w32 p.gain) (of_z w32 q.gain) ≡ true → (k : ℕ) → on_line p q k ≡ p.gain
+level_line p q fine same k =
+    let last = kept q.gain (omega (arith, fine.last.gain_fits)) in
+    let first = kept p.gain (omega (arith, fine.first.gain_fits)) in
+    let is : p.gain ≡ q.gain = sym first ∙ ap (λ n. to_z w32 n) (eqb-true (of_z w32 p.gain) (of_z w32 q.gain) same) ∙ last in
+    ap (λ z. on_line p (record { place = q.place; gain = z }) k) (sym is) ∙ level_gain p.place q.place p.gain k
+
+-- the same where the gain at one end is compared in 32 bits
+pub level_kept : (p q : Point) → IsLine p q → (gain : ℤ) → gain ≡ p.gain → (to_z w32 (of_z w32 p.gain) ≡ gain) × (unsigned_abs (to_z w32 (of_z w32 p.gain)) ≤ 2 ^ 26)
+level_kept p q fine gain is = let first = kept p.gain (omega (arith, fine.first.gain_fits)) in (first ∙ sym is, rw first fine.first.gain_fits)

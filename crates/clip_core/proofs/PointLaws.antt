@@ -1,14 +1,12 @@
 -- The line on which the gain is at a place, by the points around it.
-use Rattle.std.proofs.Common.{◌≡◌, ℕ, zero, suc, ◌+◌, ◌-◌, ◌*◌, ◌<◌, ◌≤◌, ◌^◌, ℤ, pos, ◌-ℤ◌, true, false, List, [], ◌∷◌, None, Some, length, get_or, slice_get, nat_le, refl, sym, ap, subst, ◌∙◌, inl, inr, arith, add-one, to_z, of_z, w32}
-use Rattle.std.proofs.Math.Nat.{zero-div}
+use Rattle.std.proofs.Common.{◌≡◌, ℕ, zero, suc, ◌+◌, ◌-◌, ◌<◌, ◌≤◌, ◌^◌, true, false, List, [], ◌∷◌, None, Some, length, get_or, slice_get, nat_le, refl, sym, ap, subst, ◌∙◌, inl, inr, arith, add-one, to_z, of_z, w32}
 use Rattle.std.proofs.lemmas.Bool.{lt-ltb, le-ltb, leb-true, leb-false}
-use Rattle.std.proofs.lemmas.Int.{ints}
 use Rattle.std.proofs.lemmas.List.Sorted.{IsNonDecreasingBy-from_all_adjacent, IsPartitionedBy-leb}
 use Rattle.std.proofs.lemmas.Option.{get_or_from_slice_get, slice_get-get_or, slice_get_cases, slice_get_within}
 use Rattle.std.specs.List.Sorted.{IsPartitionPoint, IsPartitionedBy}
 use Rattle.clip_core.specs.declared.gain.Point.{Point}
 use Rattle.clip_core.specs.Gains.{AreRising, ArePoints, IsLine, IsPoint, full_gain, gain, gain_after, on_line}
-use Rattle.clip_core.proofs.LineLaws.{kept}
+use Rattle.clip_core.proofs.LineLaws.{kept, level_gain}
 
 no_lower : (points : List Point) → AreRising points → (k : ℕ) (d : Point) → k + 1 < length points → (get_or points k d).place ≤ (get_or points (k + 1) d).place
 no_lower points rising k d inside =
@@ -18,13 +16,6 @@ no_lower points rising k d inside =
 -- a search for the first point after a place can go by halves
 pub parted : (points : List Point) (k : ℕ) → AreRising points → IsPartitionedBy (λ p. nat_le p.place k) points
 parted points k rising = IsPartitionedBy-leb (λ p. p.place) points k (IsNonDecreasingBy-from_all_adjacent (λ p. p.place) points (no_lower points rising))
-
--- a level line has one gain
-pub level_gain : (from to : ℕ) (z : ℤ) (k : ℕ) → on_line (record { place = from; gain = z }) (record { place = to; gain = z }) k ≡ z
-level_gain from to z k =
-    let level : z -ℤ z ≡ pos 0 = omega (arith, ints) in
-    let none : 0 * (k - from) ≡ 0 = omega arith in
-    rw (level, none, zero-div (to - from)) (omega (arith, ints))
 
 -- the points after the first one rise as well
 rest_rises : (p : Point) (ps : List Point) → AreRising (p ∷ ps) → AreRising ps

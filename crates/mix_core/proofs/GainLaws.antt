@@ -1,13 +1,13 @@
 -- The gains of a clip are read exactly where a table says them.
-use Rattle.std.proofs.Common.{◌≡◌, ◌≢◌, ℕ, zero, suc, ◌+◌, ◌-◌, ◌≤◌, ◌<◌, ◌^◌, ℤ, pos, Bool, true, false, ◌&&◌, cond, leb, List, [], ◌∷◌, drop, get_or, length, map, Option, Some, None, Ok, Err, refl, sym, ap, subst, ◌∙◌, add-one, arith, unsigned_abs}
+use Rattle.std.proofs.Common.{◌≡◌, ◌≢◌, ℕ, zero, suc, ◌+◌, ◌-◌, ◌≤◌, ◌<◌, ◌^◌, ℤ, pos, Bool, true, false, ◌&&◌, cond, eqb, leb, List, [], ◌∷◌, drop, get_or, length, map, Option, Some, None, Ok, Err, refl, sym, ap, subst, ◌∙◌, add-one, arith, unsigned_abs}
 use Rattle.std.specs.Prelude.{All, nat_le, slice_get}
 use Rattle.std.specs.List.{list_all}
-use Rattle.std.specs.Option.{ok_or}
-use Rattle.std.proofs.lemmas.Bool.{and_parts, le-leb, leb-true, lt-ltb}
+use Rattle.std.specs.Option.{is_some, ok_or}
+use Rattle.std.proofs.lemmas.Bool.{and_parts, eqb-false, le-leb, leb-true, lt-leb, lt-ltb}
 use Rattle.std.proofs.lemmas.List.Elements.{All-cons, All-from_recursion, All-nil, All-head, recursion_from_All}
-use Rattle.std.proofs.lemmas.List.{drop_all}
+use Rattle.std.proofs.lemmas.List.{at_drop_all, at_drop_more, drop_all}
 use Rattle.std.proofs.lemmas.Slice.Zip.{AllZip-long}
-use Rattle.toml.specs.Data.{Data, integer, array, as_array, Items, Members, get_member}
+use Rattle.toml.specs.Data.{Data, integer, array, as_array, as_integer, Items, Members, get_member}
 use Rattle.toml.specs.View.{items_of, items_view, view}
 use Rattle.toml.specs.declared.value.Value.{Value}
 use Rattle.toml.proofs.Views.{items_view-drop}
@@ -97,6 +97,31 @@ rises least (x ∷ y ∷ ps) h (suc i) p q hp hq =
 rising : (ps : List Point) → rise_from 0 ps ≡ true → AreRising ps
 rising ps h = λ i p q hp hq. rises 0 ps h i p q hp (subst (λ (k : ℕ). slice_get ps k ≡ Some q) (add-one i) hq)
 
+-- whether points rise is told by those from a number of them on
+abbrev pub RisesSoFar : List Point → ℕ → ℕ → Type 0
+RisesSoFar points least i = rise_from least (drop i points) ≡ rise_from 0 points
+
+pub rising_ended : (points : List Point) (least i : ℕ) → length points ≤ i → RisesSoFar points least i → true ≡ rise_from 0 points
+rising_ended points least i end so = sym (at_drop_all (rise_from least) points i end) ∙ so
+
+module _ (points : List Point) (least i : ℕ) (d : Point) (inside : i < length points) (so : RisesSoFar points least i) where
+  rising_next : (b : Bool) → nat_le least (get_or points i d).place ≡ b → (b && rise_from ((get_or points i d).place + 1) (drop (i + 1) points)) ≡ rise_from 0 points
+  rising_next b here =
+      let rest = rise_from ((get_or points i d).place + 1) (drop (i + 1) points) in
+      sym (ap (λ x. x && rest) here) ∙ sym (at_drop_more (rise_from least) points i d inside) ∙ so
+
+  pub rising_more : least ≤ (get_or points i d).place → RisesSoFar points ((get_or points i d).place + 1) (i + 1)
+  rising_more le = rising_next true (le-leb least (get_or points i d).place le)
+
+  pub falls : (get_or points i d).place < least → false ≡ rise_from 0 points
+  falls lt = rising_next false (lt-leb least (get_or points i d).place lt)
+
+-- what is told of points that are neither none nor too many
+pub counted : (n : ℕ) (b r : Bool) → false ≡ eqb n 0 → n ≤ 4096 → b ≡ r → b ≡ (is_number 4096 n && r)
+counted n b r some few is =
+    let any : 1 ≤ n = omega (arith, eqb-false n 0 (sym some)) in
+    rw (number_again 4096 n (any, few)) is
+
 rise_again : (least : ℕ) (ps : List Point) → ((i : ℕ) (p q : Point) → slice_get ps i ≡ Some p → slice_get ps (suc i) ≡ Some q → p.place < q.place) → ((p : Point) → slice_get ps 0 ≡ Some p → least ≤ p.place) → rise_from least ps ≡ true
 rise_again least [] h first = refl
 rise_again least (x ∷ ps) h first =
@@ -144,6 +169,10 @@ lists_inside (ps ∷ pss) = rw (points_are ps) (lists_inside pss)
 lists_are : (pss : List (List Point)) → are_integers 3 (lists pss) ≡ true
 lists_are pss = rw (list_of-items_of (map points pss)) (lists_inside pss)
 
+-- none is left to go down
+pub alone_is : (depth : ℕ) (d : Data) → depth ≡ 0 → is_some (as_integer d) ≡ are_integers depth d
+alone_is depth d e = rw e refl
+
 -- one level down, as a loop over the values of an array tests them
 pub deeper : (depth : ℕ) (d : Data) (ds : Items) → (depth ≡ 0 → ⊥) → as_array d ≡ Some ds → are_integers depth d ≡ list_all (are_integers (depth - 1)) (list_of ds)
 deeper zero d ds some e = absurd (some refl)
@@ -153,6 +182,9 @@ deeper (suc depth) d ds some e =
 
 pub stops : (depth : ℕ) (vs : List Value) (i : ℕ) (v : Value) → i < length vs → v ≡ get_or vs i v → are_integers depth (view v) ≡ false → list_all (are_integers depth) (list_of (items_view (drop i vs))) ≡ false
 stops depth vs i v lt is h = rw (items_view-drop vs i v lt, ← is, h) refl
+
+pub goes_on : (depth : ℕ) (vs : List Value) (i : ℕ) (v : Value) → i < length vs → v ≡ get_or vs i v → are_integers depth (view v) ≡ true → list_all (are_integers depth) (list_of (items_view (drop i vs))) ≡ list_all (are_integers depth) (list_of (items_view (drop (i + 1) vs)))
+goes_on depth vs i v lt is h = rw (items_view-drop vs i v lt, ← is, h) refl
 
 pub all_seen : (depth : ℕ) (vs : List Value) (i : ℕ) → length vs ≤ i → list_all (are_integers depth) (list_of (items_view (drop i vs))) ≡ true
 all_seen depth vs i le = rw (drop_all i vs le) refl

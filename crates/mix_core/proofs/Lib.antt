@@ -1,3 +1,4 @@
+mod SumLaws
 pub mod NumberLaws
 pub mod GainLaws
 pub mod OverlapLaws

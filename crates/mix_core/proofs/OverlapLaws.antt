@@ -1,10 +1,12 @@
 -- The most clips overlap at the first place of one of them.
-use Rattle.std.proofs.Common.{◌≡◌, ℕ, zero, suc, ◌+◌, ◌≤◌, ◌<◌, Bool, true, false, ◌&&◌, cond, eqb, List, [], ◌∷◌, refl, subst, arith, sum_by, inl, inr}
+use Rattle.std.proofs.Common.{◌≡◌, ℕ, zero, suc, ◌+◌, ◌≤◌, ◌<◌, Bool, true, false, ◌&&◌, cond, eqb, List, [], ◌∷◌, drop, get_or, length, map, refl, sym, ap, subst, ◌∙◌, arith, sum_by, inl, inr}
 use Rattle.std.specs.Prelude.{◌||◌, nat_le, nat_lt}
 use Rattle.std.specs.List.{list_all, list_any}
-use Rattle.std.proofs.lemmas.Bool.{and_parts, cases_Bool, eqb-true, eqb-false, le-leb, leb-true, lt-ltb, ltb-true}
+use Rattle.std.proofs.lemmas.Bool.{and_parts, cases_Bool, eqb-true, eqb-false, le-leb, leb-true, lt-leb, lt-ltb, ltb-true}
+use Rattle.std.proofs.lemmas.List.{at_drop_all, at_drop_more}
 use Rattle.std.proofs.lemmas.List.Sums.{sum_by-cons}
-use Rattle.clip_core.specs.Clips.{ClipContent, has_place}
+use Rattle.clip_core.specs.declared.clip.Clip.{Clip}
+use Rattle.clip_core.specs.Clips.{ClipContent, clip_content, has_place}
 use Rattle.clip_core.specs.Mixes.{AreApart, clips_at}
 use Rattle.mix_core.specs.ReadingMix.{are_apart}
 
@@ -88,3 +90,28 @@ each_apart all (c ∷ cs) h = rw (le-leb (clips_at c.at all) 64 (h c.at)) (each_
 
 pub apart_again : (cs : List ClipContent) → AreApart cs → are_apart cs ≡ true
 apart_again cs h = each_apart cs cs h
+
+-- whether few of all clips have the first place of one
+abbrev pub few_at : List Clip → ClipContent → Bool
+few_at clips c = nat_le (clips_at c.at (map clip_content clips)) 64
+
+-- the clips from a number of them on are apart from all if and only if all are
+abbrev pub IsApartSoFar : List Clip → ℕ → Type 0
+IsApartSoFar clips i = list_all (few_at clips) (map clip_content (drop i clips)) ≡ are_apart (map clip_content clips)
+
+pub apart_ended : (clips : List Clip) (i : ℕ) → length clips ≤ i → IsApartSoFar clips i → true ≡ are_apart (map clip_content clips)
+apart_ended clips i end so = sym (at_drop_all (λ xs. list_all (few_at clips) (map clip_content xs)) clips i end) ∙ so
+
+module _ (clips : List Clip) (i : ℕ) (clip : Clip) (n : ℕ) (inside : i < length clips) (is : clip ≡ get_or clips i clip) (count : n ≡ clips_at clip.at (map clip_content clips)) (so : IsApartSoFar clips i) where
+  next : (b : Bool) → few_at clips (clip_content clip) ≡ b → (b && list_all (few_at clips) (map clip_content (drop (i + 1) clips))) ≡ are_apart (map clip_content clips)
+  next b here =
+      let rest = list_all (few_at clips) (map clip_content (drop (i + 1) clips)) in
+      let step = at_drop_more (λ xs. list_all (few_at clips) (map clip_content xs)) clips i clip inside in
+      let item : few_at clips (clip_content (get_or clips i clip)) ≡ b = subst (λ (c : Clip). few_at clips (clip_content c) ≡ b) is here in
+      sym (ap (λ x. x && rest) item) ∙ sym step ∙ so
+
+  pub apart_more : n ≤ 64 → IsApartSoFar clips (i + 1)
+  apart_more few = next true (le-leb (clips_at clip.at (map clip_content clips)) 64 (rw (← count) few))
+
+  pub crowded : 64 < n → false ≡ are_apart (map clip_content clips)
+  crowded many = next false (lt-leb (clips_at clip.at (map clip_content clips)) 64 (rw (← count) many))

@@ -1,11 +1,12 @@
 //! Reads the gains of a clip.
 
-ghost use Rattle.std.specs.Prelude.{◌≡◌, ◌≤◌, ◌^◌, IfOk, All, map, Vec};
+ghost use Rattle.std.specs.Prelude.{◌≡◌, ◌&&◌, All, length, map, Vec};
 ghost use Rattle.std.specs.declared.alloc.Global.{Global};
 ghost use Rattle.toml.specs.View.{view, table_view, items_view};
 ghost use Rattle.clip_core.specs.declared.gain.Point.{Point};
 ghost use Rattle.clip_core.specs.Clips.{gain_content};
 ghost use Rattle.clip_core.specs.Gains.{IsPoint};
+ghost use Rattle.project_core.specs.Reading.{is_number};
 ghost use Rattle.project_core.specs.Steps.{Gives};
 ghost use Rattle.project_core.specs.Tables.{list_of};
 ghost use Rattle.mix_core.specs.ReadingGains.{are_integers, each_list, each_point, gain_of, gains_at, lists_at, lists_of, point_in, point_of, points_of, rise_from};
@@ -71,9 +72,9 @@ fn lists_of(alloc: Global, value: &Value, clip: Table) -> Result<Vec<Vec<Point>>
     if !are_integers(value, 3) {
         return Err(ProjectFault::WrongKind(Key::Gains, clip));
     }
-    let values = value
-        .as_array()
-        .ok_or(ProjectFault::WrongKind(Key::Gains, clip))?;
+    let Some(values) = value.as_array() else {
+        return Err(ProjectFault::WrongKind(Key::Gains, clip));
+    };
     if values.is_empty() {
         return Err(ProjectFault::OutOfLimit(Key::Gains, clip));
     }
@@ -103,9 +104,11 @@ fn points_of(
 ) -> Result<Vec<Point>, ProjectFault>
     ensures { Gives (λ v. v.items) result (points_of key clip (view value.now)) }
 {
-    let values = value.as_array().ok_or(ProjectFault::WrongKind(key, clip))?;
+    let Some(values) = value.as_array() else {
+        return Err(ProjectFault::WrongKind(key, clip));
+    };
     let points = each_point(alloc, values, key, clip)?;
-    if points.is_empty() || points.len() > MAX_POINTS || !are_rising(&points) {
+    if !are_within(&points) {
         return Err(ProjectFault::OutOfLimit(key, clip));
     }
     Ok(points)
@@ -134,7 +137,9 @@ fn each_point(
 fn point_of(alloc: Global, value: &Value, key: Key, clip: Table) -> Result<Point, ProjectFault>
     ensures { Gives (λ p. p) result (point_of key clip (view value.now)) }
 {
-    let values = value.as_array().ok_or(ProjectFault::WrongKind(key, clip))?;
+    let Some(values) = value.as_array() else {
+        return Err(ProjectFault::WrongKind(key, clip));
+    };
     let integers = integers_of(alloc, values, key, clip)?;
     point_in(&integers).ok_or(ProjectFault::OutOfLimit(key, clip))
 }
@@ -153,11 +158,14 @@ fn point_in(integers: &[i64]) -> Option<Point>
     }
 }
 
-// Whether each point is at a greater place than the one before.
-fn are_rising(points: &[Point]) -> bool
+// Whether there are 1 to 4096 points, each at a greater place than the one before.
+fn are_within(points: &[Point]) -> bool
     requires { All IsPoint points.now }
-    ensures { result ≡ rise_from 0 points.now }
+    ensures { result ≡ is_number 4096 (length points.now) && rise_from 0 points.now }
 {
+    if points.is_empty() || points.len() > MAX_POINTS {
+        return false;
+    }
     let mut least = 0usize;
     for point in points {
         if point.place < least {

@@ -82,7 +82,7 @@ pub(crate) fn mix_of(alloc: Global, value: &Value) -> Result<Mix, ProjectFault>
 }
 
 // The decoders and the clips of a mix with `takes` takes: first how many there are, and then each.
-#[tactic(auto, unfolding(crate::specs::ReadingMix::parts_at))]
+#[tactic(auto)]
 fn parts_at(alloc: Global, table: &toml::Table, takes: usize) -> Result<Parts, ProjectFault>
     ensures { Gives (λ p. (map (λ (taps : Vec ℤ Global). taps.items) p.decoders.items, map clip_content p.clips.items)) result (parts_at takes (table_view table.now)) }
 {

@@ -1,6 +1,7 @@
 //! Reads the numbers and the taps of a mix text.
 
-ghost use Rattle.std.specs.Prelude.{◌≡◌, ◌≤◌, ◌<◌, ◌^◌, IfOk, length};
+ghost use Rattle.std.specs.Prelude.{◌≡◌, ◌-◌, ◌≤◌, ◌^◌, unsigned_abs};
+ghost use Rattle.std.specs.List.{sum_by};
 ghost use Rattle.toml.specs.View.{view, table_view};
 ghost use Rattle.clip_core.specs.Mixes.{total};
 ghost use Rattle.project_core.specs.Steps.{Gives};
@@ -105,7 +106,7 @@ fn within(integer: i64, least: usize, bound: usize) -> Option<usize>
 
 // The sum of the taps.
 fn total(taps: &[i32]) -> i64
-    requires { length taps.now ≤ 65535 }
+    requires { sum_by unsigned_abs taps.now ≤ 2 ^ 31 - 1 }
     ensures { result ≡ total taps.now }
 {
     let mut sum = 0i64;

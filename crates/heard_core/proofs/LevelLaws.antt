@@ -3,9 +3,9 @@ use Rattle.std.proofs.Common.{◌≡◌, ◌≢◌, ◌+◌, ◌*◌, ◌<◌, �
 use Rattle.std.proofs.Math.Nat.{mul-le-mul_right}
 use Rattle.std.proofs.lemmas.Nat.{mul-pow, pow-add}
 use native.Mathlib.Nat.{pow-suc, pow-zero, pow-le-pow_left, pow-lt-pow_left}
-use Rattle.std.proofs.Common.{[], ◌∷◌, ◌/◌, ◌%◌, Bool, false, List, subst}
+use Rattle.std.proofs.Common.{[], ◌∷◌, ◌/◌, ◌%◌, Bool, false}
 use Rattle.std.specs.Prelude.{◌↔◌, IsTrue}
-use Rattle.heard_core.specs.Levels.{IsAtMost, IsAtMostScaled, limit, strength}
+use Rattle.heard_core.specs.Levels.{IsAtMost, limit, strength}
 use Rattle.heard_core.specs.Naturals.{natural}
 
 -- the power of a power of ten
@@ -60,11 +60,6 @@ is_strength x one n is made = power_from_one 2000 x one n (is ∙ one_is) made
     power_from_one : (p x one n : ℕ) → one ≡ 1 → n ≡ one * x ^ p → n ≡ x ^ p
     power_from_one p x one n is made = omega (arith, made, ap (λ z. z * x ^ p) is)
 
--- what a comparison of powers says of the numbers
-pub measured : (v f : ℕ) (m t : List ℕ) (k k' : ℤ) (b : Bool) → natural m ≡ strength v → natural t ≡ strength f → k ≡ k' → (IsTrue b ↔ IsAtMostScaled (natural m) (natural t) k) → (IsTrue b ↔ IsAtMost v f k')
-measured v f m t k k' b em et ek is =
-    subst (λ (z : ℤ). IsTrue b ↔ IsAtMostScaled (strength v) (strength f) z) ek
-    (subst (λ (n : ℕ). IsTrue b ↔ IsAtMostScaled (strength v) n k) et (subst (λ (n : ℕ). IsTrue b ↔ IsAtMostScaled n (natural t) k) em is))
-
+-- what a comparison says where it isn't true
 pub not_measured : (v f : ℕ) (k : ℤ) (b : Bool) → (IsTrue b ↔ IsAtMost v f k) → b ≡ false → IsAtMost v f k → ⊥
 not_measured v f k b is above most = let met = is.1 most in (cc)

@@ -1,3 +1,4 @@
+pub mod BoundLaws
 pub mod ConvLaws
 pub mod DecodedLaws
 pub mod DotLaws

@@ -1,4 +1,5 @@
 pub mod AudibleView
+pub mod Bounds
 pub mod DecoderView
 pub mod Laws
 pub mod Levels

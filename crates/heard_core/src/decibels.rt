@@ -1,9 +1,11 @@
 //! Levels in hundredths of a decibel to full scale.
 
-ghost use Rattle.std.specs.Prelude.{◌≡◌, ◌*◌, ◌^◌, ◌≤◌, ◌++◌, ◌↔◌, ◌+ℤ◌, ◌<ℤ◌, IfOk, IsTrue, OnOk, codes, negsuc, pos, string_bytes, ℤ};
-ghost use Rattle.heard_core.specs.Levels.{IsAtMostScaled, IsLevel, level_text, limit, strength};
+ghost use Rattle.std.specs.Prelude.{◌≡◌, ◌*◌, ◌^◌, ◌≤◌, ◌++◌, ◌↔◌, ◌+ℤ◌, ◌<ℤ◌, ℕ, IfOk, IfSome, IsTrue, OnOk, codes, negsuc, pos, string_bytes, ℤ};
+ghost use Rattle.heard_core.specs.Bounds.{IsWithin};
+ghost use Rattle.heard_core.specs.Levels.{IsAtMost, IsAtMostScaled, IsLevel, level_text, limit, strength};
 ghost use Rattle.heard_core.specs.Naturals.{natural};
 
+use crate::bounds::{Bounds, is_at_most_by, power, times};
 use crate::naturals::{is_at_most, multiply_by_power};
 use std::alloc::{AllocError, Global};
 use std::fmt::Write;
@@ -11,7 +13,7 @@ use std::fmt::Write;
 // The greatest power of ten that a limb holds, and its exponent.
 const TENS: u64 = 10_000_000_000_000_000_000;
 
-const TENS_EXPONENT: usize = 19;
+const TENS_EXPONENT: u64 = 19;
 
 /// The level of a value in hundredths of a decibel to full scale, rounded towards louder: the least whole number `k` for
 /// which `20 * log10(value / full)` is at most `k / 100`. It compares whole numbers, so the level is exact.
@@ -21,18 +23,13 @@ pub fn hundredths(alloc: Global, value: u64, full: u64) -> Result<i64, AllocErro
     requires some_full { 1 ≤ full }
     ensures { IfOk result (λ k. IsLevel value full k) }
 {
-    let mine = strength_of(alloc, value)?;
-    let theirs = strength_of(alloc, full)?;
     let (mut low, mut high) = (below_all(), above_all());
-    let mut next = estimate(value, full);
     while low + 1 < high {
-        let middle = between(low, high, next);
-        if is_at_level(alloc, mine.as_slice(), theirs.as_slice(), middle)? {
+        let middle = between(low, high);
+        if is_at_level(alloc, value, full, middle)? {
             high = middle;
-            next = middle - 1;
         } else {
             low = middle;
-            next = middle + 1;
         }
     }
     Ok(high)
@@ -78,75 +75,71 @@ fn above_all() -> i64
     40_000
 }
 
-// The number if it is between two others, else the nearest that is.
-fn between(low: i64, high: i64, number: i64) -> i64
+// The middle of two numbers.
+fn between(low: i64, high: i64) -> i64
     requires { (low +ℤ pos 1) <ℤ high }
     ensures above { low <ℤ result }
     ensures below { result <ℤ high }
 {
-    if number <= low {
-        low + 1
-    } else if number >= high {
-        high - 1
-    } else {
-        number
+    low + (low.abs_diff(high) / 2) as i64
+}
+
+// Whether a value is at most some hundredths of a decibel to full scale.
+fn is_at_level(alloc: Global, value: u64, full: u64, level: i64) -> Result<bool, AllocError>
+    ensures { IfOk result (λ b. IsTrue b ↔ IsAtMost value full level) }
+{
+    let (mine, theirs) = tens_of(level);
+    match told_by_bounds(value, mine, full, theirs) {
+        Some(is_at_most) => Ok(is_at_most),
+        None => told_exactly(alloc, value, mine, full, theirs),
     }
 }
 
-// The power that is compared.
-fn strength_of(alloc: Global, x: u64) -> Result<Vec<u64>, AllocError>
-    ensures { IfOk result (λ made. natural made.items ≡ strength x) }
+// By which powers of ten both sides are multiplied.
+fn tens_of(level: i64) -> (u64, u64)
+    ensures { (x y : ℕ) → IsAtMostScaled x y level ↔ (x * 10 ^ result.0 ≤ y * 10 ^ result.1) }
+{
+    let size = level.unsigned_abs();
+    if level < 0 { (size, 0) } else { (0, size) }
+}
+
+// Whether one number's scaled strength is at most another's, by their bounds. These don't tell of numbers that are as
+// good as equal.
+fn told_by_bounds(x: u64, tens: u64, y: u64, more_tens: u64) -> Option<bool>
+    ensures { IfSome result (λ b. IsTrue b ↔ (strength x * 10 ^ tens ≤ strength y * 10 ^ more_tens)) }
+{
+    is_at_most_by(bounds_of(x, tens)?, bounds_of(y, more_tens)?)
+}
+
+// Bounds of a scaled strength, if there is room for them.
+fn bounds_of(x: u64, tens: u64) -> Option<Bounds>
+    ensures { IfSome result (λ r. IsWithin r (strength x * 10 ^ tens)) }
+{
+    times(power(x, 2000)?, power(10, tens)?)
+}
+
+// Whether one number's scaled strength is at most another's, by themselves.
+fn told_exactly(
+    alloc: Global,
+    x: u64,
+    tens: u64,
+    y: u64,
+    more_tens: u64,
+) -> Result<bool, AllocError>
+    ensures { IfOk result (λ b. IsTrue b ↔ (strength x * 10 ^ tens ≤ strength y * 10 ^ more_tens)) }
+{
+    let left = scaled_strength(alloc, x, tens)?;
+    let right = scaled_strength(alloc, y, more_tens)?;
+    Ok(is_at_most(left.as_slice(), right.as_slice()))
+}
+
+// A strength times a power of ten.
+fn scaled_strength(alloc: Global, x: u64, tens: u64) -> Result<Vec<u64>, AllocError>
+    ensures { IfOk result (λ made. natural made.items ≡ strength x * 10 ^ tens) }
 {
     let mut made = Vec::from_slice(alloc, &[1])?;
     multiply_by_power(&mut made, x, 2000)?;
+    multiply_by_power(&mut made, TENS, tens / TENS_EXPONENT)?;
+    multiply_by_power(&mut made, 10, tens % TENS_EXPONENT)?;
     Ok(made)
-}
-
-// A number times a power of ten.
-fn scaled(alloc: Global, limbs: &[u64], exponent: usize) -> Result<Vec<u64>, AllocError>
-    ensures { IfOk result (λ made. natural made.items ≡ natural limbs.now * 10 ^ exponent) }
-{
-    let mut made = Vec::from_slice(alloc, limbs)?;
-    multiply_by_power(&mut made, TENS, exponent / TENS_EXPONENT)?;
-    multiply_by_power(&mut made, 10, exponent % TENS_EXPONENT)?;
-    Ok(made)
-}
-
-// Whether a number is at most another times a power of ten.
-fn is_at_level(alloc: Global, mine: &[u64], theirs: &[u64], level: i64) -> Result<bool, AllocError>
-    ensures { IfOk result (λ b. IsTrue b ↔ IsAtMostScaled (natural mine.now) (natural theirs.now) level) }
-{
-    let exponent = level.unsigned_abs() as usize;
-    if level < 0 {
-        let scaled = scaled(alloc, mine, exponent)?;
-        return Ok(is_at_most(scaled.as_slice(), theirs));
-    }
-    let scaled = scaled(alloc, theirs, exponent)?;
-    Ok(is_at_most(mine, scaled.as_slice()))
-}
-
-// About the level: where the search begins.
-fn estimate(value: u64, full: u64) -> i64 {
-    let difference = logarithm(value).wrapping_sub(logarithm(full));
-    difference
-        .wrapping_mul(6_020_600)
-        .div_euclid(40_960_000)
-        .wrapping_add(1)
-}
-
-// About 4096 times the binary logarithm.
-fn logarithm(x: u64) -> i64 {
-    let shift = x.leading_zeros();
-    if shift > 63 {
-        return 0;
-    }
-    let mut mantissa = x << shift;
-    let mut logarithm = 63 - i64::from(shift);
-    for _ in 0..12 {
-        let square = u128::from(mantissa).wrapping_mul(u128::from(mantissa)) >> 63;
-        let is_above = square >= 1 << 64;
-        mantissa = (if is_above { square >> 1 } else { square } % (1 << 64)) as u64;
-        logarithm = logarithm.wrapping_mul(2).wrapping_add(i64::from(is_above));
-    }
-    logarithm
 }

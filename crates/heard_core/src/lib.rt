@@ -19,6 +19,7 @@
 //! ```
 #![tactic(auto)]
 
+mod bounds;
 mod decibels;
 mod decoder;
 mod laws;

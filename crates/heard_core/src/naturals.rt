@@ -46,7 +46,7 @@ fn multiply_limbs(limbs: &mut [u64], factor: u64) -> u64
 pub(crate) fn multiply_by_power(
     limbs: &mut Vec<u64>,
     factor: u64,
-    exponent: usize,
+    exponent: u64,
 ) -> Result<(), AllocError>
     ensures { IfOk result (λ _. natural limbs.new.items ≡ natural limbs.old.items * factor ^ exponent) }
 {

@@ -32,7 +32,8 @@ fn add_group<const N: usize>(sums: &mut [[i64; 8]; N], taps: &[i32], errors: &[i
     ensures sums { AreAdded N (λ w. dot (take 8 taps.now) (drop (w * step) errors.now)) sums.old sums.new }
 {
     for w in 0..N {
-        sums[w] = add_eight(sums[w], taps, &errors[w * step..]);
+        let start = w * step;
+        sums[w] = add_eight(sums[w], taps, &errors[start..]);
     }
 }
 

@@ -64,6 +64,7 @@ fn add_all(sums: &mut [i32], more: &[i32])
     ensures added { EachIndex sums.old (λ i. slice_index_or sums.new i (pos 0) ≡ slice_index_or sums.old i (pos 0) +ℤ slice_index_or more.now i (pos 0)) }
 {
     for i in 0..sums.len() {
-        sums[i] += more[i];
+        let sum = sums[i] + more[i];
+        sums[i] = sum;
     }
 }

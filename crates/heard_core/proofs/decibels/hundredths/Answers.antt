@@ -1,8 +1,7 @@
-use Rattle.std.proofs.Common.{◌≡◌, ◌∙◌, ℤ, pos, negsuc, ◌-ℤ◌, ap, arith, refl, subst, sym, to_z, of_z, w64}
+use Rattle.std.proofs.Common.{◌≡◌, ◌∙◌, ℤ, pos, negsuc, ◌-ℤ◌, arith, subst, sym, to_z, of_z, w64}
 use Rattle.std.proofs.lemmas.Int.{ints, to_z-of_z}
 use Rattle.heard_core.specs.Levels.{IsAtMost, limit}
-use Rattle.heard_core.specs.Naturals.{natural}
-use Rattle.heard_core.proofs.LevelLaws.{above_lowest, at_most_limit, measured, not_measured}
+use Rattle.heard_core.proofs.LevelLaws.{above_lowest, at_most_limit, not_measured}
 use Rattle.heard_core.proofs.decibels.hundredths.Goals as goal
 
 pub loop-low-init : goal.loop-low-init
@@ -22,10 +21,9 @@ loop-low-preserved c =
     let v = c.args.value in
     let f = c.args.full in
     let middle : to_z w64 (of_z w64 c.between-middle.result) ≡ c.between-middle.result = to_z-of_z w64 c.between-middle.result (record { sfits = c.between-middle.type_inv }) in
-    let said = measured v f c.as_slice.result.now c.as_slice-in-loop-low.result.now _ _ c.in_ok-is_at_level.field-0 (ap natural c.as_slice.ensures.value ∙ c.in_ok-mine.ensures) (ap natural c.as_slice-in-loop-low.ensures.value ∙ c.in_ok-theirs.ensures) refl c.in_ok-is_at_level.ensures in
     record {
       order = rw middle c.between-middle.ensures.below;
-      not_low = not_measured v f _ c.in_ok-is_at_level.field-0 said c.if-branch.false;
+      not_low = not_measured v f _ c.in_ok-is_at_level.field-0 c.in_ok-is_at_level.ensures c.if-branch.false;
       high_is = c.loop-low.invariant.high_is;
     }
 

@@ -1,6 +1,9 @@
-use Rattle.std.proofs.Common.{◌∙◌, ◌≢◌, ◌*◌, arith, drop, below_more, get_or-set_other, take}
+use Rattle.std.proofs.Common.{◌∙◌, ◌≢◌, ◌*◌, arith, drop, below_more, get_or-set_other, length-drop, subst, sym, take}
+use Rattle.std.proofs.lemmas.List.{take_rest}
+use Rattle.std.proofs.lemmas.List.Elements.{All-drop}
+use Rattle.std.specs.List.{All}
 use Rattle.std.proofs.Math.ListN.{length-set}
-use Rattle.heard_core.specs.Products.{dot}
+use Rattle.heard_core.specs.Products.{IsSmall, dot}
 use Rattle.heard_core.proofs.LaneLaws.{one_added}
 use Rattle.heard_core.proofs.DotLaws.{dot_rest}
 use Rattle.heard_core.proofs.products.add_group.Goals as goal
@@ -21,3 +24,17 @@ loop-w-preserved g c =
 
 pub returns-clause-sums : goal.returns-clause-sums
 returns-clause-sums g c = λ w h. c.loop-w.invariant.done w (omega arith)
+
+pub overflow_mul-start : goal.overflow_mul-start
+overflow_mul-start g c = record { fits = omega (arith, c.requires.errors c.loop-w.w c.loop-w-test.true) }
+
+pub add_eight-requires : goal.add_eight-requires
+add_eight-requires g c =
+    let es = c.args.errors.now in
+    let p = c.loop-w.w * c.args.step in
+    record {
+      taps = c.requires.taps;
+      errors = rw (take_rest es p) (omega (arith, length-drop p es, c.requires.errors c.loop-w.w c.loop-w-test.true));
+      small_taps = c.requires.small_taps;
+      small_errors = subst (All IsSmall) (sym (take_rest es p)) (All-drop IsSmall p es c.requires.small_errors);
+    }

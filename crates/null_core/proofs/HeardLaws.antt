@@ -1,5 +1,6 @@
 -- What is heard of a master, by what was found in its channels.
 use Rattle.std.proofs.Common.{◌≡◌, ℕ, ◌<◌, ◌≤◌, ◌↔◌, refl, Bool, List, [], Some, length, get_or, slice_get, sym, ap, subst, ◌∙◌, inl, inr, arith}
+use Rattle.std.proofs.lemmas.List.{length-replicate}
 use Rattle.std.proofs.lemmas.List.Elements.{All-get_or}
 use Rattle.std.proofs.lemmas.Option.{get_or_from_slice_get, slice_get_within}
 use Rattle.dsd_bits.specs.Contents.{Content}
@@ -8,7 +9,7 @@ use Rattle.cut_core.specs.Cuts.{AreAlike, take_at}
 use Rattle.cut_core.specs.Excerpts.{TakeShape, excerpts_at}
 use Rattle.null_core.specs.declared.stretch.Stretch.{Stretch}
 use Rattle.null_core.specs.declared.verdict.LoudPlace.{LoudPlace}
-use Rattle.null_core.specs.declared.verdict.Shape.{Shape}
+use Rattle.cut_core.specs.declared.fitting.Shape.{Shape}
 use Rattle.null_core.specs.declared.verdict.Verdict.{Verdict}
 use Rattle.null_core.specs.declared.verdict.Verdict.TheVariants.{Accepted, MasterShape, MasterLength, TooLoud, Residual}
 use Rattle.null_core.specs.Asking.{Fits, IsQuiet, NullsAll, asked_of}
@@ -17,7 +18,7 @@ use Rattle.null_core.specs.Judged.{IsJudged}
 use Rattle.null_core.specs.Parts.{AskedContent}
 use Rattle.null_core.specs.Reading.{IsReadOf, MixedContent}
 use Rattle.null_core.specs.Stretches.{AreStretches, IsStretch}
-use Rattle.null_core.specs.Verdicts.{AreFound, AreJudgedTo, FitsFirst, HasAbove, IsAccepted, IsFirstLoud, IsGreatestOfAll, IsGreatestTo, IsJudgedIn, IsTooLoudIn, IsVerdict, IsVerdictBy, IsVerdictOn, channel_bits, shape_of, size_in}
+use Rattle.null_core.specs.Verdicts.{AreFound, AreJudgedTo, FitsFirst, HasAbove, IsAccepted, IsFirstLoud, IsGreatestOfAll, IsGreatestTo, IsJudgedIn, IsOutlineOf, IsTooLoudIn, IsVerdict, IsVerdictBy, IsVerdictOn, channel_bits, shape_of, size_in}
 use Rattle.null_core.proofs.ReadingLaws.{shapes_are}
 
 module _ (mixed : MixedContent) (master : Content) (takes : List Content) (read : IsReadOf mixed takes) where
@@ -42,6 +43,20 @@ module _ (mixed : MixedContent) (master : Content) (takes : List Content) (read 
 -- ---- masters that don't fit
 pub shape_differs : (mixed : MixedContent) (master : Content) (found wanted : Shape) → (AreAlike (excerpts_at mixed.read 0).recording master → ⊥) → found ≡ shape_of master → wanted ≡ shape_of (excerpts_at mixed.read 0).recording → IsVerdictOn mixed master [] (MasterShape found wanted)
 shape_differs mixed master found wanted other is_found is_wanted takes read = (λ alike. other (like_first mixed master takes read alike), is_found, is_wanted ∙ first_shape mixed master takes read)
+
+-- by a master without its bits
+module _ (recording : Content) (count : ℕ) (master : Content) (is : IsOutlineOf recording count master) where
+  outline_rate : recording.rate ≡ master.rate
+  outline_rate = ap (λ (r : Content). r.rate) is.is_silent
+
+  outline_number : length recording.channels ≡ length master.channels
+  outline_number = ap (λ (r : Content). length r.channels) is.is_silent ∙ length-replicate {A = List Bool} (length master.channels) []
+
+  pub outline_shape : shape_of recording ≡ shape_of master
+  outline_shape j = record { rate = outline_rate j; channels = outline_number j }
+
+  pub alike_outline : (first : Content) → AreAlike first master → AreAlike first recording
+  alike_outline first alike = record { same_rate = outline_rate ∙ alike.same_rate; as_many_channels = outline_number ∙ alike.as_many_channels }
 
 -- ---- masters that fit
 -- a judged place has at most the residual of its stretch
@@ -135,3 +150,28 @@ module _ (mix : MixContent) (takes : List Content) (master : Content) (stretches
 pub accepts_exactly : (mixed : MixedContent) (master : Content) (stretches : List (List Stretch)) (verdict : Verdict) → IsVerdictOn mixed master stretches verdict
     → (takes : List Content) → IsReadOf mixed takes → IsAccepted verdict ↔ (NullsAll mixed.mix takes master mixed.mix.limit × IsQuiet mixed.mix takes master)
 accepts_exactly mixed master stretches verdict is takes read = (if_accepted mixed.mix takes master stretches verdict (is takes read), accepted_if mixed.mix takes master stretches verdict (is takes read))
+
+-- two greatest residuals are the same
+greatest_low : (mix : MixContent) (takes : List Content) (master : Content) (a b : ℕ) → IsGreatestOfAll mix takes master a → IsGreatestOfAll mix takes master b → a ≤ b
+greatest_low mix takes master a b is_a is_b = elim is_a.reached [
+  | inl none ↦ omega (arith, none)
+  | inr some ↦ (let low = is_b.most some.0 some.1 some.2 in omega (arith, low, some.3))
+]
+
+only_greatest : (mix : MixContent) (takes : List Content) (master : Content) (a b : ℕ) → IsGreatestOfAll mix takes master a → IsGreatestOfAll mix takes master b → a ≡ b
+only_greatest mix takes master a b is_a is_b = omega (arith, greatest_low mix takes master a b is_a is_b, greatest_low mix takes master b a is_b is_a)
+
+-- a master is accepted with a greatest residual exactly if no place is too loud, it nulls with the mix's limit, and that
+-- is its greatest residual
+pub verdict_accepts : (mix : MixContent) (takes : List Content) (master : Content) (stretches : List (List Stretch)) (verdict : Verdict) → IsVerdict mix takes master stretches verdict
+    → (residual : ℕ) → (verdict ≡ Accepted residual) ↔ (IsQuiet mix takes master × NullsAll mix takes master mix.limit × IsGreatestOfAll mix takes master residual)
+verdict_accepts mix takes master stretches verdict is residual = (said, accepted)
+  where
+    said : verdict ≡ Accepted residual → IsQuiet mix takes master × NullsAll mix takes master mix.limit × IsGreatestOfAll mix takes master residual
+    said same = let by : IsVerdict mix takes master stretches (Accepted residual) = subst (IsVerdict mix takes master stretches) same is in (by.0.quiet, by.1, by.2)
+
+    accepted : IsQuiet mix takes master × NullsAll mix takes master mix.limit × IsGreatestOfAll mix takes master residual → verdict ≡ Accepted residual
+    accepted (quiet, nulls, greatest) =
+        let some = accepted_if mix takes master stretches verdict is (nulls, quiet) in
+        let by : IsVerdict mix takes master stretches (Accepted some.0) = subst (IsVerdict mix takes master stretches) some.1 is in
+        some.1 ∙ ap Accepted (only_greatest mix takes master some.0 residual by.2 greatest)

@@ -1,5 +1,7 @@
 pub mod AloneLaws
 pub mod AroundLaws
+pub mod CallingLaws
+mod BlockLaws
 pub mod ChannelLaws
 pub mod ChunkLaws
 pub mod DueLaws
@@ -7,6 +9,7 @@ mod EditLaws
 pub mod ErrorLaws
 pub mod ExcerptLaws
 pub mod FileLaws
+pub mod FillLaws
 pub mod GainLaws
 pub mod HeardLaws
 pub mod HoldingLaws

@@ -1,6 +1,5 @@
 -- Where a master has the bits of parts.
-use Rattle.std.proofs.Common.{◌≡◌, ◌≢◌, ℕ, ◌+◌, ◌-◌, ◌<◌, ◌≤◌, ◌⊎◌, ℤ, Bool, IsTrue, true, false, not, List, length, map, get_or, slice_get, option_map, MatchOption, Option, None, Some, inl, inr, refl, sym, ap, subst, ◌∙◌, arith}
-use Rattle.std.proofs.Math.Bool.{beq}
+use Rattle.std.proofs.Common.{◌≡◌, ◌≢◌, ℕ, ◌+◌, ◌-◌, ◌<◌, ◌≤◌, ◌⊎◌, ℤ, Bool, IsTrue, false, List, length, map, get_or, slice_get, option_map, MatchOption, Option, None, Some, inl, inr, sym, ap, subst, ◌∙◌, arith}
 use Rattle.std.proofs.lemmas.Bool.{cases_lt}
 use Rattle.std.proofs.lemmas.Bool.Decides.{nat_tests}
 use Rattle.std.proofs.lemmas.Option.{MatchOption-at_none, MatchOption-at_some, same_Some, slice_get-get_or, slice_get-map, slice_get_within}
@@ -15,13 +14,6 @@ use Rattle.null_core.specs.Walks.{AreAlikeTo, AreOwn, HasPlaces, HearSame, IsAli
 -- a part in memory is that of the list of parts
 pub part_there : (parts : List Part) (n : ℕ) (p : Part) → n < length parts → p ≡ get_or parts n p → slice_get (map part_content parts) n ≡ Some (part_content p)
 part_there parts n p low is = slice_get-map part_content parts n ∙ ap (option_map part_content) (slice_get-get_or parts n p low ∙ ap (λ x. Some x) (sym is))
-
--- two bits that were compared
-alike_bits : (x y : Bool) → not (beq x y) ≡ false → x ≡ y
-alike_bits true true h = refl
-alike_bits true false h = cc
-alike_bits false true h = cc
-alike_bits false false h = refl
 
 -- a part that has a place
 pub place_there : (m : ℕ) (p : PartContent) → IsTrue (has_place m p) → (p.at ≤ m) × (m < p.at + p.size)
@@ -40,15 +32,16 @@ module _ (bits : List Bool) (p : PartContent) (m own : ℕ) (begun : p.at ≤ m)
       let there : m + (k - m) ≡ k = omega arith in
       ap (λ n. get_or bits n false) (sym there) ∙ same (k - m) (omega arith) ∙ own_place k from
 
-  pub alike_more : (place : ℕ) (x y : Bool) → m ≤ place → x ≡ get_or bits place false → y ≡ get_or p.bits (own + (place - m)) false → not (beq x y) ≡ false → ((k : ℕ) → m ≤ k → k < place → get_or bits k false ≡ part_bit p k)
-      → (k : ℕ) → m ≤ k → k < place + 1 → get_or bits k false ≡ part_bit p k
-  alike_more place x y after got own_got same so_far k from to = elim (cases_lt k place) [
-    | inl before ↦ so_far k from before
-    | inr past ↦ (
-        let here : place ≡ k = omega arith in
-        subst (λ n. get_or bits n false ≡ part_bit p n) here (sym got ∙ alike_bits x y same ∙ own_got ∙ own_place place after)
-        )
-  ]
+  pub alike_to_other : (end alike : ℕ) → m ≤ end → alike ≤ end - m → ((k : ℕ) → k < alike → get_or bits (m + k) false ≡ get_or p.bits (own + k) false) → (alike < end - m → get_or bits (m + alike) false ≢ get_or p.bits (own + alike) false)
+      → IsAlikeTo p bits m end (m + alike)
+  alike_to_other end alike order few same other = record {
+    after = omega arith;
+    before = omega arith;
+    same = alike_from alike same;
+    ends = λ lt is.
+        let there : own + alike ≡ own + (m + alike - m) = omega arith in
+        other (omega arith) (is ∙ sym (own_place (m + alike) (omega arith)) ∙ ap (λ n. get_or p.bits n false) (sym there));
+  }
 
 -- at a place the master hasn't the bit of a part that is heard at place m
 pub record OtherAt (parts : List PartContent) (bits : List Bool) (m k : ℕ) : Type 0 where

@@ -1,5 +1,5 @@
 -- How large gains, sound and the mix can be.
-use Rattle.std.proofs.Common.{ℕ, ◌+◌, ◌-◌, ◌*◌, ◌/◌, ◌≤◌, ◌^◌, ℤ, pos, ◌+ℤ◌, ◌*ℤ◌, unsigned_abs, Bool, true, false, if◌then◌else◌, List, [], ◌∷◌, All, length, refl, sym, subst, inl, inr, arith, add-one}
+use Rattle.std.proofs.Common.{ℕ, ◌+◌, ◌-◌, ◌*◌, ◌/◌, ◌≤◌, ◌^◌, ℤ, pos, ◌+ℤ◌, ◌*ℤ◌, unsigned_abs, Bool, true, false, if◌then◌else◌, List, [], ◌∷◌, All, length, sum_by, refl, sym, subst, inl, inr, arith, add-one}
 use Rattle.std.proofs.lemmas.Bool.{cases_lt, le-ltb, lt-ltb}
 use Rattle.std.proofs.lemmas.Int.{unsigned_abs-mul}
 use Rattle.std.proofs.lemmas.List.Elements.{All-tail}
@@ -7,6 +7,7 @@ use Rattle.std.proofs.lemmas.List.Sums.{sum_by-cons}
 use Rattle.std.proofs.lemmas.Nat.{mul-le}
 use Rattle.dsd_bits.proofs.SumLaws.{abs_add}
 use Rattle.clip_core.specs.declared.gain.Point.{Point}
+use Rattle.clip_core.specs.Mixes.{total}
 use Rattle.clip_core.specs.Gains.{ArePoints, AreRising, IsPoint, gain, gain_after}
 use Rattle.clip_core.proofs.LineLaws.{on_line_in}
 use Rattle.heard_core.specs.Sounds.{decoded}
@@ -50,3 +51,8 @@ mix_small (p ∷ ps) fit m =
     let both : unsigned_abs (added m p +ℤ mix_at ps m) ≤ ((if has_place m p then 1 else 0) + parts_at m ps) * 2 ^ 54 =
     omega (arith, abs_add (added m p) (mix_at ps m), added_small p (fit 0 p (omega arith)) m, mix_small ps (All-tail IsPart p ps fit) m) in
     subst (λ n. unsigned_abs (mix_at (p ∷ ps) m) ≤ n * 2 ^ 54) (sym (sum_by-cons (λ q. if has_place m q then 1 else 0) p ps)) both
+
+-- a sum of taps is at most that of their absolute values
+pub total_small : (taps : List ℤ) → unsigned_abs (total taps) ≤ sum_by unsigned_abs taps
+total_small [] = omega arith
+total_small (x ∷ xs) = omega (arith, total_small xs, abs_add x (total xs), sum_by-cons unsigned_abs x xs)

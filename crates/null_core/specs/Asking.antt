@@ -1,9 +1,9 @@
 -- What a mix and its takes ask a master to sound like.
-use Rattle.std.specs.Prelude.{◌≡◌, ℕ, ◌+◌, ◌<◌, ◌≤◌, ℤ, pos, ◌-ℤ◌, List, [], length, map, slice_index_or}
+use Rattle.std.specs.Prelude.{◌≡◌, ℕ, ◌+◌, ◌*◌, ◌<◌, ◌≤◌, ℤ, pos, ◌-ℤ◌, ◌*ℤ◌, List, [], length, map, slice_index_or}
 use Rattle.dsd_bits.specs.Channels.{count_of}
 use Rattle.dsd_bits.specs.Contents.{Content}
 use Rattle.clip_core.specs.Clips.{ClipContent, points_of}
-use Rattle.clip_core.specs.Mixes.{MixContent, mix_length}
+use Rattle.clip_core.specs.Mixes.{MixContent, mix_length, total}
 use Rattle.cut_core.specs.Cuts.{AreAlike, take_at}
 use Rattle.null_core.specs.Judged.{IsTooLoud, Nulls}
 use Rattle.null_core.specs.Parts.{AskedContent, PartContent}
@@ -28,6 +28,10 @@ part_of mix takes channel c = record {
 -- what a channel of the master is asked to be
 abbrev pub asked_of : MixContent → List Content → ℕ → AskedContent
 asked_of mix takes channel = record { unit = mix.unit; audible = mix.audible; every = mix.every; parts = map (part_of mix takes channel) mix.clips }
+
+-- full scale of the residuals of a mix: twice its unit times the sum of what can be heard
+abbrev pub IsFullScale : MixContent → ℕ → Type 0
+IsFullScale mix full = pos full ≡ pos (2 * mix.unit) *ℤ total mix.audible
 
 -- the clip ends within its take
 abbrev pub IsInside : List Content → ClipContent → Type 0

@@ -1,18 +1,14 @@
 -- What is read of files.
-use Rattle.std.specs.Prelude.{◌≡◌, ℕ, ◌^◌, List, [], ◌∷◌, Option, IfSome, Result, Ok, Err}
+use Rattle.std.specs.Prelude.{◌≡◌, ℕ, List, Option, IfSome, Result, Ok, Err}
 use Rattle.chunk_core.specs.Inlets.{inlet_reader}
 use Rattle.chunk_core.specs.declared.inlet.Inlet.{Inlet}
-use Rattle.dsd_bits.specs.declared.stretches.BitRange.{BitRange}
 use Rattle.dsd_bits.specs.Contents.{Content}
 use Rattle.dsd_bits.specs.Shape.{HasShape}
 use Rattle.form_core.specs.Forms.{HoldsSome}
 use Rattle.form_core.specs.Opening.{opened_of}
 use Rattle.form_core.specs.declared.fault.ReadFault.{ReadFault}
-use Rattle.sound_core.specs.Keeping.{IsKeptOf, stretches_in}
 use Rattle.sound_core.specs.Naming.{NamesFault}
-use Rattle.sound_core.specs.Outlines.{AreStated, around_of}
 use Rattle.sound_core.specs.Reads.{Reads}
-use Rattle.sound_core.specs.declared.keeping.Kept.{Kept}
 use Rattle.clip_core.specs.Mixes.{MixContent}
 use Rattle.cut_core.specs.Excerpts.{excerpts_content}
 use Rattle.cut_core.specs.declared.excerpts.Excerpts.{Excerpts}
@@ -39,18 +35,3 @@ IsReadLeft holds left inlet found = IfSome (left (inlet_reader inlet)) (λ file.
 abbrev pub IsReadGiven : {X R : Type 0} → (List ℕ → X → Type 0) → (R → Option (List ℕ)) → Inlet R → Inlet R → Result X ReadFault → Type 0
 IsReadGiven holds left old new (Ok x) = (read : List ℕ) × Reads left old new read × holds read x
 IsReadGiven holds left old new (Err fault) = NamesFault left old new fault
-
--- ---- a whole recording
--- the one range of all bits that a recording may have
-abbrev pub whole : List BitRange
-whole = record { start = 0; stop = 2 ^ 36 } ∷ []
-
--- all bits of some file were kept
-pub record IsWholeKept (kept : Kept) : Type 0 where
-  pub stated : AreStated (around_of kept.outline)
-  pub file : List ℕ
-  pub is : IsKeptOf (around_of kept.outline) whole (stretches_in kept) file
-
--- the recording is that of each file of which this was kept
-abbrev pub KeepsWhole : Kept → Content → Type 0
-KeepsWhole kept r = (file : List ℕ) → IsKeptOf (around_of kept.outline) whole (stretches_in kept) file → HoldsSome file r

@@ -3,13 +3,14 @@ use Rattle.std.specs.Prelude.{◌≡◌, ℕ, ◌<◌, ◌≤◌, ◌⊎◌, ◌
 use Rattle.std.specs.declared.alloc.Global.{Global}
 use Rattle.dsd_bits.specs.Channels.{count_of}
 use Rattle.dsd_bits.specs.Contents.{Content}
+use Rattle.dsd_bits.specs.Stretches.{silent}
 use Rattle.clip_core.specs.Mixes.{MixContent, mix_length}
 use Rattle.cut_core.specs.Cuts.{AreAlike, take_at}
 use Rattle.cut_core.specs.Excerpts.{excerpts_at}
 use Rattle.null_core.specs.declared.stretch.Stretch.{Stretch}
 use Rattle.null_core.specs.declared.verdict.Heard.{Heard}
 use Rattle.null_core.specs.declared.verdict.LoudPlace.{LoudPlace}
-use Rattle.null_core.specs.declared.verdict.Shape.{Shape}
+use Rattle.cut_core.specs.declared.fitting.Shape.{Shape}
 use Rattle.null_core.specs.declared.verdict.Verdict.{Verdict}
 use Rattle.null_core.specs.declared.verdict.Verdict.TheVariants.{Accepted, MasterShape, MasterLength, TooLoud, Residual}
 use Rattle.null_core.specs.Asking.{Fits, IsQuiet, NullsAll, asked_of}
@@ -108,6 +109,11 @@ AcceptsExactly mixed master heard = (takes : List Content) → IsReadOf mixed ta
 -- whichever takes were read, this is a verdict
 abbrev pub IsVerdictOn : MixedContent → Content → List (List Stretch) → Verdict → Type 0
 IsVerdictOn mixed master stretches verdict = (takes : List Content) → IsReadOf mixed takes → IsVerdict mixed.mix takes master stretches verdict
+
+-- this is a master without its bits, and how many each of its channels has
+pub record IsOutlineOf (recording : Content) (count : ℕ) (master : Content) : Type 0 where
+  pub is_silent : recording ≡ silent master
+  pub count_is : count ≡ count_of master.channels
 
 -- a master has the shape of the first take, and the length of the mix
 pub record FitsFirst (mixed : MixedContent) (master : Content) : Type 0 where

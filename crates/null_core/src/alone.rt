@@ -52,7 +52,7 @@ struct HeardUntil {
 }
 
 // Which gains a gain is among.
-#[derive(Clone, Copy, PartialEq, Eq)]
+#[derive(Clone, Copy, PartialEq)]
 enum Level {
     // Below 0.
     Negative,

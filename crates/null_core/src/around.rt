@@ -5,8 +5,8 @@ ghost use Rattle.null_core.specs.Chunks.{ListsErrors};
 ghost use Rattle.null_core.specs.Parts.{IsAsked, asked_content};
 
 use crate::asked::Asked;
+use crate::channel::Channel;
 use crate::errors::push_errors;
-use dsd_bits::Bits;
 use std::alloc::{AllocError, Global};
 
 /// Lists the errors that windows read which begin `reach` places before place `first`: 0 outside of the master. If one
@@ -15,7 +15,7 @@ pub(crate) fn list_errors_around(
     alloc: Global,
     errors: &mut Vec<i32>,
     asked: Asked<'_>,
-    bits: &Bits,
+    bits: &Channel<'_>,
     first: usize,
     number: usize,
 ) -> Result<Option<usize>, AllocError>

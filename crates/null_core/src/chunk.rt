@@ -7,9 +7,9 @@ ghost use Rattle.null_core.specs.Parts.{IsAsked, asked_content};
 
 use crate::around::list_errors_around;
 use crate::asked::Asked;
+use crate::channel::Channel;
 use crate::peak::peak_of;
 use crate::stretch::Stretch;
-use dsd_bits::Bits;
 use std::alloc::{AllocError, Global};
 
 /// Judged places, each `every` places after the one before.
@@ -34,7 +34,7 @@ pub(crate) struct Workspace {
 pub(crate) fn judge_chunk(
     alloc: Global,
     asked: Asked<'_>,
-    bits: &Bits,
+    bits: &Channel<'_>,
     chunk: Chunk,
     workspace: &mut Workspace,
 ) -> Result<Result<Stretch, usize>, AllocError>

@@ -1,6 +1,6 @@
 //! Bits are compared with others, many at a time.
 
-ghost use Rattle.std.specs.Prelude.{◌≡◌, ℕ, ◌+◌, ◌*◌, ◌/◌, ◌^◌, ◌<◌, ◌≤◌, false, length, slice_index_or};
+ghost use Rattle.std.specs.Prelude.{◌≡◌, ◌≢◌, ℕ, ◌+◌, ◌*◌, ◌/◌, ◌^◌, ◌<◌, ◌≤◌, false, length, slice_index_or};
 ghost use Rattle.null_core.specs.Words.{AreBitsFrom, stored_bit};
 
 use dsd_bits::Bits;
@@ -8,9 +8,27 @@ use dsd_bits::Bits;
 // How many bits a word has.
 const WORD: usize = 64;
 
-/// How many bits, from one place on, equal others from another place on. They are counted in whole groups of 64. The last
-/// 8 to 71 bits aren't looked at.
+/// How many bits from one place on equal others from another place on, before the first that differ, `most` at most.
 pub(crate) fn alike_bits(bits: &Bits, at: usize, others: &Bits, own: usize, most: usize) -> usize
+    requires bits { at + most ≤ length bits.now }
+    requires others { own + most ≤ length others.now }
+    ensures few { result ≤ most }
+    ensures alike { (k : ℕ) → k < result → slice_index_or bits.now (at + k) false ≡ slice_index_or others.now (own + k) false }
+    ensures other { result < most → slice_index_or bits.now (at + result) false ≢ slice_index_or others.now (own + result) false }
+{
+    let _count = bits.len();
+    let _other_count = others.len();
+    for k in alike_groups(bits, at, others, own, most)..most {
+        if bits.get(at + k) != others.get(own + k) {
+            return k;
+        }
+    }
+    most
+}
+
+// How many bits, from one place on, equal others from another place on. They are counted in whole groups of 64. The last
+// 8 to 71 bits aren't looked at.
+fn alike_groups(bits: &Bits, at: usize, others: &Bits, own: usize, most: usize) -> usize
     requires bits { at + most ≤ length bits.now }
     requires others { own + most ≤ length others.now }
     ensures few { result ≤ most }

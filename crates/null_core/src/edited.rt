@@ -6,9 +6,9 @@ ghost use Rattle.null_core.specs.Parts.{IsAsked, asked_content, part_content};
 ghost use Rattle.null_core.specs.Walks.{AreEdited, FindsEdited, FindsSpan, IsOwnStart};
 
 use crate::asked::Asked;
+use crate::channel::Channel;
 use crate::own::{own_run, past_others};
 use crate::part::Part;
-use dsd_bits::Bits;
 
 /// Places that are edited, from the first to the one after the last.
 #[derive(Clone, Copy)]
@@ -21,7 +21,7 @@ pub struct Span {
 
 /// The next places from one on that are edited: those from which `audible` reaches places that aren't all the own bits of
 /// one take.
-pub(crate) fn next_span(asked: Asked<'_>, bits: &Bits, from: usize) -> Option<Span>
+pub(crate) fn next_span(asked: Asked<'_>, bits: &Channel<'_>, from: usize) -> Option<Span>
     requires asked { IsAsked (asked_content asked) }
     requires inside { from ≤ length bits.now }
     ensures { FindsSpan (asked_content asked.entry) bits.now from result }
@@ -32,7 +32,7 @@ pub(crate) fn next_span(asked: Asked<'_>, bits: &Bits, from: usize) -> Option<Sp
 }
 
 // The first edited place from one on.
-fn first_edited(asked: Asked<'_>, bits: &Bits, from: usize) -> Option<usize>
+fn first_edited(asked: Asked<'_>, bits: &Channel<'_>, from: usize) -> Option<usize>
     requires asked { IsAsked (asked_content asked) }
     requires inside { from ≤ length bits.now }
     ensures { FindsEdited (asked_content asked.entry) bits.now from result }
@@ -53,7 +53,7 @@ fn first_edited(asked: Asked<'_>, bits: &Bits, from: usize) -> Option<usize>
 }
 
 // The first place from an edited one on that isn't edited, or the end of the channel.
-fn first_unedited(asked: Asked<'_>, bits: &Bits, start: usize) -> usize
+fn first_unedited(asked: Asked<'_>, bits: &Channel<'_>, start: usize) -> usize
     requires asked { IsAsked (asked_content asked) }
     requires inside { start < length bits.now }
     requires edited { IsEdited (asked_content asked) bits.now start }
@@ -76,7 +76,7 @@ fn first_unedited(asked: Asked<'_>, bits: &Bits, start: usize) -> usize
 
 // Place `low`, if the places from it up to `high` are all the own bits of one take. Otherwise a later place: from the one
 // before it up to `high` not all places are the own bits of one take.
-fn own_start(parts: &[Part<'_>], bits: &Bits, low: usize, high: usize) -> usize
+fn own_start(parts: &[Part<'_>], bits: &Channel<'_>, low: usize, high: usize) -> usize
     requires in_order { low < high }
     requires inside { high ≤ length bits.now }
     requires fits { high ≤ 2 ^ 36 }

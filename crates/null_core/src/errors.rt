@@ -7,8 +7,8 @@ ghost use Rattle.null_core.specs.Judging.{AppendErrors, IsQuietError};
 ghost use Rattle.null_core.specs.Parts.{IsAsked, asked_content, mix_at, part_content};
 
 use crate::asked::Asked;
+use crate::channel::Channel;
 use crate::mixing::mix_between;
-use dsd_bits::Bits;
 use std::alloc::{AllocError, Global};
 
 /// From which absolute value on an error is too large to be judged.
@@ -29,7 +29,7 @@ pub(crate) fn push_errors(
     alloc: Global,
     errors: &mut Vec<i32>,
     asked: Asked<'_>,
-    bits: &Bits,
+    bits: &Channel<'_>,
     from: usize,
     to: usize,
 ) -> Result<Option<usize>, AllocError>
@@ -50,7 +50,7 @@ pub(crate) fn push_errors(
 }
 
 // The error at a place where this is the mix, unless it is too large.
-fn quiet_error(asked: Asked<'_>, bits: &Bits, place: usize, mix: i64) -> Option<i32>
+fn quiet_error(asked: Asked<'_>, bits: &Channel<'_>, place: usize, mix: i64) -> Option<i32>
     requires unit { asked.unit ≤ 2 ^ 28 }
     requires inside { place < length bits.now }
     requires mix { mix ≡ mix_at (map part_content asked.parts.now) place }

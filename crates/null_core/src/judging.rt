@@ -6,22 +6,32 @@ ghost use Rattle.null_core.specs.Own.{IsEdited};
 ghost use Rattle.null_core.specs.Parts.{IsAsked, asked_content};
 
 use crate::asked::Asked;
+use crate::channel::Channel;
 use crate::chunk::{Chunk, Workspace, judge_chunk};
 use crate::edited::{Span, next_span};
 use crate::joining::join_stretch;
 use crate::stretch::Stretch;
-use dsd_bits::Bits;
+use crate::watch::Watch;
 use std::alloc::{AllocError, Global};
 
 // How many places a chunk spans at most, judged or not.
 const CHUNK_PLACES: usize = 65_536;
 
+// A channel that is compared, and what is told how far it has come.
+#[derive(Drop)]
+struct Compared<'a, 'b, 'c, W> {
+    bits: &'a Channel<'b>,
+    watch: &'c W,
+}
+
 /// The stretches of a channel, or the first place that is too loud: its error is `2^31` or more in absolute value, and it
-/// is within reach of a judged place. Memory is that of the stretches, and of blocks of a fixed size. Err is out of memory.
-pub fn judge_channel(
+/// is within reach of a judged place. Memory is that of the stretches, and of blocks of a fixed size. `watch` is told up to
+/// which place of the channel this has come. Err is out of memory.
+pub fn judge_channel<W: Watch>(
     alloc: Global,
     asked: Asked<'_>,
-    bits: &Bits,
+    bits: &Channel<'_>,
+    watch: &W,
 ) -> Result<Result<Vec<Stretch>, usize>, AllocError>
     requires { IsAsked (asked_content asked) }
     ensures { IfOk result (λ found. JudgesChannel (asked_content asked.entry) bits.now (judged_items found)) }
@@ -30,10 +40,18 @@ pub fn judge_channel(
         errors: Vec::new(alloc),
         sums: Vec::new(alloc),
     };
+    let compared = Compared { bits, watch };
     let mut stretches = Vec::new(alloc);
     let mut from = 0;
     while let Some(span) = next_span(asked, bits, from) {
-        if let Some(place) = judge_span(alloc, asked, bits, span, &mut workspace, &mut stretches)? {
+        if let Some(place) = judge_span(
+            alloc,
+            asked,
+            &compared,
+            span,
+            &mut workspace,
+            &mut stretches,
+        )? {
             return Ok(Err(place));
         }
         from = span.stop;
@@ -42,23 +60,24 @@ pub fn judge_channel(
 }
 
 // Adds the stretches of a span, or returns the first place that is too loud.
-fn judge_span(
+fn judge_span<W: Watch>(
     alloc: Global,
     asked: Asked<'_>,
-    bits: &Bits,
+    compared: &Compared<'_, '_, '_, W>,
     span: Span,
     workspace: &mut Workspace,
     stretches: &mut Vec<Stretch>,
 ) -> Result<Option<usize>, AllocError>
     requires asked { IsAsked (asked_content asked) }
     requires some { span.start < span.stop }
-    requires inside { span.stop ≤ length bits.now }
-    requires edited { (n : ℕ) → span.start ≤ n → n < span.stop → IsEdited (asked_content asked) bits.now n }
-    requires so_far { IsJudgedTo (asked_content asked) bits.now span.start stretches.old.items }
-    ensures { IfOk result (JudgesSpan (asked_content asked.entry) bits.now span.stop stretches.new.items) }
+    requires inside { span.stop ≤ length compared.now.bits.now }
+    requires edited { (n : ℕ) → span.start ≤ n → n < span.stop → IsEdited (asked_content asked) compared.now.bits.now n }
+    requires so_far { IsJudgedTo (asked_content asked) compared.now.bits.now span.start stretches.old.items }
+    ensures { IfOk result (JudgesSpan (asked_content asked.entry) compared.now.bits.now span.stop stretches.new.items) }
 {
     // A channel has at most 2^36 bits, so no place overflows.
-    let _count = bits.len();
+    let bits = compared.bits;
+    let count = bits.len();
     let tap_number = asked.audible.len();
     let mut first = span.start.next_multiple_of(asked.every);
     while first < span.stop {
@@ -67,6 +86,7 @@ fn judge_span(
             Err(place) => return Ok(Some(place)),
             Ok(stretch) => join_stretch(stretches, stretch, tap_number)?,
         }
+        compared.watch.tell(last, count);
         first = last + asked.every;
     }
     Ok(None)

@@ -1,16 +1,18 @@
 //! A mix with what it reads of its takes.
 
-ghost use Rattle.std.specs.Prelude.{◌≡◌, ◌^◌, ◌<◌, ◌≤◌, All, IfErr, IfOk, map};
+ghost use Rattle.std.specs.Prelude.{◌≡◌, ◌-◌, ◌^◌, ◌<◌, ◌≤◌, ◌<ℤ◌, All, IfErr, IfOk, map, pos, sum_by, unsigned_abs};
 ghost use Rattle.clip_core.specs.Contents.{mix_content};
 ghost use Rattle.clip_core.specs.Mixes as mixes;
-ghost use Rattle.clip_core.specs.Mixes.{AreTaps};
+ghost use Rattle.clip_core.specs.Mixes.{AreTaps, total};
 ghost use Rattle.cut_core.specs.Excerpts.{excerpts_at, excerpts_content};
+ghost use Rattle.null_core.specs.Asking.{IsFullScale};
 ghost use Rattle.null_core.specs.Holding.{excerpts_of};
 ghost use Rattle.null_core.specs.Judging.{judged_items};
 ghost use Rattle.null_core.specs.Parts.{IsPart, part_content};
 ghost use Rattle.null_core.specs.Reading.{AreOfTakes, ArePartsOf, IsFaultOfTakes, JudgesChannelOf, TakesFit, channels_of, mixed_of};
 
 use crate::asked::Asked;
+use crate::channel::Channel;
 use crate::channels::parts_of;
 use crate::fault::MixedFault;
 use crate::fitting::{fits, take_at};
@@ -18,9 +20,10 @@ use crate::judging::judge_channel;
 use crate::part::Part;
 use crate::ranges::ranges_of;
 use crate::stretch::Stretch;
+use crate::watch::Watch;
 use clip_core::{Mix, mix_length};
 use cut_core::Excerpts;
-use dsd_bits::{Bits, Recording, stretches_of};
+use dsd_bits::{Recording, stretches_of};
 use heard_core::{Audible, Decoder};
 use std::alloc::{AllocError, Global};
 use std::marker::Model;
@@ -103,11 +106,12 @@ impl Mixed {
 
     /// The stretches of a channel of a master, or the first place that is too loud, as [`judge_channel`] finds them. Err
     /// is out of memory.
-    pub fn judge_channel(
+    pub fn judge_channel<W: Watch>(
         &self,
         alloc: Global,
         channel: usize,
-        bits: &Bits,
+        bits: &Channel<'_>,
+        watch: &W,
     ) -> Result<Result<Vec<Stretch>, usize>, AllocError>
         requires { channel < channels_of self.now }
         ensures { IfOk result (λ found. JudgesChannelOf self.now channel bits.now (judged_items found)) }
@@ -119,7 +123,7 @@ impl Mixed {
             every: self.mix.every,
             parts: &parts,
         };
-        judge_channel(alloc, asked, bits)
+        judge_channel(alloc, asked, bits, watch)
     }
 
     /// The first take without its bits: a master has its sample rate and number of channels.
@@ -137,12 +141,44 @@ impl Mixed {
         mix_length(&self.mix.clips)
     }
 
+    /// Full scale of residuals: twice the mix's unit times the sum of the taps of what can be heard.
+    pub fn full_scale(&self) -> u64
+        ensures value { IsFullScale (self.now).mix result }
+        ensures some { 1 ≤ result }
+        ensures bound { result < 2 ^ 60 }
+    {
+        2 * u64::from(self.mix.unit) * tap_sum(&self.mix.audible)
+    }
+
     /// The greatest residual that is accepted, below `2^63`.
     pub fn limit(&self) -> u64
         ensures { result ≡ self.now.mix.limit }
     {
         self.mix.limit
     }
+}
+
+// The sum of the taps of what can be heard.
+fn tap_sum(taps: &[i32]) -> u64
+    requires fit { AreTaps (2 ^ 31 - 1) taps.now }
+    requires more { pos 0 <ℤ total taps.now }
+    ensures value { pos result ≡ total taps.now }
+    ensures some { 1 ≤ result }
+    ensures bound { result < 2 ^ 31 }
+{
+    total(taps).unsigned_abs()
+}
+
+// The sum of taps.
+fn total(taps: &[i32]) -> i64
+    requires { sum_by unsigned_abs taps.now ≤ 2 ^ 31 - 1 }
+    ensures { result ≡ total taps.now }
+{
+    let mut sum = 0i64;
+    for tap in taps {
+        sum += i64::from(*tap);
+    }
+    sum
 }
 
 // The decoder of each list of taps.

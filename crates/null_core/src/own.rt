@@ -6,10 +6,9 @@ ghost use Rattle.null_core.specs.Parts.{part_content};
 ghost use Rattle.null_core.specs.Walks.{AreAlikeTo, HasPlaces, HearSame, IsAlikeTo, IsOwnFrom, IsOwnPiece, IsOwnTo, IsPastHeard, IsPastOther, IsPastOthers};
 
 use crate::alone::{Source, alone_at};
-use crate::compared::alike_bits;
+use crate::channel::Channel;
 use crate::part::Part;
 use clip_core::line_at;
-use dsd_bits::Bits;
 
 /// Whose own bits the master has from a place on.
 #[derive(Clone, Copy)]
@@ -21,7 +20,7 @@ pub struct OwnRun {
 }
 
 /// Whose own bits a channel of the master has from place `m` on, and how far. If they are a take's, the run is not longer.
-pub(crate) fn own_run(parts: &[Part<'_>], bits: &Bits, m: usize) -> OwnRun
+pub(crate) fn own_run(parts: &[Part<'_>], bits: &Channel<'_>, m: usize) -> OwnRun
     requires { m < length bits.now }
     ensures { IsOwnFrom (map part_content parts.now) bits.now m result }
 {
@@ -36,7 +35,7 @@ pub(crate) fn own_run(parts: &[Part<'_>], bits: &Bits, m: usize) -> OwnRun
 }
 
 // The place up to which the own bits of a take go on from place `from`.
-fn own_until(parts: &[Part<'_>], bits: &Bits, source: Source, from: usize) -> usize
+fn own_until(parts: &[Part<'_>], bits: &Channel<'_>, source: Source, from: usize) -> usize
     requires { from ≤ length bits.now }
     ensures { IsOwnTo (map part_content parts.now) bits.now source from result }
 {
@@ -63,7 +62,7 @@ fn is_source(found: Option<Source>, source: Source) -> bool
 }
 
 // Whose own bits the master has from place `m` on, as far as the same parts are heard.
-fn own_piece(parts: &[Part<'_>], bits: &Bits, m: usize) -> OwnRun
+fn own_piece(parts: &[Part<'_>], bits: &Channel<'_>, m: usize) -> OwnRun
     requires { m < length bits.now }
     ensures { IsOwnPiece (map part_content parts.now) bits.now m result }
 {
@@ -99,7 +98,7 @@ fn piece_of(source: Source, m: usize, until: usize) -> OwnRun
 
 /// The place after one that is no take's own, from place `low` up to `high`, or `low` if none is found. It looks from the
 /// last place to the first, as far as the same parts are heard.
-pub(crate) fn past_others(parts: &[Part<'_>], bits: &Bits, low: usize, high: usize) -> usize
+pub(crate) fn past_others(parts: &[Part<'_>], bits: &Channel<'_>, low: usize, high: usize) -> usize
     requires in_order { low < high }
     requires inside { high ≤ length bits.now }
     requires fits { high ≤ 2 ^ 36 }
@@ -114,7 +113,7 @@ pub(crate) fn past_others(parts: &[Part<'_>], bits: &Bits, low: usize, high: usi
 }
 
 // The place after one from `low` up to `end` at which the master hasn't the bit of a part that is heard, or `low`.
-fn past_heard(parts: &[Part<'_>], bits: &Bits, low: usize, end: usize) -> usize
+fn past_heard(parts: &[Part<'_>], bits: &Channel<'_>, low: usize, end: usize) -> usize
     requires in_order { low < end }
     requires inside { end ≤ length bits.now }
     requires fits { end ≤ 2 ^ 36 }
@@ -131,7 +130,7 @@ fn past_heard(parts: &[Part<'_>], bits: &Bits, low: usize, end: usize) -> usize
 }
 
 // The place up to which the master has the bits of each part that is heard, from place `m` on.
-fn alike_until(parts: &[Part<'_>], bits: &Bits, m: usize, until: usize) -> usize
+fn alike_until(parts: &[Part<'_>], bits: &Channel<'_>, m: usize, until: usize) -> usize
     requires in_order { m < until }
     requires inside { until ≤ length bits.now }
     requires fits { until ≤ 2 ^ 36 }
@@ -172,22 +171,16 @@ fn own_bit(part: &Part<'_>, place: usize) -> usize
 }
 
 // The first place from `m` up to `end` at which the master has another bit than the part, or `end`.
-fn first_other(part: &Part<'_>, bits: &Bits, m: usize, end: usize) -> usize
+fn first_other(part: &Part<'_>, bits: &Channel<'_>, m: usize, end: usize) -> usize
     requires { HasPlaces (part_content part.now) bits.now m end }
     ensures { IsAlikeTo (part_content part.now) bits.now m end result }
 {
     let own = own_bit(part, m);
-    let alike = alike_bits(bits, m, part.bits, own, end - m);
-    for place in m + alike..end {
-        if bits.get(place) != part.bits.get(own + (place - m)) {
-            return place;
-        }
-    }
-    end
+    m + bits.alike(m, part.bits, own, end - m)
 }
 
 // The place after the last one from `low` up to `end` at which the master has another bit than the part, or `low`.
-fn past_other(part: &Part<'_>, bits: &Bits, low: usize, end: usize) -> usize
+fn past_other(part: &Part<'_>, bits: &Channel<'_>, low: usize, end: usize) -> usize
     requires { HasPlaces (part_content part.now) bits.now low end }
     ensures { IsPastOther (part_content part.now) bits.now low end result }
 {

@@ -1,10 +1,9 @@
-//! Takes and masters, read from their files.
+//! Takes, read from their files.
 
 ghost use Rattle.std.specs.Prelude.{◌≡◌, ◌+◌, ◌≤◌, ◌^◌, IfErr, IfOk, IsErrOf};
 ghost use Rattle.chunk_core.specs.Inlets.{inlet_failures, inlet_reads};
 ghost use Rattle.clip_core.specs.Contents.{mix_content};
-ghost use Rattle.form_core.specs.Forms.{HoldsSome};
-ghost use Rattle.null_core.specs.Files.{HoldsExcerpts, IsReadGiven, IsReadLeft, IsWholeKept, KeepsWhole};
+ghost use Rattle.null_core.specs.Files.{HoldsExcerpts, IsReadGiven, IsReadLeft};
 ghost use Rattle.sound_core.specs.Faults.{IsReadingFault, failed_reads};
 ghost use Rattle.sound_core.specs.Readers.{RunsOut};
 
@@ -12,7 +11,6 @@ use crate::ranges::ranges_of;
 use chunk_core::Inlet;
 use clip_core::Mix;
 use cut_core::Excerpts;
-use dsd_bits::{BitRange, MOST_BITS, Recording};
 use form_core::{ReadFault, has_shape};
 use sound_core::{Kept, StreamFault, Unread, read_stretches};
 use std::alloc::Global;
@@ -55,51 +53,5 @@ pub fn read_take<R: Read>(
         }
         Err(Unread::Refused(fault)) => Ok(Err(fault)),
         Err(Unread::Stream(fault)) => Err(fault),
-    }
-}
-
-/// The recording that the file of a master holds, with all of its bits, or the first fault of a file that doesn't hold
-/// one, which [`read_any`](form_core::read_any) returns too. The file is read once. Besides the recording, at most three
-/// blocks of 65,536 bytes of the sound are held at a time, and the channels of one.
-///
-/// Refusals: those of [`read_take`].
-pub fn read_master<R: Read>(
-    alloc: Global,
-    inlet: &mut Inlet<R>,
-) -> Result<Result<Recording, ReadFault>, StreamFault>
-    // It is the recording that the reader's file holds, or is the file's first fault.
-    ensures found { IfOk result (IsReadLeft HoldsSome R.remaining inlet.old) }
-    // The same of the bytes that were read, if the reader's bytes aren't known.
-    ensures any_reader { IfOk result (IsReadGiven HoldsSome R.remaining inlet.old inlet.new) }
-    ensures fault { IfErr result IsReadingFault }
-    ensures read_failed { inlet_failures inlet.new ≡ inlet_failures inlet.old + failed_reads result }
-    // Whatever is returned, there were at most 2^40 reads.
-    ensures reads { inlet_reads inlet.new ≤ inlet_reads inlet.old + 2 ^ 40 }
-    ensures turn_limit { IsErrOf result StreamFault.TurnLimit → RunsOut inlet.old inlet.new }
-{
-    let whole = [BitRange {
-        start: 0,
-        stop: MOST_BITS,
-    }];
-    match read_stretches(alloc, inlet, &whole) {
-        Ok(kept) => Ok(Ok(recording_of(kept))),
-        Err(Unread::Refused(fault)) => Ok(Err(fault)),
-        Err(Unread::Stream(fault)) => Err(fault),
-    }
-}
-
-// The recording of a file of which all bits were kept.
-fn recording_of(kept: Kept) -> Recording
-    requires { IsWholeKept kept }
-    ensures { KeepsWhole kept result }
-{
-    let Kept { outline, stretches } = kept;
-    has_shape(&outline.recording);
-    let count = outline.sound.count;
-    let description = outline.recording.into_description().with_count(count);
-    let mut stretches = stretches;
-    match stretches.pop() {
-        Some(channels) => Recording::new(description, channels),
-        None => unreachable!(),
     }
 }

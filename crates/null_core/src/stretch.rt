@@ -1,7 +1,7 @@
 //! Stretches.
 
 /// Judged places near each other, with fewer places between them than `audible` has taps.
-#[derive(Clone, Copy, Debug, PartialEq, Eq)]
+#[derive(Clone, Copy)]
 pub struct Stretch {
     /// The first judged place.
     pub first: usize,

@@ -1,25 +1,20 @@
 //! What is heard of a master.
 
-ghost use Rattle.std.specs.Prelude.{◌≡◌, ◌≤◌, All, IfOk, IfSome, None, [], length, map};
+ghost use Rattle.std.specs.Prelude.{◌≡◌, ◌<◌, ◌≤◌, All, IfOk, IfSome, None, [], length, map};
 ghost use Rattle.null_core.specs.Judging.{IsFirst};
 ghost use Rattle.null_core.specs.Reading.{channels_of};
 ghost use Rattle.null_core.specs.Verdicts as specs;
-ghost use Rattle.null_core.specs.Verdicts.{AcceptsExactly, FitsFirst, IsAbove, IsGreatestIn, IsHeard, IsVerdictBy, IsVerdictOn, JudgesAll, found_lists};
+ghost use Rattle.dsd_bits.specs.Contents.{Content};
+ghost use Rattle.null_core.specs.Verdicts.{AcceptsExactly, FitsFirst, IsAbove, IsGreatestIn, IsHeard, IsOutlineOf, IsVerdictBy, IsVerdictOn, JudgesAll, found_lists};
 
+use crate::channel::Channel;
+use crate::master::Master;
 use crate::mixed::Mixed;
 use crate::stretch::Stretch;
-use cut_core::differ;
-use dsd_bits::{Bits, Recording};
+use crate::watch::{ChannelWatch, Watch};
+use cut_core::{Shape, differ};
+use dsd_bits::Recording;
 use std::alloc::{AllocError, Global};
-
-/// The sample rate of a recording, and how many channels it has.
-#[derive(Clone, Copy)]
-pub struct Shape {
-    /// The sample rate in Hz.
-    pub rate: u32,
-    /// How many channels there are.
-    pub channels: usize,
-}
 
 /// A place of a master that is too loud to be judged.
 #[derive(Clone, Copy)]
@@ -76,17 +71,23 @@ pub struct Heard {
     pub verdict: Verdict,
 }
 
-/// Judges a master by a mix: how large the residual is at most that can be heard of it. Err is out of memory.
-pub fn judge(alloc: Global, mixed: &Mixed, master: &Recording) -> Result<Heard, AllocError>
+/// Judges a master by a mix: how large the residual is at most that can be heard of it. `watch` is told how far this
+/// has come. Err is out of memory.
+pub fn judge<W: Watch>(
+    alloc: Global,
+    mixed: &Mixed,
+    master: &Master<'_>,
+    watch: &W,
+) -> Result<Heard, AllocError>
     // Whichever takes were read, the verdict is the first that applies, and the stretches are those of each channel.
     ensures verdict { IfOk result (IsHeard mixed.now master.now) }
     // It is accepted exactly if it nulls with the mix's limit and no place is too loud.
     ensures exact { IfOk result (AcceptsExactly mixed.now master.now) }
 {
-    if let Some(verdict) = misfit(mixed, master) {
+    if let Some(verdict) = misfit(mixed, master.recording(), master.count()) {
         return Ok(unheard(alloc, verdict));
     }
-    match judge_channels(alloc, mixed, master.channels())? {
+    match judge_channels(alloc, mixed, master.channels(), watch)? {
         Ok(stretches) => {
             let verdict = verdict_by(mixed.limit(), &stretches);
             Ok(Heard { stretches, verdict })
@@ -97,8 +98,8 @@ pub fn judge(alloc: Global, mixed: &Mixed, master: &Recording) -> Result<Heard, 
     }
 }
 
-// A verdict without stretches.
-fn unheard(alloc: Global, verdict: Verdict) -> Heard
+/// A verdict without stretches.
+pub(crate) fn unheard(alloc: Global, verdict: Verdict) -> Heard
     ensures stretches { result.stretches.items ≡ [] }
     ensures verdict { result.verdict ≡ verdict }
 {
@@ -108,48 +109,47 @@ fn unheard(alloc: Global, verdict: Verdict) -> Heard
     }
 }
 
-// Why a master can't be compared with a mix, if it can't.
-fn misfit(mixed: &Mixed, master: &Recording) -> Option<Verdict>
-    ensures fits { result ≡ None → FitsFirst mixed.now master.now }
-    ensures verdict { IfSome result (IsVerdictOn mixed.now master.now []) }
+/// Why a master can't be compared with a mix, if it can't: by the master without its bits, and how many bits each of its
+/// channels has.
+pub(crate) fn misfit(mixed: &Mixed, recording: &Recording, count: usize) -> Option<Verdict>
+    ensures fits { result ≡ None → (r : Content) → IsOutlineOf recording.now count r → FitsFirst mixed.now r }
+    ensures verdict { IfSome result (λ v. (r : Content) → IsOutlineOf recording.now count r → IsVerdictOn mixed.now r [] v) }
 {
     let first = mixed.first();
-    if differ(first, master) {
+    if differ(first, recording) {
         return Some(Verdict::MasterShape {
-            found: shape_of(master),
-            wanted: shape_of(first),
+            found: Shape::of(recording),
+            wanted: Shape::of(first),
         });
     }
-    let found = master.count();
     let wanted = mixed.length();
-    if found != wanted {
-        return Some(Verdict::MasterLength { found, wanted });
+    if count != wanted {
+        return Some(Verdict::MasterLength {
+            found: count,
+            wanted,
+        });
     }
     None
 }
 
-// The rate and the number of channels of a recording.
-fn shape_of(recording: &Recording) -> Shape
-    ensures { result ≡ specs.shape_of recording.now }
-{
-    Shape {
-        rate: recording.rate(),
-        channels: recording.channels().len(),
-    }
-}
-
 // The stretches of each channel of a master, or the first place that is too loud of the first channel that has one.
-fn judge_channels(
+fn judge_channels<W: Watch>(
     alloc: Global,
     mixed: &Mixed,
-    channels: &[Bits],
+    channels: &[Channel<'_>],
+    watch: &W,
 ) -> Result<Result<Vec<Vec<Stretch>>, LoudPlace>, AllocError>
     requires { length channels.now ≡ channels_of mixed.now }
     ensures { IfOk result (λ found. JudgesAll mixed.now channels.now (found_lists found)) }
 {
     let mut stretches = Vec::new(alloc);
     for channel in 0..channels.len() {
-        match mixed.judge_channel(alloc, channel, &channels[channel])? {
+        let watch = ChannelWatch {
+            watch,
+            channel,
+            channels: channels.len(),
+        };
+        match mixed.judge_channel(alloc, channel, &channels[channel], &watch)? {
             Ok(found) => stretches.push(found)?,
             Err(place) => return Ok(Err(LoudPlace { channel, place })),
         }

@@ -17,6 +17,9 @@ use Rattle.null_core.proofs.channels.part_of.Goals.{After-clip_range, After-hold
 abbrev mixed : (c : After-holder-held) → MixedContent
 mixed c = mixed_of (mix_content c.args.mix.now) c.args.takes.now
 
+pub ahead-requires : goal.ahead-requires
+ahead-requires c = let fits = c.clip_at-here.ensures.fits in record { start = fits.start_fits; at = omega (arith, fits.end_fits) }
+
 pub bits_for-requires : goal.bits_for-requires
 bits_for-requires c =
     let here = (goal.at.bits_for-requires c).After-holder-held in

@@ -1,5 +1,6 @@
 use Rattle.std.proofs.Common.{◌≡◌, ◌∙◌, ◌∷◌, ◌+◌, [], ap, arith, length, map, subst, sym}
 use Rattle.std.proofs.lemmas.List.{length-map, map-append}
+use Rattle.std.proofs.lemmas.Result.{err_from_is_err_and}
 use Rattle.clip_core.specs.Clips.{clip_content}
 use Rattle.clip_core.specs.Contents.{mix_content}
 use Rattle.null_core.specs.Parts.{part_content}
@@ -9,6 +10,17 @@ use Rattle.null_core.proofs.channels.parts_of.Goals as goal
 
 pub loop-clip-init : goal.loop-clip-init
 loop-clip-init c = rw c.new-parts.ensures.items (no_parts (mixed_of (mix_content c.args.mix.now) c.args.takes.now) c.args.channel)
+
+pub part_of-requires : goal.part_of-requires
+part_of-requires c = record {
+  mixed = c.requires.mixed;
+  decoders = c.requires.decoders;
+  channel = c.requires.channel;
+  clip = omega (arith, c.loop-clip-test.true, c.len-clip-end.ensures, length-map c.args.mix.now.clips.items clip_content);
+}
+
+pub returns-in_err-push : goal.returns-in_err-push
+returns-in_err-push c = let e = err_from_is_err_and c.from_residual.result c.from_residual.ensures.1 in record { parts = rw e.1 tt; fit = rw e.1 tt }
 
 pub loop-clip-preserved : goal.loop-clip-preserved
 loop-clip-preserved c =

@@ -6,16 +6,16 @@ use Rattle.null_core.proofs.SpanLaws.{judged_all, judged_over}
 use Rattle.null_core.proofs.judging.judge_channel.Goals as goal
 
 pub judge_span-requires-clause-so_far : goal.judge_span-requires-clause-so_far
-judge_span-requires-clause-so_far c = judged_over (asked_content c.args.asked) c.args.bits.now c.loop-span.stretches.items c.loop-span.from c.in-Some.span.start c.loop-span.invariant.so_far c.in-Some.ensures.after c.in-Some.ensures.before
+judge_span-requires-clause-so_far g c = judged_over (asked_content c.args.asked) c.args.bits.now c.loop-span.stretches.items c.loop-span.from c.in-Some.span.start c.loop-span.invariant.so_far c.in-Some.ensures.after c.in-Some.ensures.before
 
 pub loop-span-preserved : goal.loop-span-preserved
-loop-span-preserved c = record {
+loop-span-preserved g c = record {
   inside = c.in-Some.ensures.inside;
   so_far = subst (JudgesSpan (asked_content c.args.asked) c.args.bits.now c.in-Some.span.stop c.judge_span.new.stretches.items) c.in_default-2.is c.in_ok-place.ensures;
 }
 
 pub returns : goal.returns
-returns c =
+returns g c =
     let a = asked_content c.args.asked in
     let bits = c.args.bits.now in
     judged_all a bits c.loop-span.stretches.items (judged_over a bits c.loop-span.stretches.items c.loop-span.from (length bits) c.loop-span.invariant.so_far c.loop-span.invariant.inside (subst (FindsSpan a bits c.loop-span.from) c.in_default.is c.next_span.ensures))

@@ -8,27 +8,27 @@ use Rattle.null_core.proofs.SpanLaws.{judged_chunk, judged_to_due, judged_to_fir
 use Rattle.null_core.proofs.judging.judge_span.Goals as goal
 
 pub next_multiple_of-first-requires-clause-fits : goal.next_multiple_of-first-requires-clause-fits
-next_multiple_of-first-requires-clause-fits c =
+next_multiple_of-first-requires-clause-fits g c =
     let start = c.args.span.start in
     let every = c.args.asked.every in
     omega (arith, mod_below (every - start % every) every c.requires.asked.some_every, c.requires.asked.every_fits, c.requires.some, c.requires.inside, c.len-count.ensures.in_limit)
 
 pub loop-first-init : goal.loop-first-init
-loop-first-init c =
+loop-first-init g c =
     let first = c.next_multiple_of-first.ensures in
     record {
       due = first.multiple;
       after = first.lower_bound;
-      so_far = judged_to_first (asked_content c.args.asked) c.args.bits.now c.args.stretches.now.items c.args.span.start c.next_multiple_of-first.result c.args.span.stop c.requires.asked.some_every first.multiple first.lower_bound first.upper_bound (omega (arith, c.requires.some)) c.requires.so_far;
+      so_far = judged_to_first (asked_content c.args.asked) c.args.compared.now.bits.now c.args.stretches.now.items c.args.span.start c.next_multiple_of-first.result c.args.span.stop c.requires.asked.some_every first.multiple first.lower_bound first.upper_bound (omega (arith, c.requires.some)) c.requires.so_far;
     }
 
 pub judge_chunk-requires-clause-quiet : goal.judge_chunk-requires-clause-quiet
-judge_chunk-requires-clause-quiet c = λ m loud. omega (arith, c.loop-first.invariant.so_far.quiet m loud, c.loop-first-test.true)
+judge_chunk-requires-clause-quiet g c = λ m loud. omega (arith, c.loop-first.invariant.so_far.quiet m loud, c.loop-first-test.true)
 
 pub loop-first-preserved : goal.loop-first-preserved
-loop-first-preserved c =
+loop-first-preserved g c =
     let a = asked_content c.args.asked in
-    let bits = c.args.bits.now in
+    let bits = c.args.compared.now.bits.now in
     let last = c.chunk_end-last.ensures in
     let made = subst (JudgesChunk a bits (record { first = c.loop-first.first; last = c.chunk_end-last.result })) c.in-Ok.is c.in_ok-place.ensures in
     record {
@@ -40,16 +40,16 @@ loop-first-preserved c =
     }
 
 pub returns-in-Err : goal.returns-in-Err
-returns-in-Err c = subst (JudgesChunk (asked_content c.args.asked) c.args.bits.now (record { first = c.loop-first.first; last = c.chunk_end-last.result })) c.in-Err.is c.in_ok-place.ensures
+returns-in-Err g c = subst (JudgesChunk (asked_content c.args.asked) c.args.compared.now.bits.now (record { first = c.loop-first.first; last = c.chunk_end-last.result })) c.in-Err.is c.in_ok-place.ensures
 
 pub returns : goal.returns
-returns c =
+returns g c =
     let last = c.loop-first-test.false in
     let so_far = c.loop-first.invariant.so_far in
-    subst (λ n. IsJudgedTo (asked_content c.args.asked) c.args.bits.now n c.loop-first.stretches.items) {x = min c.loop-first.first c.args.span.stop} {y = c.args.span.stop} (omega (arith, last)) so_far
+    subst (λ n. IsJudgedTo (asked_content c.args.asked) c.args.compared.now.bits.now n c.loop-first.stretches.items) {x = min c.loop-first.first c.args.span.stop} {y = c.args.span.stop} (omega (arith, last)) so_far
 
 pub judge_chunk-requires-clause-chunk : goal.judge_chunk-requires-clause-chunk
-judge_chunk-requires-clause-chunk c =
+judge_chunk-requires-clause-chunk g c =
     let last = c.chunk_end-last.ensures in
     record {
       in_order = last.after;

@@ -1,11 +1,18 @@
 use Rattle.std.proofs.Common.{◌≡◌, ◌∙◌, ◌∷◌, ◌++◌, [], ap, arith, length, sym}
 use Rattle.std.proofs.lemmas.List.FromFn.{map-range_with_len_more}
 use Rattle.std.proofs.lemmas.List.{length-map}
+use Rattle.std.proofs.lemmas.Result.{err_from_is_err_and}
 use Rattle.clip_core.specs.Clips.{clip_content}
 use Rattle.clip_core.specs.Contents.{mix_content}
 use Rattle.cut_core.specs.Cuts.{each_below}
 use Rattle.null_core.specs.Holding as specs
 use Rattle.null_core.proofs.ranges.ranges_of.Goals as goal
+
+pub range_of-requires : goal.range_of-requires
+range_of-requires c = omega (arith, c.loop-clip-test.true, c.len-clip-end.ensures, length-map c.args.mix.now.clips.items clip_content)
+
+pub returns-in_err-push : goal.returns-in_err-push
+returns-in_err-push c = let e = err_from_is_err_and c.from_residual.result c.from_residual.ensures.1 in rw e.1 tt
 
 pub loop-clip-preserved : goal.loop-clip-preserved
 loop-clip-preserved c =

@@ -6,32 +6,33 @@ use Rattle.null_core.specs.Reading.{JudgesChannelOf}
 use Rattle.null_core.specs.Verdicts.{AreJudgedTo}
 use Rattle.null_core.proofs.VerdictLaws.{more_judged, none_judged}
 use Rattle.null_core.proofs.verdict.judge_channels.Goals as goal
+use Rattle.null_core.proofs.verdict.judge_channels.Given.{Over}
 use Rattle.null_core.proofs.verdict.judge_channels.Goals.{In_ok-found}
 
 abbrev items : Vec Stretch Global → List Stretch
 items found = found.items
 
-bits_are : (c : In_ok-found) → c.index-channels-channel.result ≡ get_or c.args.channels.now c.loop-channel.channel []
-bits_are c = get_or_read_under c.args.channels.now c.loop-channel.channel (length c.args.channels.now) c.index-channels-channel.result [] c.index-channels-channel.is c.loop-channel-test.true refl
+bits_are : (g : Over) (c : In_ok-found g) → c.index-channels-channel.result ≡ get_or c.args.channels.now c.loop-channel.channel []
+bits_are g c = get_or_read_under c.args.channels.now c.loop-channel.channel (length c.args.channels.now) c.index-channels-channel.result [] c.index-channels-channel.is c.loop-channel-test.true refl
 
 pub loop-channel-init : goal.loop-channel-init
-loop-channel-init c = rw c.new-stretches.ensures.items (none_judged c.args.mixed.now c.args.channels.now)
+loop-channel-init g c = rw c.new-stretches.ensures.items (none_judged c.args.mixed.now c.args.channels.now)
 
 pub loop-channel-preserved : goal.loop-channel-preserved
-loop-channel-preserved c =
-    let here = (goal.at.loop-channel-preserved c).In_ok-found in
+loop-channel-preserved g c =
+    let here = (goal.at.loop-channel-preserved g c).In_ok-found in
     let pushed = ap (map items) c.in_ok-push-in-Ok.ensures.items ∙ map-append items c.loop-channel.stretches.items (c.in-Ok.found ∷ []) in
     subst (AreJudgedTo c.args.mixed.now c.args.channels.now (c.loop-channel.channel + 1)) (sym pushed)
     (more_judged c.args.mixed.now c.args.channels.now c.loop-channel.channel (map items c.loop-channel.stretches.items) c.in-Ok.found.items c.loop-channel.invariant
-    (subst (λ (bits : List Bool). JudgesChannelOf c.args.mixed.now c.loop-channel.channel bits (Ok c.in-Ok.found.items)) (bits_are here)
+    (subst (λ (bits : List Bool). JudgesChannelOf c.args.mixed.now c.loop-channel.channel bits (Ok c.in-Ok.found.items)) (bits_are g here)
     (subst (λ found. JudgesChannelOf c.args.mixed.now c.loop-channel.channel c.index-channels-channel.result (judged_items found)) c.in-Ok.is c.in_ok-found.ensures)))
 
 pub returns-in-Err : goal.returns-in-Err
-returns-in-Err c =
-    let here = (goal.at.returns-in-Err c).In_ok-found in
+returns-in-Err g c =
+    let here = (goal.at.returns-in-Err g c).In_ok-found in
     record {
       there = c.loop-channel-test.true;
-      first = subst (λ (bits : List Bool). JudgesChannelOf c.args.mixed.now c.loop-channel.channel bits (Err c.in-Err.place)) (bits_are here)
+      first = subst (λ (bits : List Bool). JudgesChannelOf c.args.mixed.now c.loop-channel.channel bits (Err c.in-Err.place)) (bits_are g here)
           (subst (λ found. JudgesChannelOf c.args.mixed.now c.loop-channel.channel c.index-channels-channel.result (judged_items found)) c.in-Err.is c.in_ok-found.ensures);
       before = map items c.loop-channel.stretches.items;
       judged = c.loop-channel.invariant;

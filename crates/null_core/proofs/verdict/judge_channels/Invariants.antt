@@ -4,4 +4,4 @@ use Rattle.null_core.specs.Verdicts.{AreJudgedTo}
 use Rattle.null_core.proofs.verdict.judge_channels.Given as goal
 
 abbrev pub invariant-loop-channel : goal.invariant-loop-channel
-invariant-loop-channel l = AreJudgedTo l.mixed l.channels l.channel (map (λ (found : Vec Stretch Global). found.items) l.stretches.items)
+invariant-loop-channel g l = AreJudgedTo l.mixed l.channels l.channel (map (λ (found : Vec Stretch Global). found.items) l.stretches.items)

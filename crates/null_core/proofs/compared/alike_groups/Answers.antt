@@ -1,6 +1,6 @@
 use Rattle.std.proofs.Common.{arith}
 use Rattle.null_core.proofs.WordLaws.{lists_alike}
-use Rattle.null_core.proofs.compared.alike_bits.Goals as goal
+use Rattle.null_core.proofs.compared.alike_groups.Goals as goal
 
 pub returns-clause-alike : goal.returns-clause-alike
 returns-clause-alike c =

@@ -34,6 +34,8 @@ mod gains;
 #[cfg(test)]
 mod mixes;
 #[cfg(test)]
+mod nulling;
+#[cfg(test)]
 mod refusals;
 #[cfg(test)]
 mod residuals;

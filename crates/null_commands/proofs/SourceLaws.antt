@@ -1,0 +1,77 @@
+-- A mix text and the files of its takes: what they make, and why they are refused.
+use Rattle.std.proofs.Common.{◌≡◌, ◌∙◌, ℕ, [], Err, Global, List, Ok, Result, Vec, ap, inl, inr, subst, sym}
+use Rattle.std.specs.Prelude.{◌⊎◌}
+use Rattle.clip_core.specs.Contents.{mix_content}
+use Rattle.clip_core.specs.Mixes.{MixContent}
+use Rattle.cut_core.specs.declared.excerpts.Excerpts.{Excerpts}
+use Rattle.cut_core.proofs.ZipLaws.{zip_long}
+use Rattle.project_core.specs.Steps.{Fails}
+use Rattle.project_core.specs.declared.fault.ProjectFault.{ProjectFault}
+use Rattle.project_core.specs.declared.fault.ProjectFault.TheVariants as texts
+use Rattle.mix_core.specs.Meaning.{IsMix}
+use Rattle.mix_core.specs.Laws.{ReadAsSaid}
+use Rattle.mix_core.specs.ReadingMix.{mix_at}
+use Rattle.folder_core.specs.Files.{AreReadOf, IsReadOf, View}
+use Rattle.null_core.specs.declared.fault.NullFault.{NullFault}
+use Rattle.null_core.specs.Calling.{IsMixedFrom, IsNullFault, ReadsTakes, fault_of_text}
+use Rattle.null_core.specs.Reading.{MixedContent, TakesFit, mixed_of}
+use Rattle.null_core.proofs.CallingLaws.{mixed_from, of_takes, text_fault}
+use Rattle.request_core.specs.declared.fault.Fault.{Fault}
+use Rattle.request_core.specs.declared.fault.Fault.TheVariants.{Memory}
+use Rattle.null_commands.specs.declared.fault.TestFault.{TestFault}
+use Rattle.null_commands.specs.declared.fault.TestFault.TheVariants.{Call, ReadFailed}
+use Rattle.null_commands.specs.declared.sources.Sources.{Sources}
+use Rattle.null_commands.specs.Faults.{fault_of_null}
+use Rattle.null_commands.specs.Sources.{AreOfItsTakes, AreSourcesOf, HasTextFault, IsTextFault, IsUnsourced, ReadsNames, ReadsSources, TakesIn}
+
+-- ---- the text
+not_both : {X E : Type 0} (r : Result X E) (x : X) (e : E) → r ≡ Ok x → r ≡ Err e → ⊥
+not_both (Ok y) x e is fails = absurd cc
+not_both (Err f) x e is fails = absurd cc
+
+pub text_refused : ReadAsSaid → (text : List ℕ) (fault : ProjectFault) (named : NullFault) (call : Fault) → named ≡ fault_of_text fault → call ≡ fault_of_null named → Fails fault (mix_at text) → (call ≡ Memory) ⊎ HasTextFault text call
+text_refused law text texts.Memory named call is call_is fails = inl (call_is ∙ ap fault_of_null is)
+text_refused law text fault named call is call_is fails = inr (record {
+  no_mix = λ mix says. not_both (mix_at text) mix fault ((law text mix).1 says) fails;
+  named = named;
+  name_is = call_is;
+  first = subst (IsNullFault text []) (sym is) (text_fault text [] fault fails);
+})
+
+-- ---- the mix and its takes
+pub unstated : (old : View) (name text : List ℕ) (fault : TestFault) → IsReadOf old name text → IsTextFault text fault → IsUnsourced old name fault
+unstated old name text (Call fault) read (inl memory) = inl memory
+unstated old name text (Call fault) read (inr is) = inr (record {
+  text = text;
+  takes = [];
+  text_read = read;
+  takes_read = λ mix says. absurd (is.no_mix mix says);
+  named = is.named;
+  name_is = is.name_is;
+  first = is.first;
+})
+unstated old name text ReadFailed read is = absurd is
+
+pub sources_read : (old mid : View) (name text : List ℕ) (s : Sources) → mid ≡ old → IsReadOf old name text → IsMix text (mix_content s.mix) → ReadsNames mid (mix_content s.mix) (mix_content s.mix).takes s.takes → ReadsSources old name s
+sources_read old mid name text s same read says named =
+    let files_read = subst (λ (v : View). AreReadOf v (mix_content s.mix).takes named.files) same named.files_read in
+    record {
+      text = text;
+      files = named.files;
+      text_read = read;
+      files_read = files_read;
+      sources = record { says = says; as_many = zip_long (IsReadOf old) (mix_content s.mix).takes named.files files_read; takes_in = named.takes_in };
+    }
+
+module _ (text : List ℕ) (files : List (List ℕ)) (s : Sources) (are : AreSourcesOf text files s) where
+  abbrev mix : MixContent
+  mix = mix_content s.mix
+
+  of_files : (hs : Vec Excerpts Global) → s.takes ≡ Ok hs → ReadsTakes mix files hs
+  of_files hs is = subst (TakesIn mix files) is are.takes_in
+
+  pub are_of_takes : AreOfItsTakes s
+  are_of_takes hs is = of_takes text files mix are.says are.as_many hs (of_files hs is)
+
+  pub mixes : (hs : Vec Excerpts Global) → s.takes ≡ Ok hs → (mixed : MixedContent) → mixed ≡ mixed_of mix hs.items → TakesFit mix hs.items → IsMixedFrom text files mixed
+  mixes hs is = mixed_from text files mix are.says are.as_many hs (of_files hs is)

@@ -1,0 +1,5 @@
+pub mod Faults
+pub mod Lines
+pub mod Masters
+pub mod Sources
+pub mod Testing

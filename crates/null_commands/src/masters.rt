@@ -1,0 +1,135 @@
+//! Reads a master's file and compares it with a mix.
+
+ghost use Rattle.std.specs.Prelude.{◌≡◌, ℕ, List, IfErr, IfOk, IfSome};
+ghost use Rattle.null_core.specs.Candidates.{HoldsCandidate, IsHeardOf};
+ghost use Rattle.null_core.specs.Files.{IsReadIn};
+ghost use Rattle.null_commands.specs.Masters.{ReadsMaster, ReadsSome, TestsMaster};
+ghost use Rattle.null_commands.specs.Sources.{IsUnread};
+
+use crate::fault::TestFault;
+use crate::tested::Tested;
+use chunk_core::Inlet;
+use folder_core::{Folder, Work, reads_to_end};
+use form_core::ReadFault;
+use null_core::{Candidate, Heard, Mixed, Watch, judge_candidate, read_master};
+use request_core::Fault;
+use sound_core::StreamFault;
+use std::alloc::{AllocError, Global};
+use std::cell::Cell;
+use std::io::Read;
+
+// A folder that shows how far a null test has come, once for each per cent.
+#[derive(Drop)]
+struct WorkShown<'a, F> {
+    folder: &'a F,
+    // The per cent that was shown last.
+    shown: Cell<usize>,
+}
+
+impl<F: Folder> Watch for WorkShown<'_, F> {
+    fn tell(&self, done: usize, all: usize) {
+        let percent = done.saturating_mul(100).checked_div(all).unwrap_or(0);
+        if percent != self.shown.get() {
+            self.shown.set(percent);
+            self.folder.show_work(percent, 100);
+        }
+    }
+}
+
+/// Reads a master's file to its end, once, and compares it with a mix. The folder shows how far it has been compared.
+///
+/// Refusals: `ReadFailed` if it can't be opened, a read fails, or it isn't at its end after `2^40` reads; `Memory`.
+pub(crate) fn test_master<F: Folder>(
+    alloc: Global,
+    folder: &mut F,
+    mixed: &Mixed,
+    name: &str,
+) -> Result<Tested, TestFault>
+    ensures same { F.view folder.new ≡ F.view folder.old }
+    ensures tested { IfOk result (TestsMaster (F.view folder.old) mixed.now name.now) }
+    ensures fault { IfErr result IsUnread }
+{
+    let found = read_named(alloc, folder, mixed, name)?;
+    let heard = hear_found(alloc, folder, mixed, found)?;
+    let full = mixed.full_scale();
+    Ok(Tested { heard, full })
+}
+
+// What the master's file of this name holds, or its first fault.
+fn read_named<'a, F: Folder>(
+    alloc: Global,
+    folder: &mut F,
+    mixed: &'a Mixed,
+    name: &str,
+) -> Result<Result<Candidate<'a>, ReadFault>, TestFault>
+    ensures same { F.view folder.new ≡ F.view folder.old }
+    ensures found { IfOk result (ReadsMaster (F.view folder.old) mixed.now name.now) }
+    ensures fault { IfErr result IsUnread }
+{
+    match folder.open(name) {
+        Ok(file) => read_opened(alloc, mixed, file),
+        Err(_) => Err(TestFault::ReadFailed),
+    }
+}
+
+// The same for the file that a reader has.
+fn read_opened<'a, R: Read + Drop>(
+    alloc: Global,
+    mixed: &'a Mixed,
+    file: R,
+) -> Result<Result<Candidate<'a>, ReadFault>, TestFault>
+    ensures found { IfOk result (λ found. IfSome (R.remaining file) (λ left. IsReadIn (HoldsCandidate mixed.now) left found)) }
+    // If the reader's bytes aren't known, it was read of some bytes.
+    ensures any_reader { IfOk result (ReadsSome mixed.now) }
+    ensures fault { IfErr result IsUnread }
+{
+    let mut inlet = Inlet::new(file);
+    let found = match read_master(alloc, mixed, &mut inlet) {
+        Ok(found) => found,
+        Err(StreamFault::Memory) => return Err(TestFault::Call(Fault::Memory)),
+        Err(_) => return Err(TestFault::ReadFailed),
+    };
+    if !reads_to_end(&mut inlet) {
+        return Err(TestFault::ReadFailed);
+    }
+    Ok(found)
+}
+
+// What is heard of a master by what its file holds, or the file's first fault.
+fn hear_found<F: Folder>(
+    alloc: Global,
+    folder: &mut F,
+    mixed: &Mixed,
+    found: Result<Candidate<'_>, ReadFault>,
+) -> Result<Result<Heard, ReadFault>, TestFault>
+    ensures same { F.view folder.new ≡ F.view folder.old }
+    ensures heard { (file : List ℕ) → IsReadIn (HoldsCandidate mixed.now) file found.entry
+        → IfOk result (IsReadIn (IsHeardOf mixed.now) file) }
+    ensures fault { IfErr result IsUnread }
+{
+    let candidate = match found {
+        Ok(candidate) => candidate,
+        Err(fault) => return Ok(Err(fault)),
+    };
+    match hear(alloc, folder, mixed, &candidate) {
+        Ok(heard) => Ok(Ok(heard)),
+        Err(_) => Err(TestFault::Call(Fault::Memory)),
+    }
+}
+
+// What is heard of a master by what its file holds. The folder shows how far it has been compared.
+fn hear<F: Folder>(
+    alloc: Global,
+    folder: &mut F,
+    mixed: &Mixed,
+    candidate: &Candidate<'_>,
+) -> Result<Heard, AllocError>
+    ensures same { F.view folder.new ≡ F.view folder.old }
+    ensures heard { (file : List ℕ) → HoldsCandidate mixed.now file candidate.now → IfOk result (IsHeardOf mixed.now file) }
+{
+    folder.begin_work(Work::NullTest);
+    let shown = Cell::new(0);
+    let heard = judge_candidate(alloc, mixed, candidate, &WorkShown { folder, shown });
+    folder.end_work();
+    heard
+}

@@ -72,7 +72,7 @@ _dsdarc() {
     COMPREPLY=()
     if [ "$place" -eq 1 ]; then
         compopt +o filenames +o default 2>/dev/null
-        _dsdarc_words info convert play edit check sum
+        _dsdarc_words info convert play edit check nulltest sum
         if [ "$first" -eq 1 ]; then _dsdarc_words --explain --help --version; fi
         return
     fi
@@ -104,8 +104,8 @@ _dsdarc() {
     fi
     case "$command:$place" in
         convert:2 | edit:2) compopt +o filenames 2>/dev/null; _dsdarc_words dsdiff dsf dsf8 ;;
-        play:2 | edit:3 | check:2) _dsdarc_project "$command" ;;
-        info:2 | convert:3 | play:3 | check:3)
+        play:2 | edit:3 | check:2 | nulltest:2) _dsdarc_project "$command" ;;
+        info:2 | convert:3 | play:3 | check:3 | nulltest:3)
             _dsdarc_files '[dD][fF][fF]' '[dD][sS][fF]'
             _dsdarc_stream
             ;;

@@ -2,6 +2,7 @@ pub mod CommandLaws
 pub mod HostLaws
 pub mod JudgingLaws
 pub mod MasterLaws
+pub mod NullLaws
 pub mod SourceLaws
 pub mod SpellingLaws
 pub mod SumLaws

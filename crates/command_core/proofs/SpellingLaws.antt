@@ -15,10 +15,6 @@ none_left : (tail : List ℕ) → IsSpelled [] tail → tail ≡ []
 none_left tail ([], is) = is.1
 none_left tail (piece ∷ pieces, is) = absurd (not_empty piece.valid piece.byte is.0 is.2)
 
--- nothing is spelled yet
-pub spells_none : (bytes text : List ℕ) → text ≡ [] → SpellsUpTo bytes [] bytes text
-spells_none bytes text is = ([], is, λ tail h. h)
-
 -- bytes that are UTF-8 are the last
 pub spells_last : (bytes old new : List ℕ) → IsUtf8 bytes → new ≡ old ++ bytes → SpellsUpTo bytes old [] new
 spells_last bytes old new is grown = (bytes, grown, λ tail h. subst (λ t. IsSpelled bytes (bytes ++ t)) (sym (none_left tail h)) ([], (is, append-nil bytes)))

@@ -18,10 +18,13 @@ use Rattle.transfer_commands.specs.Sources.{AreSources, IsUnnamed}
 use Rattle.transfer_commands.specs.Reporting.{ReportComesTo}
 use Rattle.transfer_commands.specs.declared.fault.CommandFault.{CommandFault}
 use Rattle.transfer_commands.specs.declared.fault.CommandFault.TheVariants as faults
+use Rattle.null_commands.specs.Testing.{TestComesTo}
+use Rattle.null_commands.specs.declared.fault.TestFault.{TestFault}
+use Rattle.null_commands.specs.declared.tested.Tested.{Tested}
 use Rattle.transfer_commands.specs.PartPlaying.{PlayPartComesTo}
 use Rattle.transfer_commands.specs.declared.parts.PartFault.{PartFault}
 use Rattle.command_core.specs.Hosts.{State}
-use Rattle.command_core.specs.Outcomes.{of_words, outcome_of, part_outcome_of, verdict_of}
+use Rattle.command_core.specs.Outcomes.{of_words, outcome_of, part_outcome_of, tested_outcome, verdict_of}
 use Rattle.command_core.specs.SumEndings.{EndsSums}
 use Rattle.command_core.specs.declared.outcome.Outcome.{Outcome}
 use Rattle.command_core.specs.declared.outcome.Outcome.TheVariants.{Played, Converted, Edited, Info, Summed, Fault}
@@ -160,6 +163,10 @@ Says {T} done P outcome = (came : Result T CommandFault) × (outcome ≡ outcome
 abbrev pub SaysPart : (Result ℕ PartFault → Type 0) → Outcome → Type 0
 SaysPart P outcome = (came : Result ℕ PartFault) × (outcome ≡ part_outcome_of came) × P came
 
+-- the same of a null test
+abbrev pub SaysTest : (Result Tested TestFault → Type 0) → Outcome → Type 0
+SaysTest P outcome = (came : Result Tested TestFault) × (outcome ≡ tested_outcome came) × P came
+
 -- how a command changes the folder: a judgement changes no file, and neither does a refusal, unless a file is played or
 -- converted piece by piece; a failed write changes one file, or two if the first is the master that was cut; and if the
 -- folder keeps old files, no fault replaces one by a prefix. `sum` is no command over one folder
@@ -169,6 +176,7 @@ TaskComesTo (tasks.PlayPart project input output from to) old new = SaysPart (Pl
 TaskComesTo (tasks.Convert form input output) old new = Says Converted (ConvertComesTo form input.now output.now old new)
 TaskComesTo (tasks.Edit form project master cert) old new = Says Edited (EditComesTo (cut_into form project.now master.now cert.now) old new)
 TaskComesTo (tasks.Check project master cert) old new = Says verdict_of (CheckComesTo project.now master.now cert.now old new)
+TaskComesTo (tasks.NullTest mix master) old new = SaysTest (TestComesTo mix.now master.now old new)
 TaskComesTo (tasks.Info file) old new = Says Info (ReportComesTo file.now old new)
 TaskComesTo (tasks.Sum is_check files) old new = λ outcome. ⊥
 

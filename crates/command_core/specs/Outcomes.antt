@@ -6,8 +6,16 @@ use Rattle.command_core.specs.declared.sum_status.SumStatus.{SumStatus}
 use Rattle.command_core.specs.declared.sum_status.SumStatus.TheVariants as sums
 use Rattle.command_core.specs.Texts.{fault_text, reason_text, span_text}
 use Rattle.form_core.specs.Infos.{info_text}
+use Rattle.form_core.specs.declared.fault.ReadFault.{ReadFault}
 use Rattle.judge_core.specs.declared.verdict.Verdict.{Verdict}
 use Rattle.judge_core.specs.declared.verdict.Verdict.TheVariants as verdicts
+use Rattle.null_core.specs.declared.verdict.Heard.{Heard}
+use Rattle.null_core.specs.declared.verdict.Verdict as nulling
+use Rattle.null_core.specs.declared.verdict.Verdict.TheVariants as nulls
+use Rattle.null_commands.specs.Lines.{ShowsTested}
+use Rattle.null_commands.specs.declared.fault.TestFault.{TestFault}
+use Rattle.null_commands.specs.declared.fault.TestFault.TheVariants as tests
+use Rattle.null_commands.specs.declared.tested.Tested.{Tested}
 use Rattle.transfer_commands.specs.declared.fault.CommandFault.{CommandFault}
 use Rattle.transfer_commands.specs.declared.fault.CommandFault.TheVariants as faults
 use Rattle.transfer_commands.specs.declared.parts.PartFault.{PartFault}
@@ -15,18 +23,19 @@ use Rattle.transfer_commands.specs.declared.parts.PartFault.TheVariants as parts
 use Rattle.words_core.specs.declared.fault.WordsFault.{WordsFault}
 use Rattle.words_core.specs.declared.fault.WordsFault.TheVariants as words
 use Rattle.request_core.specs.declared.fault.Fault.TheVariants.{Memory}
-use Rattle.command_core.specs.declared.outcome.Outcome.TheVariants.{Played, Converted, Edited, Accepted, Rejected, Info, Summed, Fault, NoPart, ReadFailed, WriteFailed, WrongWords, UnknownFormName}
+use Rattle.command_core.specs.declared.outcome.Outcome.TheVariants.{Played, Converted, Edited, Accepted, Rejected, NullTested, Info, Summed, Fault, NoPart, ReadFailed, WriteFailed, WrongWords, UnknownFormName}
 
 -- the printed line, without its end: for a file that was played its number of bytes, for one that was converted what
--- was dropped, for a master that was cut or accepted its cost, for one that was rejected the text of the reason, for a
--- file that was read the lines that describe its recording, for `sum` nothing more than its lines, and for a fault its
--- text
+-- was dropped, for a master that was cut or accepted its cost, for one that was rejected the text of the reason, for one
+-- that was compared with a mix the lines of what was heard, for a file that was read the lines that describe its
+-- recording, for `sum` nothing more than its lines, and for a fault its text
 abbrev pub ShowsOutcome : Outcome → List ℕ → Type 0
 ShowsOutcome (Played n) line = line ≡ codes "played " ++ decimal n ++ codes " bytes"
 ShowsOutcome (Converted n) line = line ≡ codes "converted dropped " ++ decimal n
 ShowsOutcome (Edited n) line = line ≡ codes "edited total " ++ decimal n
 ShowsOutcome (Accepted n) line = line ≡ codes "accepted total " ++ decimal n
 ShowsOutcome (Rejected reason) line = line ≡ codes "rejected " ++ reason_text reason
+ShowsOutcome (NullTested tested) line = ShowsTested tested line
 ShowsOutcome (Info reported) line = line ≡ info_text reported.form reported.description
 ShowsOutcome (Summed status) line = line ≡ []
 ShowsOutcome (Fault fault) line = line ≡ codes "fault: " ++ fault_text fault
@@ -42,14 +51,28 @@ sum_number sums.Done = 0
 sum_number sums.NotAsListed = 1
 sum_number sums.Failed = 2
 
--- done: 0; a master that is rejected, or a file that isn't as listed: 1; a fault: 2; words that are no command or name
--- no form: 3
+-- the number of a verdict of a null test: 0 for a master that is accepted, 1 for one that is rejected
+abbrev pub null_number : nulling.Verdict → ℕ
+null_number (nulls.Accepted residual) = 0
+null_number (nulls.MasterShape found wanted) = 1
+null_number (nulls.MasterLength found wanted) = 1
+null_number (nulls.TooLoud channel place) = 1
+null_number (nulls.Residual channel place) = 1
+
+-- the same of a file that may hold no recording, for which it is 1
+abbrev pub tested_status : Result Heard ReadFault → ℕ
+tested_status (Ok heard) = null_number heard.verdict
+tested_status (Err fault) = 1
+
+-- done: 0; a master that is rejected, also by a null test, or a file that isn't as listed: 1; a fault: 2; words that are
+-- no command or name no form: 3
 abbrev pub status_of : Outcome → ℕ
 status_of (Played n) = 0
 status_of (Converted n) = 0
 status_of (Edited n) = 0
 status_of (Accepted n) = 0
 status_of (Rejected reason) = 1
+status_of (NullTested tested) = tested_status tested.heard
 status_of (Info reported) = 0
 status_of (Summed status) = sum_number status
 status_of (Fault f) = 2
@@ -84,6 +107,16 @@ of_part (parts.Span fault) = NoPart fault
 abbrev pub part_outcome_of : Result ℕ PartFault → Outcome
 part_outcome_of (Ok n) = Played n
 part_outcome_of (Err fault) = of_part fault
+
+-- the outcome of a null test that was refused
+abbrev pub of_test : TestFault → Outcome
+of_test (tests.Call fault) = Fault fault
+of_test tests.ReadFailed = ReadFailed
+
+-- the outcome of a null test that came to this: what was heard, or the fault
+abbrev pub tested_outcome : Result Tested TestFault → Outcome
+tested_outcome (Ok tested) = NullTested tested
+tested_outcome (Err fault) = of_test fault
 
 -- the outcome of words that ask for nothing
 abbrev pub of_words : WordsFault → Outcome

@@ -76,7 +76,7 @@ read_text (reads.Dsdiff fault) = codes "Dsdiff " ++ dsdiff_text fault
 read_text (reads.Dsf fault) = codes "Dsf " ++ dsf_text fault
 read_text reads.Memory = codes "Memory"
 
--- of a project text: a name, and the key or the number of the cue if there is one
+-- of a project text or a mix text: a name, and the key or the number of the cue or clip if there is one
 unfoldable pub project_text : ProjectFault → List ℕ
 project_text projects.NotToml = codes "NotToml"
 project_text (projects.UnknownKey table) = codes "UnknownKey"
@@ -116,7 +116,8 @@ span_text spans.NoMark = codes "NoMark"
 span_text spans.PartOutside = codes "PartOutside"
 span_text spans.PartReversed = codes "PartReversed"
 
--- of a call: a name, and what is wrong with the project text or the file; of a cut or a stream the text above
+-- of a call: a name, and what is wrong with the project text, the mix text or the file, or the number of the clip; of a
+-- cut or a stream the text above
 unfoldable pub fault_text : Fault → List ℕ
 fault_text (faults.Project fault) = codes "Project " ++ project_text fault
 fault_text faults.NoDecimation = codes "NoDecimation"
@@ -124,6 +125,8 @@ fault_text faults.NoSplice = codes "NoSplice"
 fault_text (faults.FileUnread fault) = codes "FileUnread " ++ read_text fault
 fault_text (faults.FileRefused fault) = codes "FileRefused"
 fault_text (faults.Cut fault) = cut_text fault
+fault_text (faults.Mix fault) = codes "Mix " ++ project_text fault
+fault_text (faults.ClipOutside clip) = codes "ClipOutside " ++ decimal clip
 fault_text (faults.Stream fault) = stream_text fault
 fault_text faults.NotWholeBytes = codes "NotWholeBytes"
 fault_text faults.Memory = codes "Memory"

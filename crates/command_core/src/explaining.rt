@@ -2,8 +2,10 @@
 
 use crate::outcome::Outcome;
 use archive_core::Fault;
-use ended_core::Ended;
+use ended_core::{Ended, NullReason};
 use folder_core::{FRONT, Failure};
+use null_commands::Tested;
+use null_core::Verdict;
 use sound_core::StreamFault;
 use std::io;
 
@@ -40,6 +42,22 @@ pub(crate) fn ended_of(shown: &Shown, remembered: Remembered) -> Option<Ended> {
         (Outcome::Played(count), _) => Some(Ended::Played(remembered.front?, *count)),
         (Outcome::NoPart(fault), _) => Some(Ended::NoPart(*fault)),
         (Outcome::Rejected(reason), _) => Some(Ended::Rejected(*reason)),
+        (Outcome::NullTested(tested), _) => Some(Ended::NotNull(null_reason_of(tested)?)),
         _ => None,
+    }
+}
+
+// Why a null test rejects a master, if it does.
+fn null_reason_of(tested: &Tested) -> Option<NullReason> {
+    let verdict = match &tested.heard {
+        Ok(heard) => heard.verdict,
+        Err(fault) => return Some(NullReason::Unread(*fault)),
+    };
+    match verdict {
+        Verdict::Accepted(_) => None,
+        Verdict::MasterShape { found, wanted } => Some(NullReason::Shape { found, wanted }),
+        Verdict::MasterLength { found, wanted } => Some(NullReason::Length { found, wanted }),
+        Verdict::TooLoud { channel, place } => Some(NullReason::Loud { channel, place }),
+        Verdict::Residual { channel, place } => Some(NullReason::Residual { channel, place }),
     }
 }

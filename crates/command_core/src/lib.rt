@@ -25,7 +25,8 @@
 //! - `IsSpelled bytes text` says how bytes that may not be UTF-8 are text (`specs/Spelling.antt`).
 //!
 //! What it promises: an outcome reports what came about. What `edit` cut and what `check` accepts is a master, and none
-//! costs less. [`run_words`] does what the words ask for if they are read as a task, and changes nothing otherwise. It
+//! costs less. What `nulltest` accepts differs from the mix, as heard, by at most the mix's limit. A master that both
+//! accept is one recording of which both hold ([`checked_and_nulled`]). [`run_words`] does what the words ask for if they are read as a task, and changes nothing otherwise. It
 //! ends with the status of the outcome, or of the fault that it couldn't be printed.
 //!
 //! ```text
@@ -61,7 +62,7 @@ pub use explaining::Shown;
 pub use folder_core::{Folder, FolderFault, MemoryFolder, read_files, read_whole};
 pub use form_core::{form_named, name_of};
 pub use host::Host;
-pub use laws::converted_shows_same_sums;
+pub use laws::{checked_and_nulled, converted_shows_same_sums};
 pub use outcome::{Outcome, outcome_line, status};
 pub use performing::{SumTask, perform};
 pub use program::run_program;

@@ -1,7 +1,7 @@
 //! The outcome of a command, the line that is printed, and the status with which the program ends.
 
 ghost use Rattle.std.specs.Prelude.{◌≡◌, ◌≤◌, ◌++◌, IfOk, codes, string_bytes};
-ghost use Rattle.command_core.specs.Outcomes.{ShowsOutcome, of_command, of_part, of_words, status_of};
+ghost use Rattle.command_core.specs.Outcomes.{ShowsOutcome, of_command, of_part, of_test, of_words, status_of, tested_status};
 ghost use Rattle.command_core.specs.Texts.{fault_text, reason_text, span_text};
 ghost use Rattle.command_core.specs.declared.outcome.Outcome.TheVariants as outcomes;
 
@@ -9,6 +9,8 @@ use crate::sum_status::SumStatus;
 use crate::texts::{name_of_span, push_fault, push_reason};
 use archive_core::{Fault, Reason};
 use form_core::info_lines;
+use null_commands::{TestFault, Tested, tested_lines};
+use null_core::Verdict;
 use std::alloc::{AllocError, Global};
 use transfer_commands::{CommandFault, PartFault, Reported};
 use transfer_core::SpanFault;
@@ -27,6 +29,8 @@ pub enum Outcome {
     Accepted(u128),
     /// A master was rejected for this reason.
     Rejected(Reason),
+    /// A master was compared with a mix; this is what was heard.
+    NullTested(Tested),
     /// A file was read; this is what is reported of it, its form and its recording.
     Info(Reported),
     /// Files were summed, or judged by lists of sums; their lines are printed as it goes.
@@ -76,6 +80,17 @@ impl From<PartFault> for Outcome {
     }
 }
 
+impl From<TestFault> for Outcome {
+    ghost from_gives = { λ fault outcome. outcome ≡ of_test fault };
+
+    fn from(fault: TestFault) -> Outcome {
+        match fault {
+            TestFault::Call(fault) => Outcome::Fault(fault),
+            TestFault::ReadFailed => Outcome::ReadFailed,
+        }
+    }
+}
+
 impl From<WordsFault<'_>> for Outcome {
     ghost from_gives = { λ fault outcome. outcome ≡ of_words fault };
 
@@ -101,6 +116,7 @@ pub fn outcome_line(alloc: Global, outcome: &Outcome) -> Result<String, AllocErr
         Outcome::Edited(total) => format!(in alloc; "edited total {total}"),
         Outcome::Accepted(total) => format!(in alloc; "accepted total {total}"),
         Outcome::Rejected(reason) => rejected_line(alloc, *reason),
+        Outcome::NullTested(tested) => tested_lines(alloc, tested),
         Outcome::Info(reported) => info_lines(alloc, reported.form, &reported.description),
         Outcome::Summed(_) => Ok(String::new(alloc)),
         Outcome::Fault(fault) => fault_line(alloc, *fault),
@@ -138,8 +154,8 @@ fn part_line(alloc: Global, fault: SpanFault) -> Result<String, AllocError>
     format!(in alloc; "fault: {name}")
 }
 
-/// The program's exit status: 0 if the command was done, 1 for a master that is rejected or a file that is not as it is
-/// listed, 2 for a fault, 3 for words that are no command or name no form.
+/// The program's exit status: 0 if the command was done, 1 for a master that is rejected, also by a null test, or a file
+/// that is not as it is listed, 2 for a fault, 3 for words that are no command or name no form.
 pub fn status(outcome: &Outcome) -> u8
     ensures value { result ≡ status_of outcome.now }
     ensures limit { result ≤ 3 }
@@ -151,8 +167,23 @@ pub fn status(outcome: &Outcome) -> u8
         | Outcome::Accepted(_)
         | Outcome::Info(_) => 0,
         Outcome::Rejected(_) => 1,
+        Outcome::NullTested(tested) => status_of_test(tested),
         Outcome::Summed(status) => status.number(),
         Outcome::Fault(_) | Outcome::NoPart(_) | Outcome::ReadFailed | Outcome::WriteFailed => 2,
         Outcome::WrongWords | Outcome::UnknownFormName => 3,
+    }
+}
+
+// 0 if a null test accepts a master, 1 if it rejects it or its file holds no recording.
+fn status_of_test(tested: &Tested) -> u8
+    ensures value { result ≡ tested_status tested.now.heard }
+    ensures limit { result ≤ 1 }
+{
+    match &tested.heard {
+        Ok(heard) => match heard.verdict {
+            Verdict::Accepted(_) => 0,
+            _ => 1,
+        },
+        Err(_) => 1,
     }
 }

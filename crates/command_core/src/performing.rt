@@ -2,7 +2,7 @@
 
 ghost use Rattle.std.specs.Prelude.{◌≡◌, IfErr, IfOk, OnErr};
 ghost use Rattle.command_core.specs.Commands.{CheckComesTo, EditComesTo, TaskComesTo, cut_into};
-ghost use Rattle.command_core.specs.Outcomes.{outcome_of, part_outcome_of, verdict_of};
+ghost use Rattle.command_core.specs.Outcomes.{outcome_of, part_outcome_of, tested_outcome, verdict_of};
 ghost use Rattle.command_core.specs.declared.outcome.Outcome.TheVariants as outcomes;
 ghost use Rattle.words_core.specs.declared.task.Task.TheVariants as tasks;
 
@@ -14,6 +14,7 @@ use crate::sources::{cut_of, cut_sources};
 use crate::writing::{write_certificate, write_master};
 use archive_core::{Form, Verdict};
 use folder_core::Folder;
+use null_commands::{TestFault, Tested, null_test_files};
 use std::alloc::Global;
 use transfer_commands::{
     CommandFault, PartFault, Reported, convert_file, open_file, play_file, play_part_file,
@@ -33,9 +34,9 @@ pub struct SumTask<'a> {
 
 /// Does a command over the files of a folder, and returns its outcome: the first fault, if there is one.
 ///
-/// Files are opened in the order in which the command names them, and a project's takes after it by their numbers. Each
-/// is read to its end before the next is opened, and a file is created only once the call has an answer, except as
-/// follows:
+/// Files are opened in the order in which the command names them, and the takes of a project or a mix after it by their
+/// numbers. Each is read to its end before the next is opened, and a file is created only once the call has an answer,
+/// except as follows:
 ///
 /// - `Edit`: The master is made while it is written. All memory that this needs is reserved before the master is
 ///   created. Its certificate is created once the master is complete.
@@ -48,6 +49,11 @@ pub struct SumTask<'a> {
 /// `Check` reads a master once, and its certificate while the master is judged. Both are read to their ends, whatever
 /// the verdict is. Of the master only a few blocks and the bits of its bridges are held, of the certificate two rows
 /// and a block.
+///
+/// `NullTest` reads the mix, its takes and the master once; of a take that holds no recording, only up to where that is
+/// sure. A fault of the mix text is returned at once, one in what the takes hold, or a reason against the master, only
+/// after all were read. Of the takes only the bits are held that clips and their decoders reach, of the master those that
+/// the takes don't have where they are asked for.
 ///
 /// A recording for `Convert` or `Info`, and a take, is read in one pass without its sound, and refused for its first
 /// fault; of a take the bits that cues and bridges read are kept. To convert it, it is opened once more, the other file
@@ -99,6 +105,7 @@ pub fn perform<'a, F: Folder>(
             master,
             cert,
         } => Ok(judged(check_files(alloc, folder, project, master, cert))),
+        Task::NullTest { mix, master } => Ok(tested(null_test_files(alloc, folder, mix, master))),
         Task::Info { file } => Ok(reported(open_file(alloc, folder, file))),
         Task::Sum { is_check, files } => Err(SumTask { is_check, files }),
     }
@@ -195,6 +202,16 @@ fn judged(came: Result<Verdict, CommandFault>) -> Outcome
     match came {
         Ok(Verdict::Accepted { total }) => Outcome::Accepted(total),
         Ok(Verdict::Rejected(reason)) => Outcome::Rejected(reason),
+        Err(fault) => fault.into(),
+    }
+}
+
+// The outcome of a null test.
+fn tested(came: Result<Tested, TestFault>) -> Outcome
+    ensures { result ≡ tested_outcome came }
+{
+    match came {
+        Ok(tested) => Outcome::NullTested(tested),
         Err(fault) => fault.into(),
     }
 }

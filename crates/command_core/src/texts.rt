@@ -30,6 +30,11 @@ pub(crate) fn push_fault(text: &mut String, fault: Fault) -> Result<(), AllocErr
         }
         Fault::FileRefused(_) => text.push_str("FileRefused"),
         Fault::Cut(fault) => push_cut_fault(text, fault),
+        Fault::Mix(fault) => {
+            text.push_str("Mix ")?;
+            push_project_fault(text, fault)
+        }
+        Fault::ClipOutside(clip) => write!(text, "ClipOutside {clip}"),
         Fault::Stream(fault) => text.push_str(name_of_stream(fault)),
         Fault::NotWholeBytes => text.push_str("NotWholeBytes"),
         Fault::Memory => text.push_str("Memory"),
@@ -87,7 +92,7 @@ fn name_of_stream(fault: StreamFault) -> &'static str
     }
 }
 
-// Appends the text of what is wrong with a project text.
+// Appends the text of what is wrong with a project text or a mix text.
 #[tactic(auto, unfolding(crate::specs::Texts::project_text))]
 fn push_project_fault(text: &mut String, fault: ProjectFault) -> Result<(), AllocError>
     ensures { OnOk result (string_bytes text.new ≡ string_bytes text.old ++ project_text fault) }

@@ -1,5 +1,6 @@
 //! What a command came to.
 
+use crate::null_reason::NullReason;
 use folder_core::{FRONT, Failure};
 use request_core::{Fault, Reason, SpanFault};
 use std::io::Error;
@@ -21,6 +22,8 @@ pub enum Ended {
     Unprinted(Error),
     /// A master was rejected for this reason.
     Rejected(Reason),
+    /// A master was rejected by a null test for this reason.
+    NotNull(NullReason),
     /// A file was played: the first bytes of its WAVE file, and how many there are.
     Played([u8; FRONT], u64),
     /// A line of a list of sums is none of sums, the first being 1, or for 0 the list has no line or is no text.

@@ -1,8 +1,8 @@
 -- What one more word of a command line leaves read.
-use Rattle.std.proofs.Common.{◌≡◌, ◌∙◌, ◌+◌, ◌++◌, ◌<◌, ◌≤◌, ◌∷◌, ◌⊎◌, ◌||◌, [], All, Bool, Contains, Err, IfErr, IfOk, List, None, Ok, OnOk, Option, Result, Some, add-one, ap, append_assoc, arith, codes, drop, false, get_or, inl, inr, length, map, nat_eq, refl, subst, sym, take, true, unwrap_or, ℕ}
+use Rattle.std.proofs.Common.{◌≡◌, ◌↔◌, ◌∙◌, ◌+◌, ◌++◌, ◌<◌, ◌≤◌, ◌∷◌, ◌⊎◌, ◌||◌, [], All, Bool, Contains, Err, IfErr, IfOk, IsTrue, List, None, Ok, OnOk, Option, Result, Some, add-one, ap, append_assoc, arith, codes, drop, false, get_or, inl, inr, length, map, nat_eq, refl, subst, sym, take, true, true≢false, unwrap_or, ℕ}
 use Rattle.std.specs.Borrow.{Bor}
-use Rattle.std.specs.List.{flat_map}
-use Rattle.std.specs.Cmp.Lexicographic.{pointwise, same_text}
+use Rattle.std.specs.List.{IsAnyAnswer, flat_map}
+use Rattle.std.specs.Cmp.Lexicographic.{other_text, pointwise, same_text}
 use Rattle.std.proofs.lemmas.List.{append-nil, get_or-map, length-map, map-append, take_all, take_more}
 use Rattle.std.proofs.lemmas.List.Elements.{All-nil}
 use Rattle.place_core.specs.declared.place.Place.{Place}
@@ -291,6 +291,20 @@ pub option_found : (command : List ℕ) (known : List (Bor (List ℕ))) (option 
 option_found command known option k all within same = subst (IsOptionOf command)
     (get_or-map (λ (w : Bor (List ℕ)). w.now) known k option option.now within ∙ same_text (get_or known k option).now option.now (sym same))
     (all k option.now (subst (λ n. k < n) (sym (length-map known (λ (w : Bor (List ℕ)). w.now))) within))
+
+-- whether a text is one of some, as comparing it with each says
+pub among : (known : List (Bor (List ℕ))) (word : Bor (List ℕ)) (found : Bool) → IsAnyAnswer (λ (w : Bor (List ℕ)) same. pointwise nat_eq w.now word.now ≡ same) known found → IsTrue found ↔ Contains (texts known) word.now
+among known word true (k, within, same) = (
+  λ _. (k, subst (λ n. k < n) (sym (length-map known (λ (w : Bor (List ℕ)). w.now))) within, get_or-map (λ (w : Bor (List ℕ)). w.now) known k word word.now within ∙ same_text (get_or known k word).now word.now (sym (same word))),
+  λ _. refl,
+)
+among known word false none = (
+  λ no. absurd (true≢false (sym no)),
+  λ has.
+      let k = has.0 in
+      let within : k < length known = subst (λ n. k < n) (length-map known (λ (w : Bor (List ℕ)). w.now)) has.1 in
+      absurd (other_text (get_or known k word).now word.now (sym (none k word (omega arith) within)) (sym (get_or-map (λ (w : Bor (List ℕ)). w.now) known k word word.now within) ∙ has.2)),
+)
 
 -- what holds at an answer holds of what follows from it
 pub on_ok : {T E : Type 0} (P Q : Type 0) (r : Result T E) → (P → Q) → OnOk r P → OnOk r Q

@@ -11,7 +11,7 @@ use Rattle.words_core.specs.declared.fault.Misfit.TheVariants.{Names}
 use Rattle.words_core.specs.declared.fault.WordsFault.{WordsFault}
 use Rattle.words_core.specs.declared.fault.WordsFault.TheVariants.{Memory, NoCommand, NoText, UnknownCommand, UnknownForm, WrongUsage}
 use Rattle.words_core.specs.declared.task.Task.{Task}
-use Rattle.words_core.specs.declared.task.Task.TheVariants.{Check, Convert, Edit, Info, Play, PlayPart, Sum}
+use Rattle.words_core.specs.declared.task.Task.TheVariants.{Check, Convert, Edit, Info, NullTest, Play, PlayPart, Sum}
 
 -- a part that is asked for begins at a place or ends at one, or both
 abbrev pub HasPlaces : Task → Type 0
@@ -37,6 +37,7 @@ command_of (PlayPart project input output from to) = codes "play"
 command_of (Convert form input output) = codes "convert"
 command_of (Edit form project master cert) = codes "edit"
 command_of (Check project master cert) = codes "check"
+command_of (NullTest mix master) = codes "nulltest"
 command_of (Info file) = codes "info"
 command_of (Sum is_check files) = codes "sum"
 
@@ -47,6 +48,7 @@ AreNamesOf (PlayPart project input output from to) names = names ≡ project.now
 AreNamesOf (Convert form input output) names = (name : List ℕ) × (names ≡ name ∷ input.now ∷ output.now ∷ []) × (form_named name ≡ Some form)
 AreNamesOf (Edit form project master cert) names = (name : List ℕ) × (names ≡ name ∷ project.now ∷ master.now ∷ cert.now ∷ []) × (form_named name ≡ Some form)
 AreNamesOf (Check project master cert) names = names ≡ project.now ∷ master.now ∷ cert.now ∷ []
+AreNamesOf (NullTest mix master) names = names ≡ mix.now ∷ master.now ∷ []
 AreNamesOf (Info file) names = names ≡ file.now ∷ []
 AreNamesOf (Sum is_check files) names = names ≡ map (λ (file : Bor (List ℕ)). file.now) files.now
 
@@ -75,7 +77,7 @@ TakesForm _ = ⊤
 
 -- the names of all commands
 abbrev pub commands : List (List ℕ)
-commands = codes "info" ∷ codes "convert" ∷ codes "play" ∷ codes "edit" ∷ codes "check" ∷ codes "sum" ∷ []
+commands = codes "info" ∷ codes "convert" ∷ codes "play" ∷ codes "edit" ∷ codes "check" ∷ codes "nulltest" ∷ codes "sum" ∷ []
 
 -- a fault that is found while words are read: there are none, the first is no command, the words after the command
 -- aren't as it is used, or one of all isn't text

@@ -2,7 +2,7 @@
 
 ghost use Rattle.std.specs.Prelude.{◌≡◌, ◌↔◌, [], IfErr, IfNone, IfOk, IfSome, IsTrue, OnOk, None, Contains, codes, false, map, string_bytes};
 ghost use Rattle.words_core.specs.Asked.{IsUnread, commands};
-ghost use Rattle.words_core.specs.Reading.{AddsName, AddsPlace, IsMisused, IsReadFrom, ReadsWord, waiting_words};
+ghost use Rattle.words_core.specs.Reading.{AddsName, AddsPlace, IsMisused, IsReadFrom, ReadsWord, texts, waiting_words};
 ghost use Rattle.words_core.specs.declared.fault.WordsFault.TheVariants as faults;
 ghost use Rattle.words_core.specs.declared.reading.Next.TheVariants as nexts;
 
@@ -216,7 +216,14 @@ impl<'a> Words<'a> {
 fn is_command(word: &str) -> bool
     ensures { IsTrue result ↔ Contains commands word.now }
 {
-    NAMES.contains(&word)
+    names().contains(&word)
+}
+
+// The names of all commands.
+fn names() -> &'static [&'static str]
+    ensures { texts result.now ≡ commands }
+{
+    &NAMES
 }
 
 // The first word that is not UTF-8.

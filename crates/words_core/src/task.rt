@@ -39,6 +39,11 @@ pub enum Task<'a> {
         master: &'a str,
         cert: &'a str,
     },
+    /// `nulltest MIX MASTER`
+    NullTest {
+        mix: &'a str,
+        master: &'a str,
+    },
     /// `info FILE`
     Info {
         file: &'a str,

@@ -14,16 +14,19 @@ use crate::task::Task;
 use form_core::form_named;
 
 /// The commands but `sum`, each with the names of its words in order.
-pub const COMMANDS: [(&str, &[&str]); 5] = [
+pub const COMMANDS: [(&str, &[&str]); 6] = [
     ("info", &["FILE"]),
     ("convert", &["FORM", "IN", "OUT"]),
     ("play", &["PROJECT", "IN", "OUT"]),
     ("edit", &["FORM", "PROJECT", "MASTER", "CERT"]),
     ("check", &["PROJECT", "MASTER", "CERT"]),
+    ("nulltest", &["MIX", "MASTER"]),
 ];
 
 /// The names of all commands.
-pub const NAMES: [&str; 6] = ["info", "convert", "play", "edit", "check", "sum"];
+pub const NAMES: [&str; 7] = [
+    "info", "convert", "play", "edit", "check", "nulltest", "sum",
+];
 
 // The word that asks to explain. It is before the command.
 const EXPLAIN: &str = "--explain";
@@ -66,6 +69,7 @@ impl Words<'_> {
             "play" => self.play_task(),
             "edit" => self.edit_task(),
             "check" => self.check_task(),
+            "nulltest" => self.null_test_task(),
             "sum" => self.sum_task(),
             _ => Err(WordsFault::UnknownCommand(self.command)),
         }
@@ -137,6 +141,19 @@ impl Words<'_> {
             project: *project,
             master: *master,
             cert: *cert,
+        })
+    }
+
+    fn null_test_task(&self) -> Result<Task<'_>, WordsFault<'_>>
+        ensures asked { IfOk result (ReadAsks (codes "nulltest") self.now) }
+        ensures refused { IfErr result (ReadRefused (codes "nulltest") self.now) }
+    {
+        let [mix, master] = self.names.as_slice() else {
+            return Err(self.miscounted());
+        };
+        Ok(Task::NullTest {
+            mix: *mix,
+            master: *master,
         })
     }
 

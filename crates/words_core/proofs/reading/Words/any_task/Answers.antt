@@ -32,6 +32,12 @@ returns-in-check c = record {
   refused = subst (λ command. IfErr c.check_task.result (ReadRefused command c.args.self.now)) (sym c.in-check.is) c.check_task.ensures.refused;
 }
 
+pub returns-in-nulltest : goal.returns-in-nulltest
+returns-in-nulltest c = record {
+  asked = subst (λ command. IfOk c.null_test_task.result (ReadAsks command c.args.self.now)) (sym c.in-nulltest.is) c.null_test_task.ensures.asked;
+  refused = subst (λ command. IfErr c.null_test_task.result (ReadRefused command c.args.self.now)) (sym c.in-nulltest.is) c.null_test_task.ensures.refused;
+}
+
 pub returns-in-sum : goal.returns-in-sum
 returns-in-sum c = record {
   asked = subst (λ command. IfOk c.sum_task.result (ReadAsks command c.args.self.now)) (sym c.in-sum.is) c.sum_task.ensures.asked;

@@ -4,6 +4,7 @@ use crate::line::Line;
 use crate::line::Part::{Count, Name, Number, Several};
 use cut_core::CutFault;
 use dsd_bits::{MOST_BITS, Sound};
+use form_core::ReadFault;
 use project_core::{Cue, Splice};
 use request_core::{Shape, splice_of};
 use std::rt::Files;
@@ -60,8 +61,19 @@ impl<R: Files> Line<'_, R> {
 
     /// Adds the name of a take, and its number.
     pub(crate) fn say_take(&mut self, cutting: &Cutting, number: usize) {
-        let take = [Name(cutting.take(number)), Number(number as u64)];
-        self.say("{0} (take {1})", &take);
+        self.say_take_named(cutting.take(number), number);
+    }
+
+    /// The same of a take of this name.
+    pub(crate) fn say_take_named(&mut self, name: &str, number: usize) {
+        self.say("{0} (take {1})", &[Name(name), Number(number as u64)]);
+    }
+
+    /// Adds why a take is no recording, for this fault.
+    pub(crate) fn explain_take(&mut self, name: &str, number: usize, why: ReadFault) {
+        self.say_take_named(name, number);
+        self.push(": ");
+        self.explain_file(name, why);
     }
 
     /// Adds a number of channels and a rate.
@@ -81,11 +93,11 @@ impl<R: Files> Line<'_, R> {
     pub(crate) fn explain_cut_of(&mut self, cutting: &Cutting, fault: CutFault) {
         match fault {
             CutFault::TakeUnread(number, why) => {
-                self.say_take(cutting, number);
-                self.push(": ");
-                self.explain_file(cutting.take(number), why);
+                self.explain_take(cutting.take(number), number, why)
             }
-            CutFault::TakeMismatch(number) => self.explain_mismatch(cutting, number),
+            CutFault::TakeMismatch(number) => {
+                self.explain_mismatch(cutting.take(0), cutting.take(number), number)
+            }
             CutFault::MasterTooLong => {
                 self.say(LONG, &[Count(cutting.bits()), Count(MOST_BITS as u64)])
             }
@@ -103,19 +115,16 @@ impl<R: Files> Line<'_, R> {
         }
     }
 
-    // Adds in what a take and the first one differ.
-    fn explain_mismatch(&mut self, cutting: &Cutting, number: usize) {
-        let sounds = (
-            self.sound_of(cutting.take(0)),
-            self.sound_of(cutting.take(number)),
-        );
+    /// Adds in what the first take and the one of a number differ, by their names.
+    pub(crate) fn explain_mismatch(&mut self, first_name: &str, name: &str, number: usize) {
+        let sounds = (self.sound_of(first_name), self.sound_of(name));
         let (Some(first), Some(other)) = sounds else {
             return;
         };
-        self.say_take(cutting, 0);
+        self.say_take_named(first_name, 0);
         self.say_sound(" has ", first);
         self.push(", and ");
-        self.say_take(cutting, number);
+        self.say_take_named(name, number);
         self.say_sound(" has ", other);
         self.push(
             match (first.rate == other.rate, first.channels == other.channels) {

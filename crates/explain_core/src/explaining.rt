@@ -67,6 +67,9 @@ impl<R: Files + Env + AllocGlobal> Line<'_, R> {
                     self.explain_verdict(&cutting, (master, cert), reason);
                 }
             }
+            (Ended::NotNull(reason), Task::NullTest { mix, master }) => {
+                self.explain_not_null(mix, master, reason);
+            }
             (Ended::Played(front, bytes), _) => self.explain_played(task, &front, bytes),
             (Ended::Unprinted(error), _) => {
                 self.push("standard output did not take the answer: ");
@@ -89,6 +92,9 @@ impl<R: Files + Env + AllocGlobal> Line<'_, R> {
     }
 
     fn explain_fault(&mut self, task: Task, fault: Fault) {
+        if let Task::NullTest { mix, .. } = task {
+            return self.explain_in_mix(mix, fault);
+        }
         match (fault, input_of(task), project_of(task)) {
             (Fault::Memory, None, _) => self.push(CUT_MEMORY),
             (Fault::Memory, Some(_), _) => self.push(MEMORY),

@@ -19,6 +19,7 @@ mod explaining;
 mod faults;
 mod files;
 mod line;
+mod mixing;
 mod opening;
 mod playing;
 mod projects;

@@ -1,6 +1,5 @@
 //! The files of a command: which one could not be opened, read or written, and what the system said of it.
 
-use crate::cutting::Cutting;
 use crate::files::Trouble;
 use crate::line::Line;
 use crate::line::Part::{Name, Named, Number, Text};
@@ -58,9 +57,18 @@ impl<R: Files + Env + AllocGlobal> Line<'_, R> {
         if let Some(project) = project_of(task) {
             self.explain_named((project, "PROJECT"));
             match self.cutting_of(project) {
-                Some(cutting) if input_of(task).is_none() => self.explain_takes(project, &cutting),
+                Some(cutting) if input_of(task).is_none() => {
+                    self.explain_takes(project, &cutting.splice.takes)
+                }
                 _ => {}
             }
+        }
+        if let Task::NullTest { mix, master } = task {
+            self.explain_named((mix, "MIX"));
+            if let Some(mixing) = self.mixing_of(mix) {
+                self.explain_takes(mix, &mixing.mix.takes);
+            }
+            self.explain_named((master, "MASTER"));
         }
         if let (Some(file), true) = (input_of(task), self.is_empty()) {
             self.explain_named(file);
@@ -100,18 +108,18 @@ impl<R: Files + Env + AllocGlobal> Line<'_, R> {
     }
 
     // Adds what is wrong with the first take that can't be read, if nothing was said before.
-    fn explain_takes(&mut self, project: &str, cutting: &Cutting) {
-        for (number, take) in cutting.splice.takes.iter().enumerate() {
+    fn explain_takes(&mut self, of: &str, takes: &[String]) {
+        for (number, take) in takes.iter().enumerate() {
             let take = take.as_str();
             if let (Some(trouble), true) = (self.trouble_of(take), self.is_empty()) {
-                self.say_part_of(take, "take", number, project);
+                self.say_part_of(take, "take", number, of);
                 self.explain_trouble(take, trouble);
                 self.say_folder("takes", take);
             }
         }
     }
 
-    /// Adds the name of a file that is of this number in another, a project or a list.
+    /// Adds the name of a file that is of this number in another, a project, a mix or a list.
     pub(crate) fn say_part_of<'x>(
         &mut self,
         name: &'x str,

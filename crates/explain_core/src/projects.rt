@@ -130,6 +130,11 @@ impl<R> Line<'_, R> {
         self.say_table(lines, Table::Cue(number));
     }
 
+    /// The same of a clip of a mix text.
+    pub(crate) fn say_clip_in(&mut self, lines: &str, number: usize) {
+        self.say_table(lines, Table::Clip(number));
+    }
+
     fn say_table(&mut self, lines: &str, table: Table) {
         self.say_name(table);
         self.say_line(line_of(lines, table));

@@ -31,6 +31,7 @@ from tests.commands.small_files import (
     to_check,
     to_cut,
 )
+from tests.commands.null_mistakes import null_mistakes
 from tests.commands.sums import NOT_UTF_8, ONE
 from tests.commands.sums import CHECK as JUDGE
 
@@ -456,7 +457,7 @@ SUMS: tuple[Any, ...] = (
     ),
 )
 
-ALL_COMMANDS = "the commands are info, convert, play, edit, check, sum; dsdarc --help prints the usage"
+ALL_COMMANDS = "the commands are info, convert, play, edit, check, nulltest, sum; dsdarc --help prints the usage"
 
 PLAY_USAGE = "; usage: dsdarc play [--from T] [--to T] [--plus6] PROJECT IN OUT"
 SUM_USAGE = "; usage: dsdarc sum [--check] FILE.."
@@ -757,6 +758,8 @@ LAST = (b"start = 2", b"start = 2\n", b"take = 1", b"stop = 9")
 
 def explained_cases() -> Iterator[Case]:
     """All mistakes, each as two command lines; and a command that is done, of which nothing is explained."""
+    for files, arguments, status, line, why in null_mistakes():
+        yield from asked(files, arguments, status, line, why)
     for files, arguments, status, line, why, made in refusals():
         yield from asked(files, arguments, status, f"fault: {line}", why, made)
     for project, master, cert, line, why in REJECTED:

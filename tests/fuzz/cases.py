@@ -12,7 +12,7 @@ from typing import Any
 from dsdarc_scripts import waves
 from dsdarc_scripts.channels import read as sums_of
 from tests.fuzz import bases, bridging, certificates, mutating, projects, reading
-from tests.fuzz.judging import Failure, cert_sizes, converted, demand, fault_of, judge_run, info_of, wave_head
+from tests.fuzz.judging import STRETCH, Failure, cert_sizes, converted, demand, fault_of, judge_run, info_of, wave_head
 from tests.fuzz.running import MEGABYTE, Program, Run
 
 # How much memory a run may take: TIMES times the bytes that it reads and writes, and MORE bytes.
@@ -604,6 +604,75 @@ def bridge_case(case: Case) -> None:
 CHECK_CHANGES = (cut_certificate, lengthened_certificate, *[changed_certificate] * 3, changed_master, bit_of_master)
 
 
+# Null tests.
+
+MIX = """[mix]
+unit = {unit}
+audible = {audible}
+limit = {limit}
+every = {every}
+takes = ["a.dff", "b.dff"]
+
+[[mix.decoder]]
+taps = {decoder}
+
+[[mix.clip]]
+take = 0
+start = 0
+at = 0
+length = {cut}
+gain = [[{fade}, 16777216], [{cut}, 0]]
+
+[[mix.clip]]
+take = 1
+start = {fade}
+at = {fade}
+length = {left}
+gains = [[[0, 0], [{ramp}, {gain}]]]
+"""
+
+
+def mix_of(rng: random.Random, places: int) -> bytes:
+    """A mix that fades from one take to the other, of one channel."""
+    fade = rng.randrange(places - 1)
+    cut = rng.randrange(fade + 1, places)
+    numbers = {"fade": fade, "cut": cut, "ramp": cut - fade, "left": places - fade}
+    taps = {name: [rng.randrange(1, 9) for _ in range(rng.choice((1, 3, 9)))] for name in ("audible", "decoder")}
+    numbers |= {
+        "unit": rng.randrange(1, 40),
+        "every": rng.choice((1, 1, 7)),
+        "gain": rng.choice((1 << 24, -9, 1 << 25)),
+    }
+    return MIX.format(limit=rng.choice((0, 100, 2**62)), **numbers, **taps).encode()
+
+
+def null_case(case: Case) -> None:
+    """A mix text, its takes and a master, of which one is changed."""
+    frames = case.rng.randrange(8, 400)
+    recordings = {name: bases.dsdiff(case.rng, name, 1, frames) for name in ("a.dff", "b.dff", "master")}
+    files = {name: base.data for name, base in recordings.items()} | {"mix": mix_of(case.rng, 8 * frames)}
+    files["master"] = files[case.rng.choice(("a.dff", "b.dff", "master"))]
+    changed = case.rng.choice(("mix", "mix", "a.dff", "b.dff", "master", None))
+    if changed == "mix":
+        files["mix"], names = mutating.mutate_project(case.rng, files["mix"])
+        case.changes = [*names]
+    elif changed:
+        files[changed], names = mutating.mutate_recording(case.rng, recordings[changed])
+        case.changes = [*names]
+    for name, data in files.items():
+        case.put(name, data)
+    # Each place may be a stretch, which is held and printed.
+    run = case.run(["nulltest", "mix", "master"], more=8 * frames * 40)
+    demand(changed or run.status < 2, "a mix and files that fit have a fault")
+    found = [(int(it[0]), int(it[2])) for it in re.findall(STRETCH, run.out.decode())]
+    words = run.out.decode().split()
+    if run.status == 0:
+        greatest = int(words[-3])
+        demand(greatest == max((residual for residual, _ in found), default=0), "accepted at another residual")
+    elif words[-3:-2] == ["Residual"]:
+        demand(int(words[-1]) in [place for _, place in found], "rejected at a place that no stretch has")
+
+
 # Arguments and devices.
 
 
@@ -642,6 +711,7 @@ ARGUMENTS: list[tuple[Any, ...]] = [
     (["edit", "dsf9", "cutting", "master", "cert"], 3, "UnknownFormName"),
     (["edit", "dsf", "cutting", "master"], 3, "WrongWords"),
     (["check", "cutting", "master", "cert", "x"], 3, "WrongWords"),
+    (["nulltest", "project"], 3, "WrongWords"),
     (["info", "missing"], 2, "ReadFailed"),
     (["info", "."], 2, "ReadFailed"),
     (["info", "--", "-x"], 2, "ReadFailed"),
@@ -665,6 +735,8 @@ ARGUMENTS: list[tuple[Any, ...]] = [
     (["check", "cutting", "missing", "cert"], 2, "ReadFailed"),
     (["check", "cutting", "in", "missing"], 2, "ReadFailed"),
     (["check", "cutting", "project", "in"], 1, None),
+    (["nulltest", "missing", "in"], 2, "ReadFailed"),
+    (["nulltest", "project", "in"], 2, "Mix UnknownKey"),
 ]
 
 
@@ -756,5 +828,6 @@ KINDS = [
     (check_case, 20),
     (arguments_case, 2),
     (scarce_case, 5),
+    (null_case, 10),
 ]
 KINDS += [(bridge_case, 3), (long_case, 2), (large_case, 1)]

@@ -14,6 +14,7 @@ FAULTS = {
 }
 FAULTS["check"] |= {"NoRoomBefore", "NoRoomAfter"}
 FAULTS["edit"] = FAULTS["check"] | {"NotWholeBytes", "WriteFailed"}
+FAULTS["nulltest"] = {"ReadFailed", "Mix", "TakeUnread", "TakeMismatch", "ClipOutside"}
 
 PLACED = r" \d+"
 DSDIFF = (
@@ -24,9 +25,14 @@ DSF = r"Dsf (HeadCut|BadFormat|BadVersion|BadChannelNumber|BadRate|BadBits|BadBl
 UNREAD = rf" (UnknownForm|{DSDIFF}|{DSF})"
 KEY = " (decimate|splice|taps|factor|delay|shift|width|weights|takes|cue|take|start|stop|bridge|target|line|title)"
 PROJECT = rf" (NotToml|UnknownKey|(WrongKind|MissingKey|OutOfLimit){KEY}|(NoTake|ShortCue) \d+|LastBridge)"
+MIX_KEY = " (mix|unit|audible|limit|every|takes|decoder|clip|taps|take|start|at|length|gain|gains)"
+MIX = rf" (NotToml|UnknownKey|(WrongKind|MissingKey|OutOfLimit){MIX_KEY}|NoTake \d+)"
 # What follows a fault's name.
-PARTS = {"FileUnread": UNREAD, "TakeUnread": PLACED + UNREAD, "Project": PROJECT}
-PARTS |= dict.fromkeys(("TakeMismatch", "CueOutside", "NoRoomBefore", "NoRoomAfter"), PLACED)
+PARTS = {"FileUnread": UNREAD, "TakeUnread": PLACED + UNREAD, "Project": PROJECT, "Mix": MIX}
+PARTS |= dict.fromkeys(("TakeMismatch", "CueOutside", "NoRoomBefore", "NoRoomAfter", "ClipOutside"), PLACED)
+
+LEVEL = r"dBFS (-?\d+\.\d\d|-inf)"
+STRETCH = rf"channel [0-5] first \d+ last \d+ residual (\d+) {LEVEL} place (\d+)\n"
 
 DONE = {
     "info": r"form (dsdiff|dsf8?)\nrate \d+\nchannels [1-6]\nsamples \d+\nids( [0-9a-f]{8}){1,6}\nlayout [1-7]\nmarks \d+"
@@ -35,10 +41,14 @@ DONE = {
     "play": r"played \d+ bytes\n",
     "edit": r"edited total \d+\n",
     "check": r"accepted total \d+\n",
+    "nulltest": rf"({STRETCH})*accepted residual \d+ {LEVEL}\n",
 }
 CERT_REASON = r"(Cut|Head|Length|Row \d+|Bound|Start|Step \d+ \d+|End \d+|Cost)"
-REJECTED = r"rejected (MasterUnread|MasterShape|MasterLength|MasterMarks|CuedBit \d \d+|CertHead (Cut|Head)"
-REJECTED += rf"|Cert \d+ {CERT_REASON}|CertExtra)\n"
+MISFIT = "MasterUnread|MasterShape|MasterLength"
+REJECTED = {
+    "check": rf"rejected ({MISFIT}|MasterMarks|CuedBit \d \d+|CertHead (Cut|Head)|Cert \d+ {CERT_REASON}|CertExtra)\n",
+    "nulltest": rf"(rejected ({MISFIT}|TooLoud \d \d+)|({STRETCH})+rejected Residual \d \d+)\n",
+}
 
 LAYOUTS = (1, 2, 3, 4, 6, 7)
 
@@ -59,9 +69,9 @@ def fault_of(run: Run) -> str:
 
 def label(run: Run) -> str:
     """What the run came to, without numbers, to be counted."""
-    text = (run.out + run.err).decode(errors="replace")
+    text = re.sub(STRETCH, "", (run.out + run.err).decode(errors="replace"))
     first = text.split("\n", 1)[0]
-    words = ["#" if re.fullmatch(r"-?\d+|[0-9a-f]{8}", word) else word for word in first.split(" ")]
+    words = ["#" if re.fullmatch(r"-?\d+(\.\d+)?|[0-9a-f]{8}|-inf", word) else word for word in first.split(" ")]
     return "form .." if first.startswith("form ") else " ".join(words)
 
 
@@ -77,7 +87,8 @@ def judge_run(run: Run, is_scarce: bool = False) -> None:
         )
     elif run.status == 1:
         demand(
-            command == "check" and re.fullmatch(REJECTED, out) and not err, "rejected, but the line isn't that of it"
+            command in REJECTED and re.fullmatch(REJECTED[command], out) and not err,
+            "rejected, but the line isn't that of it",
         )
     else:
         demand(not out, "a fault, but something on standard output")

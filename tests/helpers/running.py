@@ -82,7 +82,7 @@ def found_by(trial: Callable[[], object]) -> list[str]:
     try:
         trial()
     except Exception as error:  # of files that aren't there, as nothing was made
-        demand(False, f"{trial.__name__}: {error!r}")
+        demand(False, f"{getattr(trial, '__name__', trial)}: {error!r}")
     return list(found)
 
 

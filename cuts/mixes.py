@@ -172,7 +172,7 @@ def head_of(limit: float, project: str, name: str) -> str:
 # The mix that was asked for with {shown_name(project)}: where each take is heard (docs/NULL_TEST.md). To find how far a
 # master is from it, as heard, run this in the folder from which the takes are named:
 #
-#   tools/null_test {shown_name(name)} MASTER
+#   dsdarc nulltest {shown_name(name)} MASTER
 #
 # It accepts a master if what is left is nowhere louder than `limit`, {limit:g} dB to full scale. The clips come after the
 # taps of `audible`, and the decoders after the clips. Places are bits of the master; a gain of 1 is {FULL}.

@@ -1,15 +1,15 @@
-"""The null test of a master: the command that is run, and what it prints (docs/NULL_TEST.md)."""
+"""The null test of a master, which the program makes, and what it prints (docs/NULL_TEST.md)."""
 import os
 import re
 from dataclasses import dataclass
 from pathlib import Path
 
 from cuts.projects import Spot
-from dsdarc_scripts.explained import shown_name
+from dsdarc_scripts.explained import lines_of, shown_name
 from dsdarc_scripts.outputs import Refused
-from dsdarc_scripts.program import ROOT, finished
+from dsdarc_scripts.program import PROGRAM, finished
 
-COMMAND = [os.path.join(ROOT, "tools", "null_test")]  # the names of a mix and a master come after it
+COMMAND = [PROGRAM, "--explain", "nulltest"]  # the names of a mix and a master come after it
 STRETCH = re.compile(r"channel (\d+) first (\d+) last (\d+) residual \d+ dBFS (\S+) place (\d+)")
 
 
@@ -57,11 +57,12 @@ def answer(mix: Path, master: Path) -> Answer:
     try:
         status, out, err = finished([*COMMAND, *names])
     except OSError as error:
-        raise Refused(f"the null test {shown_name(COMMAND[0])} can't be run: {error.strerror}") from None
+        why = f"the program {shown_name(PROGRAM)} can't be run ({error.strerror}): build it, or name it by DSDARC"
+        raise Refused(why) from None
     lines = out.decode(errors="replace").splitlines()
     if status not in (0, 1) or not lines:
-        said = err.decode(errors="replace").strip().splitlines() or [f"status {status}"]
-        raise Refused(f"{shown_name(str(mix))}: the null test can't be made: {said[-1]}")
+        said = ": ".join(lines_of(err.decode(errors="replace"))) or f"status {status}"
+        raise Refused(f"{shown_name(str(mix))}: the null test can't be made: {said}")
     rows = [found.groups() for found in map(STRETCH.fullmatch, lines) if found]
     stretches = [Stretch(int(it[0]), int(it[1]), int(it[2]), float(it[3]), int(it[4])) for it in rows]
     return Answer(shown_name(str(mix)), stretches, lines[-1])

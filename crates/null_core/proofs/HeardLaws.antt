@@ -42,7 +42,7 @@ module _ (mixed : MixedContent) (master : Content) (takes : List Content) (read 
 
 -- ---- masters that don't fit
 pub shape_differs : (mixed : MixedContent) (master : Content) (found wanted : Shape) → (AreAlike (excerpts_at mixed.read 0).recording master → ⊥) → found ≡ shape_of master → wanted ≡ shape_of (excerpts_at mixed.read 0).recording → IsVerdictOn mixed master [] (MasterShape found wanted)
-shape_differs mixed master found wanted other is_found is_wanted takes read = (λ alike. other (like_first mixed master takes read alike), is_found, is_wanted ∙ first_shape mixed master takes read)
+shape_differs mixed master found wanted other is_found is_wanted takes read = (λ alike. other (like_first mixed master takes read alike), is_found, is_wanted ∙ first_shape mixed master takes read, refl)
 
 -- by a master without its bits
 module _ (recording : Content) (count : ℕ) (master : Content) (is : IsOutlineOf recording count master) where
@@ -120,6 +120,7 @@ module _ (mixed : MixedContent) (master : Content) (first : FitsFirst mixed mast
         fits mixed master takes read first,
         record { here = (loud.place, here); before = λ earlier lt has. (is.judged.each earlier lt takes read).1 has.0 has.1.loud },
         record { here = here; before = λ earlier lt has. place.before earlier lt has.loud },
+        refl,
       )
 
 pub heard_by : (mixed : MixedContent) (master : Content) → FitsFirst mixed master → (stretches : List (List Stretch)) → AreJudgedTo mixed master.channels (length master.channels) stretches → (verdict : Verdict) → IsVerdictBy mixed.mix.limit stretches verdict → IsVerdictOn mixed master stretches verdict

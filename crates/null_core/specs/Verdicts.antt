@@ -84,12 +84,12 @@ pub record AreFound (mix : MixContent) (takes : List Content) (master : Content)
 abbrev pub stretch_lists : Heard → List (List Stretch)
 stretch_lists heard = map (λ (stretches : Vec Stretch Global). stretches.items) heard.stretches.items
 
--- a verdict says the first of these that applies: the master has another shape, another length, a place that is too
--- loud, a residual above the limit; or it nulls
+-- a verdict says the first of these that applies: the master has another shape, another length, or a place that is too
+-- loud, each without stretches; a residual above the limit; or it nulls
 abbrev pub IsVerdict : MixContent → List Content → Content → List (List Stretch) → Verdict → Type 0
-IsVerdict mix takes master stretches (MasterShape found wanted) = (AreAlike (take_at takes 0) master → ⊥) × (found ≡ shape_of master) × (wanted ≡ shape_of (take_at takes 0))
-IsVerdict mix takes master stretches (MasterLength found wanted) = AreAlike (take_at takes 0) master × (found ≢ wanted) × (found ≡ count_of master.channels) × (wanted ≡ mix_length mix.clips)
-IsVerdict mix takes master stretches (TooLoud channel place) = Fits mix takes master × IsFirst (HasLoud mix takes master) channel × IsFirst (IsTooLoudIn mix takes master channel) place
+IsVerdict mix takes master stretches (MasterShape found wanted) = (AreAlike (take_at takes 0) master → ⊥) × (found ≡ shape_of master) × (wanted ≡ shape_of (take_at takes 0)) × (stretches ≡ [])
+IsVerdict mix takes master stretches (MasterLength found wanted) = AreAlike (take_at takes 0) master × (found ≢ wanted) × (found ≡ count_of master.channels) × (wanted ≡ mix_length mix.clips) × (stretches ≡ [])
+IsVerdict mix takes master stretches (TooLoud channel place) = Fits mix takes master × IsFirst (HasLoud mix takes master) channel × IsFirst (IsTooLoudIn mix takes master channel) place × (stretches ≡ [])
 IsVerdict mix takes master stretches (Residual channel place) = AreFound mix takes master stretches × IsFirst (HasAbove mix.limit stretches) channel × IsFirstAbove mix.limit (slice_index_or stretches channel []) place
 IsVerdict mix takes master stretches (Accepted residual) = AreFound mix takes master stretches × NullsAll mix takes master mix.limit × IsGreatestOfAll mix takes master residual
 

@@ -98,9 +98,9 @@ def form_chunks(file: BinaryIO) -> Iterator[tuple[bytes, int]]:
         at += 12 + size + size % 2
 
 
-def starts_of(found: Recording) -> list[tuple[int, str]]:
-    """Place and text of each mark of a DSDIFF file at which a track starts, in their order."""
-    starts = []
+def marks_of(found: Recording) -> list[tuple[int, str, int]]:
+    """Place, text and type of each mark of a DSDIFF file, in the order in which the program reports them."""
+    marks = []
     if found.form == "dsdiff":
         with open(found.name, "rb") as file:
             for name, size in form_chunks(file):
@@ -109,8 +109,18 @@ def starts_of(found: Recording) -> list[tuple[int, str]]:
                         hours, minutes, seconds, samples, offset, kind, _, _, count = MARK.unpack_from(data)
                         place = ((hours * 60 + minutes) * 60 + seconds) * found.rate + samples + offset
                         text = text_of(data[MARK.size : MARK.size + count]).rstrip("\0")
-                        starts += [(place, text)] if kind == START else []
-    return sorted(it for it in starts if 0 <= it[0] < found.samples)
+                        marks.append((place, text, kind))
+    return marks
+
+
+def starts_in(marks: list[tuple[int, str, int]], bits: int) -> list[tuple[int, str]]:
+    """Place and text of each mark inside of a recording at which a track starts, in their order."""
+    return sorted((place, text) for place, text, kind in marks if kind == START and 0 <= place < bits)
+
+
+def starts_of(found: Recording) -> list[tuple[int, str]]:
+    """The same of a DSDIFF file."""
+    return starts_in(marks_of(found), found.samples)
 
 
 def marked(found: Recording) -> list[Track]:

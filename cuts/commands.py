@@ -6,7 +6,7 @@ from collections.abc import Callable, Iterator
 from pathlib import Path
 
 from cuts import masters, mixes, null_tests, nulls
-from cuts.mixes import MOST_CLIPS, Mix
+from cuts.mixes import MOST_CLIPS
 from cuts.projects import Project, Spot
 from dsdarc_scripts.explained import shown_name
 from dsdarc_scripts.outputs import Outputs, Refused
@@ -49,7 +49,7 @@ def put_mix(files: Outputs, asked: argparse.Namespace, project: Project) -> None
     """Writes the mix, and prints if its limit is another one than its kinds of cuts promise."""
     if asked.mix is None:
         return
-    mix = Mix(project)
+    mix = mixes.mix_of(project)
     if len(mix.clips) > MOST_CLIPS:
         why = f"it would have {len(mix.clips)} clips, and there is room for {MOST_CLIPS}"
         print(f"{masters.script()}: no mix is written: {why}", file=sys.stderr)

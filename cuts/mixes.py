@@ -1,9 +1,10 @@
-"""The mix of a project: what was asked for, as a text for the null test (docs/NULL_TEST.md).
+"""The text of a mix, what was asked for, for the null test (docs/NULL_TEST.md); and the mix of a project.
 
-A mix has the original takes, and none of the bits that these scripts made. Its sound is what `measuring` compares
-masters with: the takes' sounds, switched, faded, or changed as the seam of a cut says (`clips`). All numbers are whole:
-the low-passes of `hearing` are scaled so that they are as exact as the text allows."""
+The mix of a project has the original takes, and none of the bits that these scripts made. Its sound is what `measuring`
+compares masters with: the takes' sounds, switched, faded, or changed as the seam of a cut says (`clips`). All numbers
+are whole: the low-passes of `hearing` are scaled so that they are as exact as the text allows."""
 import textwrap
+from collections.abc import Iterable
 from functools import cached_property, lru_cache
 
 import numpy as np
@@ -43,6 +44,11 @@ def centered(taps: np.ndarray, count: int) -> np.ndarray:
     return np.pad(taps, more) if more >= 0 else taps[-more:more]
 
 
+def reach_at(rate: int) -> int:
+    """How far from a place what is heard at it may be."""
+    return len(passing(rate, (hearing.PASSED, hearing.STOPPED))) // 2
+
+
 @lru_cache
 def response(rate: int, decoder: Decoder) -> np.ndarray:
     """The taps of a decoder. Those of a whole sound add up to 1."""
@@ -70,18 +76,16 @@ def without_zeros(taps: np.ndarray) -> np.ndarray:
 
 
 class Mix:
-    """The mix of a project. Its clips have the numbers of the project's takes; `takes` are those that it names."""
+    """The clips of a mix, and what decodes and judges them. The clips number takes by the keys of `names`, which are the
+    takes that the text names, in this order."""
 
-    def __init__(self, project: Project) -> None:
-        self.rate, self.length = project.rate, project.length()
-        self.reach = len(passing(self.rate, (hearing.PASSED, hearing.STOPPED))) // 2
-        self.every = min(max(self.rate // DENSE, 1), MOST_EVERY)
-        self.clips = clips_of(project, self.reach)
-        self.decoders = list(dict.fromkeys(it.decoder for it in self.clips))
-        made = {it for it, record in enumerate(project.records) if record or project.shifts[it]}
-        heard = {it.take for it in self.clips}
-        self.takes = [it for it in range(len(project.names)) if it in heard or it not in made]
-        self.names = [project.names[it] for it in self.takes]
+    def __init__(self, rate: int, clips: list[Clip], names: dict[int, str], length: int = 0) -> None:
+        self.rate, self.clips = rate, clips
+        self.length = length or max(it.stop for it in clips)
+        self.reach = reach_at(rate)
+        self.every = min(max(rate // DENSE, 1), MOST_EVERY)
+        self.decoders = list(dict.fromkeys(it.decoder for it in clips))
+        self.takes, self.names = list(names), list(names.values())
 
     @cached_property
     def unit(self) -> int:
@@ -118,6 +122,15 @@ class Mix:
         return int(self.full * 10 ** (level / 20))
 
 
+def mix_of(project: Project) -> Mix:
+    """The mix of a project, which names none of the takes that were made."""
+    clips = clips_of(project, reach_at(project.rate))
+    made = {it for it, record in enumerate(project.records) if record or project.shifts[it]}
+    heard = {it.take for it in clips}
+    names = {it: name for it, name in enumerate(project.names) if it in heard or it not in made}
+    return Mix(project.rate, clips, names, project.length())
+
+
 # The text.
 
 SAID = {WHOLE: "", LOW: f", up to {SPLIT[0] // 1000} kHz", REST: f", above {SPLIT[0] // 1000} kHz"}
@@ -150,11 +163,12 @@ def gains_of(rows: list[Points]) -> str:
     return "gains = [\n" + "".join(f"{textwrap.indent(points_of(it), '  ')},\n" for it in rows) + "]\n"
 
 
-def clip_text(mix: Mix, clip: Clip) -> str:
+def clip_text(mix: Mix, clip: Clip, words: str = "", notes: str = "") -> str:
+    """The table of a clip, with more words in the comment before it, and with lines of comment inside."""
     number, heard = mix.takes.index(clip.take), [str(it) for it, points in enumerate(clip.points) if points != SILENT]
     what = f"{shown_name(mix.names[number])} from {clock(clip.at, mix.rate)} to {clock(clip.stop, mix.rate)}"
-    alone = "" if len(heard) == len(clip.points) else f", channel {' and '.join(heard)} alone"
-    text = f"\n# {what}{SAID[clip.decoder[0]]}{alone}\n[[mix.clip]]\n"
+    alone = "" if len(heard) == len(clip.points) else f", channel {' and '.join(heard) or 'none'} alone"
+    text = f"\n# {what}{SAID[clip.decoder[0]]}{alone}{words}\n[[mix.clip]]\n{notes}"
     places = {"take": number, "decoder": mix.decoders.index(clip.decoder)}
     places |= {"start": clip.start, "at": clip.at, "length": clip.length}
     return text + "".join(f"{key} = {it}\n" for key, it in places.items()) + gains_of(clip.points)
@@ -166,25 +180,35 @@ def decoder_text(mix: Mix, number: int, decoder: Decoder) -> str:
     return f"\n# Decoder {number}: {what}\n[[mix.decoder]]\ntaps = {array_of(mix.taps[decoder])}\n"
 
 
-def head_of(limit: float, project: str, name: str) -> str:
-    """The comment that says what a mix is, and how it is used."""
-    return f"""\
-# The mix that was asked for with {shown_name(project)}: where each take is heard (docs/NULL_TEST.md). To find how far a
+USE = """\
 # master is from it, as heard, run this in the folder from which the takes are named:
 #
-#   dsdarc nulltest {shown_name(name)} MASTER
+#   dsdarc nulltest {name} MASTER
 #
 # It accepts a master if what is left is nowhere louder than `limit`, {limit:g} dB to full scale. The clips come after the
-# taps of `audible`, and the decoders after the clips. Places are bits of the master; a gain of 1 is {FULL}.
+# taps of `audible`, and the decoders after the clips. Places are bits of the master; a gain of 1 is {full}.
 """
 
 
-def text_of(mix: Mix, limit: float, project: str, name: str) -> str:
-    """The text of a mix with a limit (dB to full scale). Its comment has the names of the project and of the text."""
+def head_of(what: str, limit: float, name: str) -> str:
+    """The comment that says what a mix is, and how it is used."""
+    return f"# {what} (docs/NULL_TEST.md). To find how far a\n" + USE.format(
+        name=shown_name(name), limit=limit, full=FULL
+    )
+
+
+def mix_text(mix: Mix, head: str, limit: float, clips: Iterable[str]) -> str:
+    """The text of a mix with a head, a limit (dB to full scale) and the tables of its clips."""
     takes = tomlkit.dumps({"takes": mix.names})
     return (
-        f"{head_of(limit, project, name)}\n[mix]\n{takes}limit = {mix.limit(limit)}  # {limit:g} dB\n"
+        f"{head}\n[mix]\n{takes}limit = {mix.limit(limit)}  # {limit:g} dB\n"
         f"unit = {mix.unit}\nevery = {mix.every}\naudible = {array_of(mix.audible)}\n"
-        + "".join(clip_text(mix, it) for it in mix.clips)
+        + "".join(clips)
         + "".join(decoder_text(mix, *it) for it in enumerate(mix.decoders))
     )
+
+
+def text_of(mix: Mix, limit: float, project: str, name: str) -> str:
+    """The text of the mix of a project. Its comment has the names of the project and of the text."""
+    what = f"The mix that was asked for with {shown_name(project)}: where each take is heard"
+    return mix_text(mix, head_of(what, limit, name), limit, [clip_text(mix, it) for it in mix.clips])

@@ -1,5 +1,6 @@
-"""Times as the scripts are asked for them."""
+"""Times and levels as the scripts are asked for them."""
 import argparse
+import math
 import re
 
 MOST = 60.0  # seconds
@@ -35,3 +36,14 @@ def seconds(text: str) -> float:
     if number > MOST:
         raise argparse.ArgumentTypeError(f"{text} is longer than {MOST:g}s")
     return number
+
+
+def level(text: str) -> float:
+    """A level in dB to full scale, below 0."""
+    try:
+        found = float(text)
+    except ValueError:
+        found = math.nan
+    if not -1000 <= found < 0:
+        raise argparse.ArgumentTypeError(f"{text} is no level below 0 dB, as -100 is")
+    return found

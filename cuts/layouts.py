@@ -1,0 +1,324 @@
+"""What a list asks for: its lines with their takes and places, and the clips of the mix that they make.
+
+Where the channels of a take have sound up to different frequencies, a line is several clips, each of some channels. It
+is also several clips where a title begins inside of it. What a mix can't say, its text has as comments inside the table
+of a clip: the title of its first place, and the lines of the list, so that it becomes the same list again."""
+import itertools
+import struct
+from dataclasses import dataclass, replace
+
+import numpy as np
+
+from cuts import albums, errors, gains, lists
+from cuts.clips import SILENT, WHOLE, Clip
+from cuts.curves import Fade, gain_of, points_of
+from cuts.gains import FULL, Points
+from cuts.hearing import decibels
+from cuts.lists import Fading, Line, Spot
+from cuts.mixes import MOST_CLIPS
+from cuts.takes import Take, Unread, unlike
+from cuts.times import clock, lasting
+from dsdarc_scripts.explained import shown_name
+from dsdarc_scripts.outputs import Refused
+from dsdarc_scripts.project_texts import MOST_BITS, MOST_TAKES
+from tools.null_testing.mixes import MOST_OVERLAPPING
+
+MOST_GAIN = gain_of(lists.LOUDEST)
+
+
+def opened(name: str) -> Take:
+    """A take, which is found from the folder that the script runs in."""
+    try:
+        return Take(name)
+    except (Unread, OSError, ValueError) as error:
+        raise Refused(f"take {shown_name(name)}: {getattr(error, 'strerror', None) or error}") from None
+
+
+class Takes:
+    """The takes of a mix by their numbers, which have one rate and one number of channels."""
+
+    def __init__(self) -> None:
+        self.takes = list[Take]()
+        self.marks = dict[int, list[tuple[int, str, int]]]()
+
+    def number(self, name: str) -> int:
+        """The number of a take, which is opened if it is a new one."""
+        names = [it.name for it in self.takes]
+        if name in names:
+            return names.index(name)
+        if len(names) == MOST_TAKES:
+            raise Refused(f"take {shown_name(name)} is one more than the {MOST_TAKES} that a mix may have")
+        self.add(name)
+        return len(names)
+
+    def add(self, name: str) -> None:
+        take = opened(name)
+        differing = unlike(take, self.takes[0]) if self.takes else None
+        if differing:
+            first = shown_name(self.takes[0].name)
+            raise Refused(f"take {shown_name(name)} has {differing[0]}, and {first} has {differing[1]}")
+        self.takes.append(take)
+
+    @property
+    def rate(self) -> int:
+        return self.takes[0].rate
+
+    @property
+    def count(self) -> int:
+        return self.takes[0].count
+
+    def marks_of(self, number: int) -> list[tuple[int, str, int]]:
+        """Place, text and type of each mark of a take."""
+        if number not in self.marks:
+            take = self.takes[number]
+            try:
+                self.marks[number] = albums.marks_of(recording_of(take))
+            except (Unread, struct.error):
+                raise Refused(f"take {shown_name(take.name)}: its marks can't be read") from None
+        return self.marks[number]
+
+    def tracks(self, number: int) -> list[tuple[int, str | None]]:
+        """Where the tracks of a take begin, and their titles, as `join` has them: by its marks, or by its name."""
+        starts = albums.starts_in(self.marks_of(number), self.takes[number].bits)
+        if starts:
+            return [(0, None), *starts]
+        numbered, title = albums.named(self.takes[number].name)
+        return [(0, None if numbered == 0 else title)]
+
+
+def recording_of(take: Take) -> albums.Recording:
+    form = "dsdiff" if take.sound.width is None else "dsf"
+    return albums.Recording(take.name, form, take.rate, take.count, take.bits)
+
+
+Title = tuple[int, str]  # a place of a clip, and the title that begins there
+
+
+@dataclass(frozen=True)
+class Part:
+    """A line with its places: `length` bits of a take from `start` on, from a place in the mix on. `gains` has that of
+    each channel."""
+
+    line: Line
+    take: int
+    start: int
+    at: int
+    length: int
+    fades: dict[str, Fade]
+    gains: list[int]
+    titles: list[Title]
+
+    @property
+    def stop(self) -> int:
+        return self.at + self.length
+
+    def points(self, channel: int) -> Points:
+        """The gain of a channel."""
+        if self.gains[channel] == 0:
+            return SILENT
+        return points_of(self.length, self.gains[channel], self.fades.get("in"), self.fades.get("out"))
+
+
+def bit_of(takes: Takes, number: int, spot: Spot, what: str) -> int:
+    """The bit of a take that a line names."""
+    take, name = takes.takes[number], shown_name(takes.takes[number].name)
+    if spot.is_end:
+        return take.bits
+    if spot.mark is None:
+        bit = spot.time.at(take.rate)
+    else:
+        marks = takes.marks_of(number)
+        if spot.mark >= len(marks):
+            last = f"the last one is #{len(marks) - 1}" if marks else "it has none"
+            raise Refused(f"{what}: {name} has no mark #{spot.mark}: {last}; dsdarc info prints them, from #0 on")
+        bit = max(marks[spot.mark][0], 0)
+    if bit > take.bits:
+        place = clock(bit, take.rate)
+        raise Refused(f"{what}: {place} is after the end of {name}, which has {clock(take.bits, take.rate)}: @{take.bits}")
+    return bit
+
+
+def place_of(takes: Takes, line: Line, before: Part | None) -> int:
+    """Where in the mix a line's clip begins."""
+    time, end = line.place.at(takes.rate), before.stop if before else 0
+    at = {"": time, "+": end + time, "-": end - time}[line.sign]
+    if at < 0:
+        what = "the end of the line before" if before else "the start of the mix, as no line is before"
+        raise Refused(f"its clip would begin before the mix: -{lasting(time, takes.rate)} is counted from {what}")
+    return at
+
+
+def fade_of(takes: Takes, fading: Fading) -> Fade | None:
+    bits = fading.time.at(takes.rate)
+    return Fade(bits, fading.curve) if bits else None
+
+
+def fades_of(takes: Takes, line: Line, length: int) -> dict[str, Fade]:
+    """The fades at both ends of a clip, of which the first may be that of a crossfade."""
+    if "in" in line.fades and "crossfade" in line.fades:
+        raise Refused("it has both a crossfade and in: a crossfade is the fade-in")
+    ends = {"crossfade": "in"}
+    found = {ends.get(kind, kind): fade_of(takes, it) for kind, it in line.fades.items()}
+    fades = {kind: it for kind, it in found.items() if it}
+    demand_room(takes, fades, length)
+    return fades
+
+
+def demand_room(takes: Takes, fades: dict[str, Fade], length: int) -> None:
+    """The fades of a clip take no longer than the clip."""
+    bits = sum(it.bits for it in fades.values())
+    if bits > length:
+        both = "its fades take" if len(fades) > 1 else "its fade takes"
+        raise Refused(f"{both} {lasting(bits, takes.rate)}, and the clip is {lasting(length, takes.rate)} long")
+
+
+def crossed(takes: Takes, line: Line, at: int, before: Part | None) -> Part:
+    """The part before a crossfade, which fades out in it."""
+    fade, rate = fade_of(takes, line.fades["crossfade"]), takes.rate
+    overlap = before.stop - at if before else 0
+    if before is None or fade is None or overlap != fade.bits:
+        time = lists.lasting_text(fade.bits if fade else 0, rate)
+        over = f"overlap by {lists.lasting_text(overlap, rate)}" if overlap > 0 else "don't overlap"
+        why = f"a crossfade of {time} needs an overlap of {time} with the line before, the place -{time}; they {over}"
+        raise Refused(why if before else "no line is before, so there is nothing to crossfade with")
+    if "out" in before.fades:
+        raise Refused(f"line {before.line.number}, which is before, has a fade-out already: a crossfade is its fade-out")
+    fades = before.fades | {"out": fade}
+    try:
+        demand_room(takes, fades, before.length)
+    except Refused as error:
+        raise Refused(f"in line {before.line.number}, which is before, {error}") from None
+    return replace(before, fades=fades)
+
+
+def gains_of(takes: Takes, line: Line) -> list[int]:
+    """The gain of each channel."""
+    for channel in line.levels:
+        if channel is not None and channel >= takes.count:
+            has = "1 channel, number 0" if takes.count == 1 else f"{takes.count} channels, from 0 to {takes.count - 1}"
+            raise Refused(f"there is no channel {channel}: the takes have {has}")
+    found = []
+    for channel in range(takes.count):
+        levels = [line.levels.get(None, 0.0), line.levels.get(channel, 0.0)]
+        found.append(0 if None in levels else gain_of(sum(it for it in levels if it)))
+        if found[-1] > MOST_GAIN:
+            level = sum(it for it in levels if it)
+            raise Refused(f"channel {channel} would have a level of {level:+g} dB: at most +{lists.LOUDEST:g} dB")
+    return found
+
+
+def part_of(takes: Takes, line: Line, before: Part | None) -> Part:
+    """A line with its places."""
+    number = takes.number(line.take)
+    start, stop = (bit_of(takes, number, it, what) for it, what in ((line.first, "from"), (line.stop, "to")))
+    if start >= stop:
+        raise Refused(f"its clip has no bits: from is bit {start}, and to is bit {stop}")
+    at, length = place_of(takes, line, before), stop - start
+    if at + length > MOST_BITS:
+        raise Refused("its clip would end after bit 2^36, the last that a mix may have")
+    return Part(line, number, start, at, length, fades_of(takes, line, length), gains_of(takes, line), [])
+
+
+def titled(takes: Takes, parts: list[Part]) -> list[Part]:
+    """The parts with their titles. Each that comes over from a take does so once, with the first clip that plays it."""
+    found, used = [], set[tuple[int, int]]()
+    for part in parts:
+        titles = [] if part.line.title is None else [(0, part.line.title)]
+        if part.line.title is None and not part.line.is_untitled:
+            tracks = takes.tracks(part.take)
+            stops = [*(it for it, _ in tracks[1:]), takes.takes[part.take].bits]
+            played = dict[int, str]()
+            for it, ((first, title), stop) in enumerate(zip(tracks, stops)):
+                is_played = first < part.start + part.length and stop > part.start and (part.take, it) not in used
+                if is_played and title is not None:
+                    used.add((part.take, it))
+                    played[max(first - part.start, 0)] = title
+            titles = sorted(played.items())
+        found.append(replace(part, titles=titles))
+    return found
+
+
+def parts_of(name: str, found: list[Line], takes: Takes) -> list[Part]:
+    """The lines of a list with their places. A fault names the list and the line."""
+    parts = list[Part]()
+    for line in found:
+        try:
+            before = parts[-1] if parts else None
+            part = part_of(takes, line, before)
+            if "crossfade" in line.fades:
+                parts[-1:] = [crossed(takes, line, part.at, before)]
+            parts.append(part)
+        except Refused as error:
+            raise lists.numbered(name, line.number, error) from None
+    parts = titled(takes, parts)
+    demand_clips(name, takes, parts)
+    return parts
+
+
+def most_at_once(clips: list[Clip]) -> int:
+    """How many clips there are at the place with most of them."""
+    # Where clips end at a place, this counts before those that begin there.
+    changes = sorted([(it.at, 1) for it in clips] + [(it.stop, -1) for it in clips])
+    return max(itertools.accumulate(change for _, change in changes))
+
+
+def demand_clips(name: str, takes: Takes, parts: list[Part]) -> None:
+    """A mix has room for the clips, and for those that overlap."""
+    rows = [[it for it, _ in clips_of(takes, part)] for part in parts]
+    every, sofar = sum(rows, []), list[Clip]()
+    if len(every) > MOST_CLIPS:
+        raise Refused(f"{name}: the mix would have {len(every)} clips, and there is room for {MOST_CLIPS}")
+    for part, row in zip(parts, rows) if most_at_once(every) > MOST_OVERLAPPING else ():
+        sofar += row
+        if most_at_once(sofar) > MOST_OVERLAPPING:
+            why = f"its clip is one more than the {MOST_OVERLAPPING} that may overlap"
+            raise lists.numbered(name, part.line.number, why)
+
+
+# The clips of parts.
+
+
+def counted(points: Points, first: int, stop: int) -> Points:
+    """A gain from a place on, up to another one, with no more points than it needs."""
+    found = gains.counted_from(points, first, stop)
+    return found[: sum(place < stop - first for place, _ in found) + 1]
+
+
+def clips_of(takes: Takes, part: Part) -> list[tuple[Clip, str | None]]:
+    """The clips of a part, each with the title that begins with it."""
+    groups = dict[tuple[int, int], list[int]]()
+    for channel, band in enumerate(takes.takes[part.take].bands):
+        groups.setdefault(band, []).append(channel)
+    points = [part.points(it) for it in range(takes.count)]
+    titles = dict(part.titles)
+    firsts = sorted({0, *titles})
+    found = []
+    for first, stop in zip(firsts, [*firsts[1:], part.length]):
+        for band, channels in groups.items():
+            rows = [counted(it, first, stop) if here in channels else SILENT for here, it in enumerate(points)]
+            clip = Clip(part.take, (WHOLE, band), part.start + first, part.at + first, stop - first, rows)
+            found.append((clip, titles.pop(first, None)))
+    return found
+
+
+# What a clip costs that begins or ends with its take.
+
+
+def edges_of(takes: Takes, part: Part) -> list[str]:
+    """A line for each end of a part that is at an end of its take, where it doesn't fade."""
+    take, found = takes.takes[part.take], []
+    reach = errors.known(take)
+    stop = part.start + part.length
+    ends = (
+        ("in", part.start < reach, "begin", "start", "before", (part.start, min(part.start + reach, stop)), "later"),
+        ("out", stop > take.bits - reach, "end", "end", "after", (max(stop - reach, part.start), stop), "earlier"),
+    )
+    for kind, is_there, does, where, side, span, moved in ends:
+        fade = part.fades.get(kind)
+        if is_there and (fade is None or fade.bits < 2 * reach):
+            sounds = np.abs(errors.sounds(take, *span)).max(axis=1) * np.array(part.gains) / FULL
+            level, time = decibels(float(sounds.max())), lasting(reach, take.rate)
+            why = f"line {part.line.number} {does}s at the {where} of {shown_name(take.name)}, {side} which its sound is 0"
+            cure = f"let it {does} {time} {moved}, or fade {kind} over {lasting(2 * reach, take.rate)} or more"
+            found.append(f"{why}: there the mix has an edge of up to {level:.1f} dB; {cure}")
+    return found

@@ -133,8 +133,8 @@ def bit_of(takes: Takes, number: int, spot: Spot, what: str) -> int:
             raise Refused(f"{what}: {name} has no mark #{spot.mark}: {last}; dsdarc info prints them, from #0 on")
         bit = max(marks[spot.mark][0], 0)
     if bit > take.bits:
-        place = clock(bit, take.rate)
-        raise Refused(f"{what}: {place} is after the end of {name}, which has {clock(take.bits, take.rate)}: @{take.bits}")
+        end = f"{clock(take.bits, take.rate)} (@{take.bits})"
+        raise Refused(f"{what}: {clock(bit, take.rate)} is after the end of {name}, which ends at {end}")
     return bit
 
 
@@ -182,7 +182,9 @@ def crossed(takes: Takes, line: Line, at: int, before: Part | None) -> Part:
         why = f"a crossfade of {time} needs an overlap of {time} with the line before, the place -{time}; they {over}"
         raise Refused(why if before else "no line is before, so there is nothing to crossfade with")
     if "out" in before.fades:
-        raise Refused(f"line {before.line.number}, which is before, has a fade-out already: a crossfade is its fade-out")
+        raise Refused(
+            f"line {before.line.number}, which is before, has a fade-out already: a crossfade is its fade-out"
+        )
     fades = before.fades | {"out": fade}
     try:
         demand_room(takes, fades, before.length)
@@ -265,7 +267,7 @@ def most_at_once(clips: list[Clip]) -> int:
 def demand_clips(name: str, takes: Takes, parts: list[Part]) -> None:
     """A mix has room for the clips, and for those that overlap."""
     rows = [[it for it, _ in clips_of(takes, part)] for part in parts]
-    every, sofar = sum(rows, []), list[Clip]()
+    every, sofar = [it for row in rows for it in row], list[Clip]()
     if len(every) > MOST_CLIPS:
         raise Refused(f"{name}: the mix would have {len(every)} clips, and there is room for {MOST_CLIPS}")
     for part, row in zip(parts, rows) if most_at_once(every) > MOST_OVERLAPPING else ():

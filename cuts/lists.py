@@ -2,10 +2,9 @@
 
 A line has the place of a clip in the mix, the name of the take, from where and to where in the take, and what is done
 with it. Empty lines are skipped, and so is what follows a `#` at the start of a line or after the last column."""
-import dataclasses
 import re
 import tomllib
-from collections.abc import Callable, Iterator
+from collections.abc import Iterator
 from dataclasses import dataclass, field
 from fractions import Fraction
 
@@ -14,7 +13,7 @@ from cuts.albums import quoted
 from cuts.curves import Fade
 from dsdarc_scripts.outputs import Refused
 
-UNITS = {"s": 1, "ms": Fraction(1, 1000), "us": Fraction(1, 1_000_000)}
+UNITS = {"s": Fraction(1), "ms": Fraction(1, 1000), "us": Fraction(1, 1_000_000)}
 CLOCK = re.compile(r"(?:(?:(\d{1,9}):)?(\d{1,9}):)?(\d{1,9})(?:\.(\d{1,9}))?", re.ASCII)
 LASTING = re.compile(r"(\d{1,9}(?:\.\d{1,9})?|\.\d{1,9})(s|ms|us)", re.ASCII)
 BITS = re.compile(r"@(\d{1,11})", re.ASCII)
@@ -31,7 +30,7 @@ A_PLACE = f"{A_TIME}, or that after + or - from the end of the line before (+2s,
 A_SPOT = "a time (90, 1:30, 1:02:03.5), @N for bit N, or #N for mark N of the take"
 A_STOP = f"{A_SPOT}, or end"
 A_FADE = f"TIME [CURVE], the time as 2s, 20ms or 0:10 and the curve one of {', '.join(curves.RISING)}"
-AN_ITEM = "in, out or crossfade TIME [CURVE], -1.5 dB, channel 0 -1.5 dB, channel 0 off, title \"..\" or no title"
+AN_ITEM = 'in, out or crossfade TIME [CURVE], -1.5 dB, channel 0 -1.5 dB, channel 0 off, title ".." or no title'
 
 
 @dataclass(frozen=True)
@@ -205,7 +204,9 @@ def line_of(number: int, text: str, usual: str) -> Line | None:
         words.append(found[1])
         at = found.end()
     if len(words) < 4:
-        raise Refused("a line is PLACE TAKE FROM TO, and after them WHAT, .., WHAT, as 0:00 a.dff 0:00 1:30 in 2s, out 4s")
+        raise Refused(
+            "a line is PLACE TAKE FROM TO, and then perhaps WHAT, .., WHAT, as 0:00 a.dff 0:00 1:30 in 2s, out 4s"
+        )
     sign, place = place_of(words[0])
     line = Line(number, sign, place, unquoted(words[1]), spot_of(words[2], False), spot_of(words[3], True))
     for item in items_of(text[at:]):

@@ -1,0 +1,194 @@
+"""How loud a mix is before anything is made of it: peak and RMS of each clip in each channel, and of all together.
+
+The sound is decoded by the mix's own taps, at every few bits, in blocks: so an hour takes no more memory than a minute.
+All levels are relative to full scale, which stored ones alone have."""
+from collections.abc import Iterator
+from dataclasses import dataclass, field
+
+import numpy as np
+from numpy.lib.stride_tricks import sliding_window_view
+from scipy import fft
+
+from cuts import curves
+from cuts.gains import FULL, Points
+from cuts.hearing import decibels
+from cuts.layouts import Takes
+from cuts.takes import Take
+from tools.null_testing.mixes import Clip, Mix
+
+EVERY = 352_800  # places a second at least at which the sound is decoded: peaks between them are 0.2 dB louder at most
+BLOCK = 1 << 19  # places of the mix at a time
+SIZE = 1 << 12  # of the spectra by which it is decoded, at least
+SAFE = 0.8  # of full scale: no modulator is stable for louder sounds
+QUIET = 0.6  # of full scale: up to this the quietest one is
+APART = 1.0  # seconds: places that are nearer to each other are one stretch
+
+
+class Decoding:
+    """A decoder that gives its sound at every few bits."""
+
+    def __init__(self, taps: list[int], unit: int, step: int) -> None:
+        self.step, self.reach = step, len(taps) // 2
+        rows = -(-len(taps) // step)
+        self.size, self.over = 1 << max((4 * rows).bit_length(), SIZE.bit_length() - 1), rows - 1
+        self.hop = self.size - self.over
+        row = np.zeros(rows * step)
+        row[: len(taps)] = np.array(taps[::-1]) / unit
+        # Of each bit of a step the taps that it meets, turned around: so a convolution adds up what they are to it.
+        phases = row.reshape(rows, step)[::-1].T.astype(np.float32)
+        self.spectra = fft.rfft(phases, self.size)[:, None]
+
+    def decoded(self, take: Take, first: int, count: int, channels: list[int]) -> dict[int, np.ndarray]:
+        """The sound of some channels at that many places from one on."""
+        blocks = -(-count // self.hop)
+        signs = signs_of(take, first - self.reach, (blocks * self.hop + self.over) * self.step)
+        return {it: self.sound(signs[it])[:count] for it in channels}
+
+    def sound(self, signs: np.ndarray) -> np.ndarray:
+        """The sound of a channel, of the signs of some whole blocks."""
+        phases = np.ascontiguousarray(signs.reshape(-1, self.step).T)
+        pieces = sliding_window_view(phases, self.size, axis=1)[:, :: self.hop]
+        spectra = fft.rfft(pieces)
+        spectra *= self.spectra
+        return fft.irfft(spectra.sum(axis=0), self.size)[:, self.over :].ravel()
+
+
+def signs_of(take: Take, first: int, count: int) -> np.ndarray:
+    """The signals of all channels, as `Take.signs` has them, in less memory."""
+    found = np.zeros((take.count, count), np.float32)
+    low, high = max(first, 0), min(first + count, take.bits)
+    if low < high:
+        part = found[:, low - first : high - first]
+        part[:] = take.stored(low, high)
+        part *= 2
+        part -= 1
+    return found
+
+
+@dataclass
+class Meter:
+    """The greatest level so far and its place, and the sum of the squares of all levels."""
+
+    peak: float = 0.0
+    place: int = 0
+    power: float = 0.0
+    count: int = 0
+
+    def take(self, row: np.ndarray, place: int, step: int) -> None:
+        """Takes levels at places from one on."""
+        if len(row) == 0:
+            return
+        best = int(np.abs(row).argmax())
+        if abs(row[best]) > self.peak:
+            self.peak, self.place = float(abs(row[best])), place + best * step
+        self.power += float(np.dot(row, row.astype(np.float64)))
+        self.count += len(row)
+
+    @property
+    def level(self) -> float:
+        """The peak, in dB."""
+        return decibels(self.peak)
+
+    @property
+    def mean(self) -> float:
+        """The RMS, in dB."""
+        return decibels(float(np.sqrt(self.power / max(self.count, 1))))
+
+
+@dataclass
+class Stretch:
+    """Places of new bits that are too loud, in a channel: from one to another, and the greatest level."""
+
+    channel: int
+    first: int
+    last: int
+    peak: float
+
+
+@dataclass
+class Levels:
+    """What is found of a mix: of each clip and of the whole a meter for each channel, and what is too loud."""
+
+    clips: list[list[Meter]]
+    whole: list[Meter]
+    loud: list[Stretch] = field(default_factory=list)
+    new: list[Meter] = field(default_factory=list)
+
+
+class Metering:
+    """A mix and its takes."""
+
+    def __init__(self, mix: Mix, takes: Takes) -> None:
+        self.mix, self.rate, self.count = mix, takes.rate, takes.count
+        self.takes = [takes.takes[takes.number(it)] for it in mix.takes]
+        self.step = max(self.rate // EVERY, 1)
+        self.decodings = [Decoding(it, mix.unit, self.step) for it in mix.decoders]
+        self.ways = [(it.take, it.offset) for it in mix.clips]
+
+    def blocks(self) -> Iterator[tuple[int, int]]:
+        """The first place of each block, and how many it has at which the sound is decoded."""
+        size = BLOCK // self.step * self.step
+        for first in range(0, self.mix.length, size):
+            yield first, -(-min(size, self.mix.length - first) // self.step)
+
+    def part(self, clip: Clip, first: int, count: int) -> slice:
+        """Which places of a block a clip has."""
+        low, high = -(-(clip.at - first) // self.step), -(-(clip.stop - first) // self.step)
+        return slice(min(max(low, 0), count), min(max(high, 0), count))
+
+    def gain(self, points: Points, first: int, count: int) -> np.ndarray:
+        """The gain at that many places of a clip: one number if it is the same all over."""
+        last = first + (count - 1) * self.step
+        is_one = not any(first < place < last for place, _ in points)
+        ends = curves.gains_at(points, np.array([first, last]))
+        if is_one and ends[0] == ends[1]:
+            return ends[:1]
+        return curves.gains_at(points, np.arange(first, last + 1, self.step))
+
+    def gains(self, clip: Clip, first: int, count: int) -> list[np.ndarray]:
+        """The gain in each channel at that many places of the mix."""
+        rows = [self.gain(clip.points(it), first - clip.at, count) for it in range(self.count if clip.gains else 1)]
+        return rows if clip.gains else rows * self.count
+
+    def levels(self) -> Levels:
+        """The levels of all."""
+        found = Levels([[Meter() for _ in range(self.count)] for _ in self.mix.clips], [], [], [])
+        found.whole, found.new = ([Meter() for _ in range(self.count)] for _ in range(2))
+        for first, count in self.blocks():
+            self.take_block(found, first, count)
+        return found
+
+    def take_block(self, found: Levels, first: int, count: int) -> None:
+        """Meters a block of the mix."""
+        mixed = np.zeros((self.count, count), np.float32)
+        # Which clips are heard at each place: none, those of one way at full gain, or others.
+        ways, is_new = np.full((self.count, count), -1), np.zeros((self.count, count), bool)
+        for number, clip in enumerate(self.mix.clips):
+            part = self.part(clip, first, count)
+            if part.start >= part.stop:
+                continue
+            place, size = first + part.start * self.step, part.stop - part.start
+            rows = {it: gain for it, gain in enumerate(self.gains(clip, place, size)) if gain.any()}
+            sounds = self.decodings[clip.decoder].decoded(self.takes[clip.take], place + clip.offset, size, list(rows))
+            way = self.ways.index(self.ways[number])
+            for channel, gains in rows.items():
+                row = sounds[channel] * (gains / FULL).astype(np.float32)
+                found.clips[number][channel].take(row, place, self.step)
+                mixed[channel, part] += row
+                before = ways[channel, part]
+                is_new[channel, part] |= (gains != 0) & ((gains != FULL) | (before >= 0) & (before != way))
+                ways[channel, part] = np.where(gains != 0, way, before)
+        for channel, row in enumerate(mixed):
+            found.whole[channel].take(row, first, self.step)
+            self.take_loud(found, channel, first, np.where(is_new[channel], np.abs(row), 0))
+
+    def take_loud(self, found: Levels, channel: int, first: int, row: np.ndarray) -> None:
+        """Takes the places of a block with new bits that are too loud, and how loud these are at most."""
+        found.new[channel].take(row, first, self.step)
+        for it in np.flatnonzero(row > SAFE) if row.max(initial=0) > SAFE else ():
+            place, peak = first + int(it) * self.step, float(row[it])
+            last = next((one for one in reversed(found.loud) if one.channel == channel), None)
+            if last and place - last.last < APART * self.rate:
+                last.last, last.peak = place, max(last.peak, peak)
+            else:
+                found.loud.append(Stretch(channel, place, place, peak))

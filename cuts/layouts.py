@@ -9,12 +9,12 @@ from dataclasses import dataclass, replace
 
 import numpy as np
 
-from cuts import albums, errors, gains, lists
+from cuts import albums, errors, gains, hearing, lists, mixes
 from cuts.clips import SILENT, WHOLE, Clip
-from cuts.curves import Fade, gain_of, points_of
+from cuts.curves import Fade, gain_of, gains_at, points_of
 from cuts.gains import FULL, Points
 from cuts.hearing import decibels
-from cuts.lists import Fading, Line, Spot
+from cuts.lists import Fading, Line, Spot, lasting_text
 from cuts.mixes import MOST_CLIPS
 from cuts.takes import Take, Unread, unlike
 from cuts.times import clock, lasting
@@ -129,8 +129,8 @@ def bit_of(takes: Takes, number: int, spot: Spot, what: str) -> int:
     else:
         marks = takes.marks_of(number)
         if spot.mark >= len(marks):
-            last = f"the last one is #{len(marks) - 1}" if marks else "it has none"
-            raise Refused(f"{what}: {name} has no mark #{spot.mark}: {last}; dsdarc info prints them, from #0 on")
+            has = f"the last one is #{len(marks) - 1}" if marks else "it has no marks"
+            raise Refused(f"{what}: {name} has no mark #{spot.mark}: {has}; dsdarc info prints them, from #0 on")
         bit = max(marks[spot.mark][0], 0)
     if bit > take.bits:
         end = f"{clock(take.bits, take.rate)} (@{take.bits})"
@@ -144,7 +144,7 @@ def place_of(takes: Takes, line: Line, before: Part | None) -> int:
     at = {"": time, "+": end + time, "-": end - time}[line.sign]
     if at < 0:
         what = "the end of the line before" if before else "the start of the mix, as no line is before"
-        raise Refused(f"its clip would begin before the mix: -{lasting(time, takes.rate)} is counted from {what}")
+        raise Refused(f"its clip would begin before the mix: -{lasting_text(time, takes.rate)} is counted from {what}")
     return at
 
 
@@ -169,7 +169,8 @@ def demand_room(takes: Takes, fades: dict[str, Fade], length: int) -> None:
     bits = sum(it.bits for it in fades.values())
     if bits > length:
         both = "its fades take" if len(fades) > 1 else "its fade takes"
-        raise Refused(f"{both} {lasting(bits, takes.rate)}, and the clip is {lasting(length, takes.rate)} long")
+        room = lasting_text(length, takes.rate)
+        raise Refused(f"{both} {lasting_text(bits, takes.rate)}, and the clip is {room} long")
 
 
 def crossed(takes: Takes, line: Line, at: int, before: Part | None) -> Part:
@@ -177,8 +178,8 @@ def crossed(takes: Takes, line: Line, at: int, before: Part | None) -> Part:
     fade, rate = fade_of(takes, line.fades["crossfade"]), takes.rate
     overlap = before.stop - at if before else 0
     if before is None or fade is None or overlap != fade.bits:
-        time = lists.lasting_text(fade.bits if fade else 0, rate)
-        over = f"overlap by {lists.lasting_text(overlap, rate)}" if overlap > 0 else "don't overlap"
+        time = lasting_text(fade.bits if fade else 0, rate)
+        over = f"overlap by {lasting_text(overlap, rate)}" if overlap > 0 else "don't overlap"
         why = f"a crossfade of {time} needs an overlap of {time} with the line before, the place -{time}; they {over}"
         raise Refused(why if before else "no line is before, so there is nothing to crossfade with")
     if "out" in before.fades:
@@ -304,23 +305,46 @@ def clips_of(takes: Takes, part: Part) -> list[tuple[Clip, str | None]]:
 
 
 # What a clip costs that begins or ends with its take.
+#
+# A take's sound near an end lacks what the bits would add to it that the take hasn't. What that is nobody knows; it is
+# about what is missed where some bits near the end are left out instead.
+
+CLEAN = -105.0  # dB to full scale: what clicks less isn't worth a line
+TRIED = 8  # places near an end of a take, each some bits from the next
+APART = 61
+SOFT = 0.02  # seconds: a fade that is as long leaves less
+
+
+def click_of(takes: Takes, part: Part, is_end: bool) -> float:
+    """How loudly a part clicks (dB) at an end of its take."""
+    take, peaks = takes.takes[part.take], [0.0]
+    heard = mixes.passing(take.rate, (hearing.PASSED, hearing.STOPPED))
+    away = take.bits - part.start - part.length if is_end else part.start
+    for channel, band in enumerate(take.bands):
+        taps = mixes.passing(take.rate, band)
+        reach = len(taps) // 2
+        places = np.arange(min(max(reach - away, 0), part.length))
+        gain = gains_at(part.points(channel), part.length - 1 - places if is_end else places) / FULL
+        for number in range(TRIED if len(places) else 0):
+            first = APART * number if not is_end else take.bits - 2 * reach - APART * number
+            signs = take.signs(first, first + 2 * reach)[channel]
+            missed = hearing.convolved(np.pad(signs[::-1] if is_end else signs, (0, 2 * reach)), taps)
+            click = missed[reach + away :][: len(places)] * gain
+            peaks.append(float(np.abs(hearing.convolved(np.pad(click, len(heard)), heard)).max()))
+    return decibels(max(peaks))
 
 
 def edges_of(takes: Takes, part: Part) -> list[str]:
-    """A line for each end of a part that is at an end of its take, where it doesn't fade."""
+    """A line for each end of a part that clicks because its take ends there."""
     take, found = takes.takes[part.take], []
     reach = errors.known(take)
-    stop = part.start + part.length
-    ends = (
-        ("in", part.start < reach, "begin", "start", "before", (part.start, min(part.start + reach, stop)), "later"),
-        ("out", stop > take.bits - reach, "end", "end", "after", (max(stop - reach, part.start), stop), "earlier"),
-    )
-    for kind, is_there, does, where, side, span, moved in ends:
-        fade = part.fades.get(kind)
-        if is_there and (fade is None or fade.bits < 2 * reach):
-            sounds = np.abs(errors.sounds(take, *span)).max(axis=1) * np.array(part.gains) / FULL
-            level, time = decibels(float(sounds.max())), lasting(reach, take.rate)
+    ends = (("begin", "start", "before", "later", "in"), ("end", "end", "after", "earlier", "out"))
+    for does, where, side, moved, kind in ends:
+        level = click_of(takes, part, does == "end")
+        if level > CLEAN:
             why = f"line {part.line.number} {does}s at the {where} of {shown_name(take.name)}, {side} which its sound is 0"
-            cure = f"let it {does} {time} {moved}, or fade {kind} over {lasting(2 * reach, take.rate)} or more"
-            found.append(f"{why}: there the mix has an edge of up to {level:.1f} dB; {cure}")
+            cure = (
+                f"let it {does} {lasting(reach, take.rate)} {moved}, or fade it {kind} over {1000 * SOFT:g} ms or more"
+            )
+            found.append(f"{why}: the mix clicks there, at about {level:.0f} dB; {cure}")
     return found

@@ -25,12 +25,11 @@ OF_CHANNEL = re.compile(r"channel\s+(\d)\s+(.*)", re.ASCII)
 PLAIN = re.compile(r'[^\s"#][^\s"]*')
 LOUDEST = 6.0  # dB: the highest level of a channel
 
-A_TIME = "a time (90, 1:30, 1:02:03.5, 20ms, 50us) or @N for N bits"
-A_PLACE = f"{A_TIME}, or that after + or - from the end of the line before (+2s, -10s)"
-A_SPOT = "a time (90, 1:30, 1:02:03.5), @N for bit N, or #N for mark N of the take"
+A_PLACE = "a time (90, 1:30, 1:02:03.5), @N for bit N, or + or - and a time from the end of the line before (+2s, -10s)"
+A_SPOT = "a time (90, 1:30, 1:02:03.5), @N for bit N, or #N for mark N"
 A_STOP = f"{A_SPOT}, or end"
-A_FADE = f"TIME [CURVE], the time as 2s, 20ms or 0:10 and the curve one of {', '.join(curves.RISING)}"
-AN_ITEM = 'in, out or crossfade TIME [CURVE], -1.5 dB, channel 0 -1.5 dB, channel 0 off, title ".." or no title'
+A_FADE = f"a time (2s, 20ms, 50us, 0:10) or @N for N bits, and perhaps {', '.join(curves.RISING)}"
+AN_ITEM = 'in 2s, out 20ms power, crossfade 10s s, -1.5 dB, channel 0 -1.5 dB, channel 0 off, title "Song", no title'
 
 
 @dataclass(frozen=True)
@@ -120,7 +119,7 @@ def time_of(word: str, wanted: str, whole: str = "") -> Time:
 def place_of(word: str) -> tuple[str, Time]:
     """The sign of a place in the mix, if it has one, and its time."""
     sign = word[0] if word[0] in "+-" else ""
-    return sign, time_of(word[len(sign) :], f"place: it is {A_PLACE}", word)
+    return sign, time_of(word[len(sign) :], f"place in a mix: that is {A_PLACE}", word)
 
 
 def spot_of(word: str, is_stop: bool) -> Spot:
@@ -128,7 +127,7 @@ def spot_of(word: str, is_stop: bool) -> Spot:
         return Spot(mark=int(found[1]))
     if is_stop and word == "end":
         return Spot(is_end=True)
-    return Spot(time_of(word, f"place in a take: it is {A_STOP if is_stop else A_SPOT}"))
+    return Spot(time_of(word, f"place in a take: that is {A_STOP if is_stop else A_SPOT}"))
 
 
 def level_in(word: str) -> float | None:
@@ -137,22 +136,22 @@ def level_in(word: str) -> float | None:
         return None
     found = LEVEL.fullmatch(word)
     if found is None or float(found[1]) > LOUDEST:
-        raise NotThat(word, f"level: it is as -1.5 dB, at most +{LOUDEST:g} dB, or off for a channel")
+        raise NotThat(word, f"level: that is as -1.5 dB, at most +{LOUDEST:g} dB, or off for a channel")
     return float(found[1])
 
 
 def is_new(is_there: bool, what: str) -> None:
     if is_there:
-        raise Refused(f"it says {what} twice")
+        raise Refused(f"it has {what} twice")
 
 
 def take_fade(line: Line, kind: str, rest: str, usual: str) -> None:
     """Takes `in`, `out` or `crossfade` into a line."""
     words = rest.split()
     if not 1 <= len(words) <= 2 or words[1:] and words[1] not in curves.RISING:
-        raise NotThat(f"{kind} {rest}".strip(), f"fade: it is {kind} {A_FADE}")
+        raise NotThat(f"{kind} {rest}".strip(), f"fade: after {kind} comes {A_FADE}")
     is_new(kind in line.fades, kind)
-    time = time_of(words[0], f"time of a fade: it is {kind} {A_FADE}")
+    time = time_of(words[0], f"time of a fade: after {kind} comes {A_FADE}")
     line.fades[kind] = Fading(time, words[1] if words[1:] else usual)
 
 
@@ -172,7 +171,7 @@ def take_item(line: Line, item: str, usual: str) -> None:
         is_new(None in line.levels, "the level")
         line.levels[None] = level_in(item)
     else:
-        raise NotThat(item, f"thing that a clip may have: these are {AN_ITEM}")
+        raise Refused(f"{shown(item)} is nothing that a clip can have: that is as {AN_ITEM}")
 
 
 def items_of(text: str) -> Iterator[str]:
@@ -187,7 +186,7 @@ def items_of(text: str) -> Iterator[str]:
             raise Refused(f"{shown(text[at:])} has no quotation mark at its end")
         item = found[1].strip()
         if not item and ends == "," or not item and text[:at].strip().endswith(","):
-            raise Refused("between two commas, and after the last one, comes what a clip has")
+            raise Refused(f"nothing comes after a comma: there it takes something as {AN_ITEM}")
         if item:
             yield item
         if ends != ",":

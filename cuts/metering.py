@@ -185,8 +185,8 @@ class Metering:
     def take_loud(self, found: Levels, channel: int, first: int, row: np.ndarray) -> None:
         """Takes the places of a block with new bits that are too loud, and how loud these are at most."""
         found.new[channel].take(row, first, self.step)
-        for it in np.flatnonzero(row > SAFE) if row.max(initial=0) > SAFE else ():
-            place, peak = first + int(it) * self.step, float(row[it])
+        for it in np.flatnonzero(row > SAFE).tolist():
+            place, peak = first + it * self.step, float(row[it])
             last = next((one for one in reversed(found.loud) if one.channel == channel), None)
             if last and place - last.last < APART * self.rate:
                 last.last, last.peak = place, max(last.peak, peak)

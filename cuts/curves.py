@@ -34,6 +34,7 @@ BENT: dict[str, Callable[[np.ndarray], np.ndarray]] = {
     "exponential": lambda part: np.sqrt(STEEP**part),
 }
 FINE = 1 << 16  # steps in which the bends of a curve are summed
+SHORT = 1 << 16  # bits: a fade that is no longer has twice as many lines, as these begin and end with bits
 
 
 @dataclass(frozen=True)
@@ -49,9 +50,12 @@ def places_of(fade: Fade) -> np.ndarray:
     """The places of the points of a fade, from 0 to its last: straight lines that are equally far off the curve."""
     if fade.curve not in BENT:
         return np.array([0, fade.bits])
+    most = LINES if fade.bits > SHORT else 2 * LINES - 2
+    if fade.bits <= most:
+        return np.arange(fade.bits + 1)
     parts = np.linspace(0, 1, FINE + 1)
     bends = np.append(0, np.cumsum(BENT[fade.curve]((parts[1:] + parts[:-1]) / 2)))
-    lines = np.interp(np.linspace(0, bends[-1], min(LINES, fade.bits) + 1), bends, parts)
+    lines = np.interp(np.linspace(0, bends[-1], most + 1), bends, parts)
     return np.unique(np.rint(lines * fade.bits).astype(np.int64))
 
 

@@ -169,19 +169,24 @@ def demand_room(takes: Takes, fades: dict[str, Fade], length: int) -> None:
     bits = sum(it.bits for it in fades.values())
     if bits > length:
         both = "its fades take" if len(fades) > 1 else "its fade takes"
-        room = lasting_text(length, takes.rate)
+        room = lasting(length, takes.rate)
         raise Refused(f"{both} {lasting_text(bits, takes.rate)}, and the clip is {room} long")
 
 
 def crossed(takes: Takes, line: Line, at: int, before: Part | None) -> Part:
     """The part before a crossfade, which fades out in it."""
     fade, rate = fade_of(takes, line.fades["crossfade"]), takes.rate
-    overlap = before.stop - at if before else 0
-    if before is None or fade is None or overlap != fade.bits:
-        time = lasting_text(fade.bits if fade else 0, rate)
+    if before is None:
+        raise Refused("no line is before, so there is nothing to crossfade with")
+    overlap = before.stop - at
+    if fade is None:
+        raise Refused("a crossfade that takes no time is a cut: leave it out")
+    if overlap != fade.bits:
+        time = lasting_text(fade.bits, rate)
         over = f"overlap by {lasting_text(overlap, rate)}" if overlap > 0 else "don't overlap"
-        why = f"a crossfade of {time} needs an overlap of {time} with the line before, the place -{time}; they {over}"
-        raise Refused(why if before else "no line is before, so there is nothing to crossfade with")
+        raise Refused(
+            f"a crossfade of {time} needs an overlap of {time} with the line before, the place -{time}; they {over}"
+        )
     if "out" in before.fades:
         raise Refused(
             f"line {before.line.number}, which is before, has a fade-out already: a crossfade is its fade-out"
@@ -311,7 +316,7 @@ def clips_of(takes: Takes, part: Part) -> list[tuple[Clip, str | None]]:
 
 CLEAN = -105.0  # dB to full scale: what clicks less isn't worth a line
 TRIED = 8  # places near an end of a take, each some bits from the next
-APART = 61
+APART = 64
 SOFT = 0.02  # seconds: a fade that is as long leaves less
 
 
@@ -326,7 +331,8 @@ def click_of(takes: Takes, part: Part, is_end: bool) -> float:
         places = np.arange(min(max(reach - away, 0), part.length))
         gain = gains_at(part.points(channel), part.length - 1 - places if is_end else places) / FULL
         for number in range(TRIED if len(places) else 0):
-            first = APART * number if not is_end else take.bits - 2 * reach - APART * number
+            cut = APART * (number + 2 * reach // APART + 1)
+            first = take.bits - cut if is_end else cut - 2 * reach
             signs = take.signs(first, first + 2 * reach)[channel]
             missed = hearing.convolved(np.pad(signs[::-1] if is_end else signs, (0, 2 * reach)), taps)
             click = missed[reach + away :][: len(places)] * gain

@@ -28,7 +28,7 @@ LOUDEST = 6.0  # dB: the highest level of a channel
 A_PLACE = "a time (90, 1:30, 1:02:03.5), @N for bit N, or + or - and a time from the end of the line before (+2s, -10s)"
 A_SPOT = "a time (90, 1:30, 1:02:03.5), @N for bit N, or #N for mark N"
 A_STOP = f"{A_SPOT}, or end"
-A_FADE = f"a time (2s, 20ms, 50us, 0:10) or @N for N bits, and perhaps {', '.join(curves.RISING)}"
+A_FADE = f"a time (2s, 20ms, 50us, 0:10) or @N for N bits, and perhaps a curve: {', '.join(curves.RISING)}"
 AN_ITEM = 'in 2s, out 20ms power, crossfade 10s s, -1.5 dB, channel 0 -1.5 dB, channel 0 off, title "Song", no title'
 
 
@@ -233,12 +233,12 @@ def lines_of(name: str, text: str, usual: str) -> list[Line]:
 
 # Lines that are written.
 
-DIGITS = 6  # after the point of seconds, at most: other bits are written as @N
+DIGITS = 3  # after the point of seconds, at most: other bits are written as @N
 
 
 def time_text(bits: int, rate: int) -> str:
     """The shortest time, as by a clock, that names a bit; or its number."""
-    for digits in (0, 1, 2, 3, DIGITS):
+    for digits in range(DIGITS + 1):
         ticks = -(-bits * 10**digits // rate)
         if ticks * rate // 10**digits == bits:
             seconds, part = divmod(ticks, 10**digits)
@@ -250,8 +250,8 @@ def time_text(bits: int, rate: int) -> str:
 
 def lasting_text(bits: int, rate: int) -> str:
     """The same of how long something takes."""
-    unit, scale = ("s", 1) if bits >= rate else ("ms", 1000)
-    for digits in range(4):
+    unit, scale, most = ("s", 1, DIGITS) if bits >= rate else ("ms", 1000, 1)
+    for digits in range(most + 1):
         ticks = -(-bits * scale * 10**digits // rate)
         if ticks * rate // (scale * 10**digits) == bits:
             whole, part = divmod(ticks, 10**digits)

@@ -5,7 +5,6 @@ that begins with it, and each `# line = ".."` is a line of the list. So the list
 are still those that it makes. Of other mixes a list is written anew, as far as lines can say their clips."""
 import re
 import tomllib
-from collections.abc import Iterable
 from dataclasses import dataclass, field
 
 import numpy as np
@@ -172,7 +171,7 @@ def grouped(mix: mix_texts.Mix, count: int) -> list[list[int]]:
     """The numbers of the clips that a line makes: those that follow each other and are the same for other channels."""
     found, heard = list[list[int]](), set[int]()
     for number, clip in enumerate(mix.clips):
-        here = {it for it in range(count) if any(gain for _, gain in clip.points(it) or [(0, FULL)])}
+        here = {it for it in range(count) if any(gain for _, gain in clip.points(it) or WHOLE)}
         before = mix.clips[found[-1][0]] if found else None
         alike = before and all(getattr(before, it) == getattr(clip, it) for it in ("take", "start", "at", "length"))
         if alike and not here & heard and len(here) < count:
@@ -191,6 +190,7 @@ def response_of(taps: list[int], unit: int, rate: int) -> float:
     return float(np.abs(np.exp(-1j * np.outer(turns, places)) @ np.array(taps) / unit - 1).max())
 
 
+WHOLE: Points = [(0, FULL)]  # of a clip whose gain is 1
 FLAT = 0.01  # how far a decoder may be off 1
 
 
@@ -217,7 +217,7 @@ class Derived:
         first, rows = group[0], list[tuple[int, dict[str, Fade]]]()
         for channel in range(self.takes.count):
             points = [self.mix.clips[it].points(channel) for it in group]
-            heard = [it for it in points if any(gain for _, gain in it or [(0, FULL)])]
+            heard = [it for it in points if any(gain for _, gain in it or WHOLE)]
             found = fitted(heard[0] if heard else SILENT, self.mix.clips[first].length)
             if found is None:
                 why = f"the gain of channel {channel} is no level with a fade in and out by a curve that a list has"
@@ -310,13 +310,20 @@ class Listed:
     is_new: bool
 
 
-def is_made(made: Made, mix: mix_texts.Mix, notes: Iterable[Notes]) -> bool:
+def is_made(made: Made, mix: mix_texts.Mix, notes: list[Notes]) -> bool:
     """Whether a mix is that of a list."""
-    text = made.mix_text(LIMIT, "", "")
-    other = mix_texts.read_mix(text.encode())
-    titles = [it.title for it in notes_in(text, len(other.clips))[0]]
-    same = (other.takes, other.decoders, other.clips) == (mix.takes, mix.decoders, mix.clips)
-    return same and titles == [it.title for it in notes]
+    own = made.mix()
+    rows = [it for part in made.parts for it in layouts.clips_of(made.takes, part)]
+    if (own.names, len(rows), len(own.decoders)) != (mix.takes, len(mix.clips), len(mix.decoders)):
+        return False
+    for (clip, title), other, note in zip(rows, mix.clips, notes):
+        numbers = own.takes.index(clip.take), own.decoders.index(clip.decoder), clip.start, clip.at, clip.length
+        gains = [other.points(channel) or WHOLE for channel in range(made.takes.count)]
+        same = numbers == (other.take, other.decoder, other.start, other.at, other.length)
+        title = None if title is None else shortened(title, MOST_TITLE)
+        if not same or [it or WHOLE for it in clip.points] != gains or title != note.title:
+            return False
+    return all(own.taps[it].tolist() == taps for it, taps in zip(own.decoders, mix.decoders))
 
 
 def limit_of(mix: mix_texts.Mix) -> float | None:
@@ -328,11 +335,9 @@ def limit_of(mix: mix_texts.Mix) -> float | None:
     return next((it for it in rounded if int(mix.full * 10 ** (it / 20)) == mix.limit), float(level))
 
 
-def listed(name: str, data: bytes) -> Listed:
-    """The list of the text of a mix."""
-    mix = read(name, data)
-    takes = takes_of(name, mix)
-    notes, curve = notes_in(data.decode("utf-8-sig"), len(mix.clips))
+def listed(name: str, text: str, mix: mix_texts.Mix, takes: Takes) -> Listed:
+    """The list of a mix, and of its text."""
+    notes, curve = notes_in(text, len(mix.clips))
     rows = [line for it in notes for line in it.lines]
     if rows:
         try:

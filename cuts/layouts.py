@@ -287,9 +287,13 @@ def demand_clips(name: str, takes: Takes, parts: list[Part]) -> None:
 
 
 def counted(points: Points, first: int, stop: int) -> Points:
-    """A gain from a place on, up to another one, with no more points than it needs."""
-    found = gains.counted_from(points, first, stop)
-    return found[: sum(place < stop - first for place, _ in found) + 1]
+    """A gain from a place on, from which places are counted, up to another one: no more points than it needs, and none
+    if it is 1."""
+    inside = gains.moved([it for it in points if it[0] > first], -first)
+    is_before = bool(points) and points[0][0] <= first
+    found = [(0, gains.gain_at(points, first)), *inside] if is_before else inside
+    found = found[: sum(place < stop - first for place, _ in found) + 1]
+    return [] if all(gain == FULL for _, gain in found) else found
 
 
 def clips_of(takes: Takes, part: Part) -> list[tuple[Clip, str | None]]:
@@ -314,10 +318,9 @@ def clips_of(takes: Takes, part: Part) -> list[tuple[Clip, str | None]]:
 # A take's sound near an end lacks what the bits would add to it that the take hasn't. What that is nobody knows; it is
 # about what is missed where some bits near the end are left out instead.
 
-CLEAN = -105.0  # dB to full scale: what clicks less isn't worth a line
+CLEAN = -100.0  # dB to full scale: what clicks less isn't worth a line
 TRIED = 8  # places near an end of a take, each some bits from the next
 APART = 64
-SOFT = 0.02  # seconds: a fade that is as long leaves less
 
 
 def click_of(takes: Takes, part: Part, is_end: bool) -> float:
@@ -349,8 +352,6 @@ def edges_of(takes: Takes, part: Part) -> list[str]:
         level = click_of(takes, part, does == "end")
         if level > CLEAN:
             why = f"line {part.line.number} {does}s at the {where} of {shown_name(take.name)}, {side} which its sound is 0"
-            cure = (
-                f"let it {does} {lasting(reach, take.rate)} {moved}, or fade it {kind} over {1000 * SOFT:g} ms or more"
-            )
+            cure = f"let it {does} {lasting(reach, take.rate)} {moved}, or fade it by an S-curve ({kind} 5ms s)"
             found.append(f"{why}: the mix clicks there, at about {level:.0f} dB; {cure}")
     return found

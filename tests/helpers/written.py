@@ -3,7 +3,7 @@
 A row of READ has READ in the place of an output, and the file that it is: by its name, by others, by links, and as
 standard output. A row of MADE has the name that a script itself gives an output, which is a link to a file that is
 read. A row of TWICE has two outputs that are one file. These scripts write no files of a name, and only print:
-filters/pick, filters/tone.py, cuts/figures, tools/check_certificate, tools/channels and tools/waves."""
+filters/pick, filters/tone.py, cuts/figures, cuts/levels, tools/check_certificate, tools/channels and tools/waves."""
 import json
 import os
 import shutil
@@ -31,6 +31,10 @@ READ = (
     ((*FADE, "--mix", "READ"), "p.toml"),
     (("cuts/place", "p.toml", "-o", "new.toml", "--mix", "READ"), "a.dff"),
     (("cuts/join", "a.dff", "b.dff", "-o", "READ", "--form", "dsdiff"), "b.dff"),
+    (("cuts/mix", "clips.list", "-o", "READ"), "clips.list"),
+    (("cuts/mix", "clips.list", "-o", "READ"), "a.dff"),
+    (("cuts/mix", "--list", "mix.toml", "-o", "READ"), "mix.toml"),
+    (("cuts/mix", "--list", "mix.toml", "-o", "READ"), "b.dff"),
     (("tools/mend_dsf", "b.dff", "READ"), "b.dff"),
     (("workflows/copy_tag", "tag.dff", "b.dff", "-o", "READ"), "tag.dff"),
     (("workflows/copy_tag", "tag.dff", "b.dff", "-o", "READ"), "b.dff"),
@@ -117,6 +121,7 @@ def furnish(arguments: tuple[str, ...]) -> None:
     put("tag.dff", dsdiff(RATE, 1, bytes(100), more=chunk(b"ID3 ", TAG)))
     put("master.dff", dsdiff(RATE, 1, b"\x69" * 2000 + b"\x96" * 2000))
     put("mix.toml", MIX)
+    put("clips.list", "0:00 a.dff 0:00 end\n+2s b.dff 0:00 end\n")
     for name in ("run/a.dff.wav", "flow/pcm/a.dff.wav"):
         put(name, wave())
     put("run/SHA256SUMS", f"{'0' * 64}  a.dff.wav\n")

@@ -185,10 +185,12 @@ class Metering:
     def take_loud(self, found: Levels, channel: int, first: int, row: np.ndarray) -> None:
         """Takes the places of a block with new bits that are too loud, and how loud these are at most."""
         found.new[channel].take(row, first, self.step)
-        for it in np.flatnonzero(row > SAFE).tolist():
-            place, peak = first + it * self.step, float(row[it])
-            last = next((one for one in reversed(found.loud) if one.channel == channel), None)
-            if last and place - last.last < APART * self.rate:
-                last.last, last.peak = place, max(last.peak, peak)
+        places = first + np.flatnonzero(row > SAFE) * self.step
+        if len(places):
+            # A block is shorter than what makes one stretch of two.
+            here = Stretch(channel, int(places[0]), int(places[-1]), float(row.max()))
+            last = next((it for it in reversed(found.loud) if it.channel == channel), None)
+            if last and here.first - last.last < APART * self.rate:
+                last.last, last.peak = here.last, max(last.peak, here.peak)
             else:
-                found.loud.append(Stretch(channel, place, place, peak))
+                found.loud.append(here)

@@ -9,9 +9,9 @@ import numpy as np
 from numpy.lib.stride_tricks import sliding_window_view
 from scipy import fft
 
-from cuts import curves
+from cuts import curves, mixes
 from cuts.gains import FULL, Points
-from cuts.hearing import decibels
+from cuts.hearing import USUAL, decibels
 from cuts.layouts import Takes
 from cuts.takes import Take
 from tools.null_testing.mixes import Clip, Mix
@@ -122,8 +122,15 @@ class Metering:
         self.mix, self.rate, self.count = mix, takes.rate, takes.count
         self.takes = [takes.takes[takes.number(it)] for it in mix.takes]
         self.step = max(self.rate // EVERY, 1)
-        self.decodings = [Decoding(it, mix.unit, self.step) for it in mix.decoders]
+        self.decodings = [self.decoding(it) for it in mix.decoders]
         self.ways = [(it.take, it.offset) for it in mix.clips]
+
+    def decoding(self, taps: list[int]) -> Decoding:
+        """That of a decoder. One of a single tap gives bits as they are, and these sound as a usual one decodes them."""
+        if len(taps) > 1:
+            return Decoding(taps, self.mix.unit, self.step)
+        usual = np.rint(mixes.passing(self.rate, USUAL) * taps[0]).astype(np.int64)
+        return Decoding(usual.tolist(), self.mix.unit, self.step)
 
     def blocks(self) -> Iterator[tuple[int, int]]:
         """The first place of each block, and how many it has at which the sound is decoded."""

@@ -18,23 +18,18 @@ from pathlib import Path
 import numpy as np
 
 from cuts import crossfades, masters, times
-from cuts.continuing import LINK, Field, Modulated
+from cuts.continuing import Modulated
 from cuts.crossfades import Crossfade, Sounds, above, even_middle, wrapped
 from cuts.crossfades import SETTLED as EVEN
 from cuts.errors import sounds
 from cuts.hearing import hearing_of, let_in
+from cuts.joints import Joint, bumps, joined, kinds_for, moments, settled
 from cuts.projects import Project
 from cuts.seams import Seam
 from cuts.takes import Signals
 from dsdarc_scripts.outputs import Refused
 from modulator import modulators
 
-TRIED = 8  # modulators of each direction, twice as many where there are few places
-PLACES = 8_000  # around the middle at which both may meet
-TRIES = 3  # of a channel, until next to no moment is left and no more is heard than a modulator's noise
-SETTLED = 0.005  # of a first moment
-NOISE = 1.5e-6  # the peak of such noise
-APART = 33  # between the seeds of tries
 DOWN = 240  # dB: what a low-pass leaves of the sound in the errors adds to their moments
 
 # How much of a fade the ramp takes, and how far its middle may move from the wished place: what is tried in turn.
@@ -100,11 +95,6 @@ class Fade:
     crossfade: Crossfade
     bumps: list[float]
     doubt: float
-
-
-def moments(errors: np.ndarray, first: int) -> np.ndarray:
-    """Sum and first moment of each row, the first place being at `first`."""
-    return np.stack([errors.sum(axis=-1), errors @ (first + np.arange(errors.shape[-1]))])
 
 
 def sound_of(take: Signals, first: int, stop: int) -> np.ndarray:
@@ -222,51 +212,6 @@ def planned(before: Signals, after: Signals, wish: Wish) -> Plan:
     return min(found, key=lambda it: it.worst)
 
 
-def bumps(length: int) -> tuple[np.ndarray, np.ndarray]:
-    """A bump with the sum 1, and its slope with the first moment 1, both about the middle."""
-    place = np.arange(length) - length // 2
-    bump = 1 + np.cos(2 * np.pi * place / (length + 1))
-    slope = np.sin(2 * np.pi * place / (length + 1))
-    return bump / bump.sum(), slope / (slope @ place)
-
-
-@dataclass(frozen=True)
-class Joint:
-    """The signs of one channel of a fade; how much is heard of where its halves meet, and what is left of the first
-    moment there."""
-
-    signs: np.ndarray
-    heard: float
-    moment: float
-
-
-def joined(program: Path, modulator: modulators.Modulator, rate: int, known: tuple, seed: int) -> Joint:
-    """Bits of a sound that go on from the errors before, up to a place at which they meet bits that lead up to the
-    errors after."""
-    before, sound, after = known
-    length = len(sound)
-    first = max(length // 2 - PLACES // 2, length // 8)
-    field = Field(rate, first, length - first)
-    by = Modulated(program, modulator, rate)
-    pasts = by.past_of(before), by.past_of(after[::-1])
-    parts = sound[: field.stop], sound[first:][::-1]
-    times = TRIED if field.stop - first > PLACES // 2 else 2 * TRIED
-    fronts, rears = (by.continued(*it, seed + 1 + number, times) for number, it in enumerate(zip(pasts, parts)))
-    rears = rears[:, ::-1]
-    ends = field.fronts(before, fronts - parts[0]), field.rears(rears - sound[first:], after)
-    found = field.quietest((fronts, ends[0]), (rears, ends[1]))
-    ahead, following = fronts[found.front, : found.place], rears[found.rear, found.place - first :]
-    signs = np.concatenate([ahead[: -(LINK // 2)], found.link, following[LINK // 2 :]])
-    return Joint(signs, found.heard, found.moment)
-
-
-def kinds_for(rate: int) -> list[modulators.Modulator]:
-    """Modulators to be tried, the quietest first, and such that stay stable for louder sounds, to 0.8 of full scale."""
-    usual = modulators.modulator_for(rate)
-    louder = ((usual.order, 1.3), (5, 1.3), (4, 1.3))
-    return [usual, *(modulators.Modulator(order, gain, usual.dither) for order, gain in dict.fromkeys(louder))]
-
-
 def made_by(program: Path, plan: Plan, seed: int) -> Fade:
     """The fade of a plan."""
     around, wish = plan.around, plan.around.wish
@@ -276,32 +221,23 @@ def made_by(program: Path, plan: Plan, seed: int) -> Fade:
     for channel, (row, shared) in enumerate(zip(sound, around.shared(plan.moved))):
         known = around.before[channel], row, later[channel]
         is_shared = shared.any()
-        made = None if is_shared else settled(program, around.rate, known, float(moment[channel]), seed + 100 * channel)
+
+        def join(sound: np.ndarray, number: int) -> Joint:
+            return stable(program, around.rate, (known[0], sound, known[2]), number)
+
+        made = None if is_shared else settled(join, row, float(moment[channel]), seed + 100 * channel)
         rows.append(shared if is_shared else made)
     sizes = [abs(it) * bump.max() if abs(it) >= EVEN else 0.0 for it in plan.missing]
     return Fade(around.stop, around.start + plan.moved, np.stack(rows), plan.crossfade, sizes, wish.doubt)
 
 
-def settled(program: Path, rate: int, known: tuple, moment: float, seed: int) -> np.ndarray:
-    """The signs of a channel, whose sound has a slope that takes up the first moment. What a modulator leaves at very
-    low frequencies has a moment too, which is seen where both halves meet, and taken up in the next try."""
-    before, sound, after = known
-    slope, found = bumps(len(sound))[1], []
-    for number in range(TRIES):
-        row = sound + moment * slope
-        joint = stable(program, rate, (before, row, after), seed + number * APART)
-        found.append((joint.heard, number, joint.signs))
-        if abs(joint.moment) < SETTLED and joint.heard < NOISE:
-            break
-        moment += joint.moment
-    return min(found, key=lambda it: it[:2])[2]
-
-
 def stable(program: Path, rate: int, known: tuple, seed: int) -> Joint:
     """What is joined by the first modulator that is stable."""
+    before, sound, after = known
     for modulator in kinds_for(rate):
+        by = Modulated(program, modulator, rate)
         try:
-            return joined(program, modulator, rate, known, seed)
+            return joined(by, (by.past_of(before), by.past_of(after[::-1])), known, seed)
         except modulators.Unstable:
             continue
     raise NotStable("no modulator is stable for the sound of this fade: it is too loud")

@@ -8,6 +8,7 @@ import numpy as np
 from cuts.crossfades import shares
 
 FULL = 1 << 24  # a gain of 1
+ROUNDED = 1e-6  # of a gain's last digit: what floating point may lose
 LINES = 1024  # straight lines that a curve has at most: it is less than 2^-21 off then
 
 Points = list[tuple[int, int]]  # places and gains
@@ -49,6 +50,14 @@ def gain_at(points: Points, place: int) -> int:
         return before[-1][1] if before else after[0][1]
     (one, low), (other, high) = before[-1], after[0]
     return low + (high - low) * (place - one) // (other - one)
+
+
+def gain_row(points: Points, first: int, stop: int) -> np.ndarray:
+    """The gain of a clip from one of its places to another; 1 is full."""
+    if not points:
+        return np.ones(stop - first)
+    places, values = zip(*points)
+    return np.floor(np.interp(np.arange(first, stop), places, values) + ROUNDED) / FULL
 
 
 def counted_from(points: Points, first: int, stop: int) -> Points:

@@ -8,22 +8,11 @@ import numpy as np
 
 from cuts import hearing
 from cuts.clips import Clip, span_of
-from cuts.gains import FULL, Points
+from cuts.gains import gain_row
 from cuts.hearing import decibels
 from cuts.masters import Planned
 from cuts.mixes import Mix
 from cuts.projects import Project, Spot
-
-ROUNDED = 1e-6  # of a gain's last digit: what floating point may lose
-
-
-def gain_row(points: Points, first: int, stop: int) -> np.ndarray:
-    """The gain of a clip from one of its places to another."""
-    if not points:
-        return np.ones(stop - first)
-    places, values = zip(*points)
-    return np.floor(np.interp(np.arange(first, stop), places, values) + ROUNDED) / FULL
-
 
 class Cut(Planned):
     """The planned master with the bits of bridges that go in a line."""

@@ -1,10 +1,12 @@
 // A delta-sigma modulator of one bit:
-//     modulate ORDER A1..An B1..Bn DITHER SEED BYTES [TIMES STEP | RATE HERTZ AMPLITUDE]
+//     modulate ORDER A1..An B1..Bn DITHER SEED BYTES [END | TIMES STEP | RATE HERTZ AMPLITUDE]
 // The noise transfer is (1 + sum B z^-i) / (1 + sum A z^-i), the signal transfer is 1. The signal is a sine, or without
 // one what standard input has: 64-bit floats as the machine has them, first the errors of the ORDER steps before, the
 // newest first, then the same after the noise transfer, and then the signal, one for each bit. Writes BYTES bytes to
 // standard output, the earliest bit as the most significant, and to standard error the largest magnitude before the
-// quantizer. With TIMES the same is done that many times, each time with a seed that is larger by STEP.
+// quantizer. With END, which is any word, it writes after the bytes the errors as the signal has them before it, with
+// which the next part of a signal goes on. With TIMES the same is done that many times, each time with a seed that is
+// larger by STEP.
 #include <limits.h>
 #include <math.h>
 #include <stdint.h>
@@ -72,6 +74,13 @@ static int modulate_input(Modulator *m, long long bytes) {
     return 1;
 }
 
+// Writes the past with which the next bit goes on.
+static void put_past(const Modulator *m) {
+    size_t order = (size_t)m->order;
+    fwrite(m->error, sizeof(double), order, stdout);
+    fwrite(m->shaped, sizeof(double), order, stdout);
+}
+
 // The same several times, each time with a seed that is larger by a step; and whether there was memory for the samples.
 static int modulate_again(Modulator *m, long long bytes, long long times, uint64_t step) {
     if (bytes < 1 || bytes > LLONG_MAX / 64 || !read_past(m)) return 0;
@@ -105,7 +114,7 @@ int main(int count, char **arguments) {
     Modulator m = {0};
     m.order = count > 1 ? atoi(arguments[1]) : 0;
     int fixed = 2 * m.order + 5;
-    if (m.order < 1 || m.order > MOST || count < fixed || count > fixed + 3 || count == fixed + 1) return 2;
+    if (m.order < 1 || m.order > MOST || count < fixed || count > fixed + 3) return 2;
     for (int i = 0; i < m.order; i++) {
         m.a[i] = atof(arguments[2 + i]);
         m.b[i] = atof(arguments[2 + m.order + i]);
@@ -115,7 +124,8 @@ int main(int count, char **arguments) {
     m.random = strtoull(rest[1], NULL, 10);
     long long bytes = atoll(rest[2]);
     if (m.random == 0) return 2;
-    if (count == fixed && !modulate_input(&m, bytes)) return 1;
+    if (count <= fixed + 1 && !modulate_input(&m, bytes)) return 1;
+    if (count == fixed + 1) put_past(&m);
     if (count == fixed + 2 && !modulate_again(&m, bytes, atoll(rest[3]), strtoull(rest[4], NULL, 10))) return 1;
     if (count == fixed + 3) modulate_sine(&m, bytes, atof(rest[3]), atof(rest[4]), atof(rest[5]));
     fprintf(stderr, "%.3f\n", m.largest);

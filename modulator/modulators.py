@@ -119,8 +119,8 @@ def compiled(folder: Path) -> Path:
 
 
 def run(program: Path, modulator: Modulator, rate: int, arguments: list, samples: bytes = b"") -> tuple[bytes, float]:
-    """The bytes, and what entered the quantizer at most. Arguments are a seed, how many bytes, and perhaps how often
-    and by what step of the seed, or a sine."""
+    """The bytes, and what entered the quantizer at most. Arguments are a seed, how many bytes, and perhaps a word for
+    the past at the end, how often and by what step of the seed, or a sine."""
     zeros, poles = noise_transfer(modulator, rate)
     numbers = [*(repr(float(it)) for it in [*poles[1:], *zeros[1:]]), str(modulator.dither)]
     line: list[str | Path] = [program, str(modulator.order), *numbers, *(str(it) for it in arguments)]
@@ -148,3 +148,12 @@ def modulated(
     before = np.zeros(2 * modulator.order) if state is None else state
     numbers = np.concatenate([before, samples]).tobytes()
     return run(program, modulator, rate, [seed, len(samples) // 8, *again], numbers)[0]
+
+
+def modulated_on(
+    program: Path, modulator: Modulator, rate: int, samples: np.ndarray, seed: int, state: np.ndarray
+) -> tuple[bytes, np.ndarray]:
+    """The bits of a part of a signal as `modulated` gives them, and the state with which the next part goes on."""
+    numbers, count = np.concatenate([state, samples]).tobytes(), len(samples) // 8
+    data = run(program, modulator, rate, [seed, count, "end"], numbers)[0]
+    return data[:count], np.frombuffer(data[count:], np.float64)

@@ -1,0 +1,81 @@
+"""New bits of a sound that join what is before and what is after without a click.
+
+From what is before a modulator goes on, and another leads up to what is after (`continuing`). Somewhere both meet:
+several of each are tried, and all places near the middle, and where a few newly chosen bits join them best the one is
+cut to the other."""
+from collections.abc import Callable
+from dataclasses import dataclass
+
+import numpy as np
+
+from cuts.continuing import LINK, Field, Modulated
+from modulator import modulators
+
+TRIED = 8  # modulators of each direction, twice as many where there are few places
+PLACES = 8_000  # around the middle at which both may meet
+TRIES = 3  # of a channel, until next to no moment is left and no more is heard than a modulator's noise
+SETTLED = 0.005  # of a first moment
+NOISE = 1.5e-6  # the peak of such noise
+APART = 33  # between the seeds of tries
+
+
+def moments(errors: np.ndarray, first: int) -> np.ndarray:
+    """Sum and first moment of each row, the first place being at `first`."""
+    return np.stack([errors.sum(axis=-1), errors @ (first + np.arange(errors.shape[-1]))])
+
+
+def bumps(length: int) -> tuple[np.ndarray, np.ndarray]:
+    """A bump with the sum 1, and its slope with the first moment 1, both about the middle."""
+    place = np.arange(length) - length // 2
+    bump = 1 + np.cos(2 * np.pi * place / (length + 1))
+    slope = np.sin(2 * np.pi * place / (length + 1))
+    return bump / bump.sum(), slope / (slope @ place)
+
+
+@dataclass(frozen=True)
+class Joint:
+    """The signs of one channel; how much is heard of where its halves meet, and what is left of the first moment
+    there."""
+
+    signs: np.ndarray
+    heard: float
+    moment: float
+
+
+def joined(by: Modulated, pasts: tuple[np.ndarray, np.ndarray], known: tuple, seed: int) -> Joint:
+    """Bits of a sound that go on from the errors before, up to a place at which they meet bits that lead up to the
+    errors after. `pasts` are those of the modulator at both ends."""
+    before, sound, after = known
+    length = len(sound)
+    first = max(length // 2 - PLACES // 2, length // 8)
+    field = Field(by.rate, first, length - first)
+    parts = sound[: field.stop], sound[first:][::-1]
+    times = TRIED if field.stop - first > PLACES // 2 else 2 * TRIED
+    fronts, rears = (by.continued(*it, seed + 1 + number, times) for number, it in enumerate(zip(pasts, parts)))
+    rears = rears[:, ::-1]
+    ends = field.fronts(before, fronts - parts[0]), field.rears(rears - sound[first:], after)
+    found = field.quietest((fronts, ends[0]), (rears, ends[1]))
+    ahead, following = fronts[found.front, : found.place], rears[found.rear, found.place - first :]
+    signs = np.concatenate([ahead[: -(LINK // 2)], found.link, following[LINK // 2 :]])
+    return Joint(signs, found.heard, found.moment)
+
+
+def kinds_for(rate: int) -> list[modulators.Modulator]:
+    """Modulators to be tried, the quietest first, and such that stay stable for louder sounds, to 0.8 of full scale."""
+    usual = modulators.modulator_for(rate)
+    louder = ((usual.order, 1.3), (5, 1.3), (4, 1.3))
+    return [usual, *(modulators.Modulator(order, gain, usual.dither) for order, gain in dict.fromkeys(louder))]
+
+
+def settled(join: Callable[[np.ndarray, int], Joint], sound: np.ndarray, moment: float, seed: int) -> np.ndarray:
+    """The signs of a channel, whose sound has a slope that takes up the first moment. What a modulator leaves at very
+    low frequencies has a moment too, which is seen where both halves meet, and taken up in the next try. `join` makes
+    bits of a sound by a seed."""
+    slope, found = bumps(len(sound))[1], []
+    for number in range(TRIES):
+        joint = join(sound + moment * slope, seed + number * APART)
+        found.append((joint.heard, number, joint.signs))
+        if abs(joint.moment) < SETTLED and joint.heard < NOISE:
+            break
+        moment += joint.moment
+    return min(found, key=lambda it: it[:2])[2]

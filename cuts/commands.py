@@ -24,10 +24,10 @@ def usual(parser: argparse.ArgumentParser) -> None:
     parser.add_argument("--keep-going", action="store_true", help=going)
 
 
-def parsed(parser: argparse.ArgumentParser) -> argparse.Namespace:
-    """What is asked for, with the name of the take of seams."""
+def parsed(parser: argparse.ArgumentParser, kind: str = "seams") -> argparse.Namespace:
+    """What is asked for, with the name of the take that is written: of seams, or of another kind."""
     asked = parser.parse_args()
-    asked.take = asked.take or Path(f"{os.path.splitext(asked.output)[0]}.seams.dff")
+    asked.take = asked.take or Path(f"{os.path.splitext(asked.output)[0]}.{kind}.dff")
     try:
         str(asked.take).encode()
     except UnicodeEncodeError:

@@ -1,0 +1,191 @@
+"""What a mix says of each channel, from place to place: where one clip is heard alone at full gain, and why it isn't.
+
+Where it is, the master has the bits of the clip's take. In a long pause it has a silent pattern. All else is new."""
+import itertools
+from collections.abc import Iterator
+from dataclasses import dataclass
+
+import numpy as np
+
+from cuts import gains
+from cuts.gains import FULL, Points
+from cuts.sounding import Sounding, Way, way_of
+from tools.null_testing.mixes import Clip
+
+ALIKE = 1e-6  # of full scale: gains that add up to 1
+SILENCE = "silence"
+
+
+@dataclass(frozen=True)
+class Part:
+    """Places of a channel from `first` on and before `stop`. `way` is that of the take whose own bits have this sound,
+    else None, and `why` says what it is instead."""
+
+    first: int
+    stop: int
+    way: Way | None
+    why: str
+
+
+def pieces(points: Points, length: int) -> Iterator[tuple[int, int, int | None]]:
+    """The places of a clip from one to another, with the gain there, None if it changes; those of no gain are left
+    out."""
+    if not points:
+        yield 0, length, FULL
+        return
+    rows: list[tuple[int, int, int | None]] = [(0, points[0][0], points[0][1])]
+    for (first, one), (stop, other) in itertools.pairwise(points):
+        # At the first of its points a line has the gain of that point.
+        level = one if one == other or stop == first + 1 else None
+        rows += [(first, stop, level)] if level is not None else [(first, first + 1, one), (first + 1, stop, None)]
+    rows.append((points[-1][0], length, points[-1][1]))
+    for first, stop, gain in rows:
+        if first < min(stop, length) and gain != 0:
+            yield first, min(stop, length), gain
+
+
+def joined_pieces(points: Points, length: int) -> list[tuple[int, int, int | None]]:
+    """The same, those that are alike and follow each other as one."""
+    found: list[tuple[int, int, int | None]] = []
+    for first, stop, gain in pieces(points, length):
+        if found and found[-1][1] == first and found[-1][2] == gain:
+            found[-1] = found[-1][0], stop, gain
+        else:
+            found.append((first, stop, gain))
+    return found
+
+
+def is_whole(sounding: Sounding, channel: int, clips: list[Clip], first: int, stop: int) -> bool:
+    """Whether the gains of clips add up to 1 at all places: they are straight lines between their points."""
+    places = {first, stop - 1}
+    for clip in clips:
+        places |= {it + clip.at for it, _ in clip.points(channel) if first <= it + clip.at < stop}
+    for place in places:
+        parts = (gains.gain_at(it.points(channel), place - it.at) if it.points(channel) else FULL for it in clips)
+        total = sum(gain / FULL * sounding.total(it) for gain, it in zip(parts, clips))
+        if abs(total - 1) > ALIKE:
+            return False
+    return True
+
+
+def part_of(sounding: Sounding, channel: int, first: int, stop: int, heard: dict[int, int | None]) -> Part:
+    """What is heard between two places at which something changes."""
+    clips, changes = [sounding.mix.clips[it] for it in heard], None in heard.values()
+    ways = {way_of(it) for it in clips}
+    if not clips:
+        return Part(first, stop, None, SILENCE)
+    if len(ways) > 1:
+        return Part(first, stop, None, "crossfade" if changes else "overlap")
+    if is_whole(sounding, channel, clips, first, stop):
+        return Part(first, stop, ways.pop(), "")
+    return Part(first, stop, None, "fade" if changes else "level")
+
+
+def parts_of(sounding: Sounding, channel: int) -> list[Part]:
+    """The parts of a channel of the mix, in their order."""
+    changes: list[tuple[int, int, int, int | None]] = []
+    for number, clip in enumerate(sounding.mix.clips):
+        for first, stop, gain in joined_pieces(clip.points(channel), clip.length):
+            changes += [(clip.at + first, 1, number, gain), (clip.at + stop, 0, number, gain)]
+    changes.sort(key=lambda it: it[:3])
+    found, heard, place = list[Part](), dict[int, int | None](), 0
+    for at, is_begun, number, gain in [*changes, (sounding.length, 0, -1, None)]:
+        if at > place:
+            found.append(part_of(sounding, channel, place, at, heard))
+            place = at
+        if is_begun:
+            heard[number] = gain
+        else:
+            heard.pop(number, None)
+    return found
+
+
+# What of that the master has as it is: `Kept`. Between two of these all is new.
+
+
+@dataclass(frozen=True)
+class Kept:
+    """Places of a channel with bits that are known: those of a take, or if there is no way of a silent pattern."""
+
+    first: int
+    stop: int
+    way: Way | None
+
+    @property
+    def length(self) -> int:
+        return self.stop - self.first
+
+
+def takes_own(parts: list[Part]) -> list[Kept]:
+    """Where a take's own bits have the sound."""
+    found: list[Kept] = []
+    for it in parts:
+        if it.way is None:
+            continue
+        if found and found[-1].stop == it.first and found[-1].way == it.way:
+            found[-1] = Kept(found[-1].first, it.stop, it.way)
+        else:
+            found.append(Kept(it.first, it.stop, it.way))
+    return found
+
+
+def silences(parts: list[Part], margin: int, least: int) -> list[Kept]:
+    """Where there is silence for long, less a margin on both sides, whose bits are new; whole bytes of the pattern."""
+    found = []
+    for it in parts:
+        first, stop = it.first + margin, it.stop - margin
+        stop -= (stop - first) % 8
+        if it.why == SILENCE and stop - first >= least:
+            found.append(Kept(first, stop, None))
+    return found
+
+
+def shrunk(kept: list[Kept], margin: int, least: int, length: int) -> list[Kept]:
+    """The same without a margin where new bits are before or after; none that is too short then."""
+    found = []
+    for it in kept:
+        more = margin if it.way is not None else 0
+        first = it.first + (more if it.first > 0 else 0)
+        stop = it.stop - (more if it.stop < length else 0)
+        if stop - first >= least:
+            found.append(Kept(first, stop, it.way))
+    return found
+
+
+@dataclass(frozen=True)
+class Gap:
+    """New places of a channel between what is kept, or the ends of the master."""
+
+    first: int
+    stop: int
+    before: Kept | None
+    after: Kept | None
+
+    @property
+    def length(self) -> int:
+        return self.stop - self.first
+
+
+def gaps_of(kept: list[Kept], length: int) -> list[Gap]:
+    """The new places."""
+    found = []
+    for before, after in itertools.pairwise([None, *kept, None]):
+        first, stop = before.stop if before else 0, after.first if after else length
+        if first < stop:
+            found.append(Gap(first, stop, before, after))
+    return found
+
+
+def reasons(parts: list[Part], first: int, stop: int) -> list[str]:
+    """Why places are new: what is said of those that aren't a take's own, and whether a take follows another at once."""
+    found = dict.fromkeys(it.why for it in parts if it.way is None and it.first < stop and first < it.stop)
+    for one, other in itertools.pairwise(parts):
+        if one.way and other.way and one.way != other.way and first < other.first < stop:
+            found["cut"] = None
+    return list(found)
+
+
+def pattern(first: int, stop: int, start: int) -> np.ndarray:
+    """The signs of the silent pattern that begins at a place, at places from one to another."""
+    bits = np.unpackbits(np.array([0x69], np.uint8)) * 2.0 - 1.0
+    return np.resize(np.roll(bits, -((first - start) % 8)), stop - first)

@@ -67,7 +67,7 @@ def title_of(value: str, where: str) -> str:
         found = {}
     title = found.get("title")
     if set(found) != {"title"} or not isinstance(title, str):
-        raise Refused(f"{where}: a title is a text such as # title = \"Second song\"")
+        raise Refused(f'{where}: a title is a text such as # title = "Second song"')
     if len(title.encode()) > MOST_TITLE:
         raise Refused(f"{where}: a title has at most {MOST_TITLE} bytes")
     return title

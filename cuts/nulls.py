@@ -14,6 +14,7 @@ from cuts.masters import Planned
 from cuts.mixes import Mix
 from cuts.projects import Project, Spot
 
+
 class Cut(Planned):
     """The planned master with the bits of bridges that go in a line."""
 

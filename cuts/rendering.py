@@ -18,7 +18,7 @@ from cuts import hearing
 from cuts.continuing import Modulated
 from cuts.crossfades import wrapped
 from cuts.hearing import hearing_of, let_in
-from cuts.joints import Joint, joined, kinds_for, moments, settled
+from cuts.joints import Joint, bumps, joined, kinds_for, moments, settled
 from cuts.sounding import Sounding, signs_of
 from cuts.stretches import Gap, Kept, pattern
 from modulator import modulators
@@ -228,7 +228,10 @@ class Rendering:
             return alone[: len(sound)]
         before, half = front.known(), len(sound) // 2
         known = moments(before, -half - len(before)) + moments(after, len(sound) - half)
-        owed = known + moments(np.ones(len(sound)), -half) - moments(sound, -half)
+        known += moments(np.ones(len(sound)), -half)
+        # A modulator's own rounding is heard nowhere, but adds up to a small sum over some hundred thousand places.
+        sound = sound + wrapped(known - moments(sound, -half))[0] * bumps(len(sound))[0]
+        moment = float(wrapped(known - moments(sound, -half))[1])
         seed = seeded(channel, stop) % (1 << 62)
 
         def join(row: np.ndarray, number: int) -> Joint:
@@ -240,7 +243,7 @@ class Rendering:
                     continue
             raise TooLoud(channel, stop - len(sound), stop)
 
-        return settled(join, sound, float(wrapped(owed)[1]), seed)
+        return settled(join, sound, moment, seed)
 
     # What is left.
 

@@ -14,7 +14,7 @@ import tomlkit
 
 from cuts.hearing import decibels, hearing_of
 from cuts.rendering import SECTION, Made, Rendering
-from cuts.sounding import Sounding, Way
+from cuts.sounding import Way
 from cuts.stretches import Gap, Kept, Part, gaps_of, parts_of, reasons, shrunk, silences, takes_own
 from cuts.times import clock
 from dsdarc_scripts import dsdiffs
@@ -220,7 +220,8 @@ class Render:
     def write_channel(self, writer: Writer, number: int, cue: Cue) -> Report | None:
         """Writes a channel of a cue."""
         channel, made = self.channels[number], list[Made]()
-        for it in sorted([*channel.kept, *channel.gaps], key=lambda it: it.first):
+        rows: list[Kept | Gap] = [*channel.kept, *channel.gaps]
+        for it in sorted(rows, key=lambda it: it.first):
             low, high = max(it.first, cue.first), min(it.stop, cue.stop)
             if low >= high:
                 continue

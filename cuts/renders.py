@@ -121,7 +121,7 @@ def cues_of(channels: list[Channel], rate: int, length: int, most: int) -> list[
         own = [(it.first, it.stop, it.way) for it in channel.kept if it.way is not None]
         spans = own if spans is None else both(spans, own)
     assert spans is not None
-    spans = [it for it in spans if it[1] - it[0] >= CUE * rate]
+    spans = [it for it in spans if it[1] - it[0] >= min(CUE * rate, length)]
     while len(found := with_new(spans, length)) > most:
         spans.remove(min(spans, key=lambda it: it[1] - it[0]))
     return found

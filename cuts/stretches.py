@@ -14,6 +14,7 @@ from tools.null_testing.mixes import Clip
 
 ALIKE = 1e-6  # of full scale: gains that add up to 1
 SILENCE = "silence"
+LITTLE = 64  # places: what is said of fewer, such as of the first one of a fade from silence, isn't told
 
 
 @dataclass(frozen=True)
@@ -141,13 +142,13 @@ def silences(parts: list[Part], margin: int, least: int) -> list[Kept]:
 
 
 def shrunk(kept: list[Kept], margin: int, least: int, length: int) -> list[Kept]:
-    """The same without a margin where new bits are before or after; none that is too short then."""
+    """The same without a margin where new bits are before or after; none that is too short then, unless it is all."""
     found = []
     for it in kept:
         more = margin if it.way is not None else 0
         first = it.first + (more if it.first > 0 else 0)
         stop = it.stop - (more if it.stop < length else 0)
-        if stop - first >= least:
+        if stop - first >= min(least, length):
             found.append(Kept(first, stop, it.way))
     return found
 
@@ -178,7 +179,8 @@ def gaps_of(kept: list[Kept], length: int) -> list[Gap]:
 
 def reasons(parts: list[Part], first: int, stop: int) -> list[str]:
     """Why places are new: what is said of those that aren't a take's own, and whether a take follows another at once."""
-    found = dict.fromkeys(it.why for it in parts if it.way is None and it.first < stop and first < it.stop)
+    new = [it for it in parts if it.way is None and it.first < stop and first < it.stop]
+    found = dict.fromkeys(it.why for it in new if it.stop - it.first >= LITTLE or len(new) == 1)
     for one, other in itertools.pairwise(parts):
         if one.way and other.way and one.way != other.way and first < other.first < stop:
             found["cut"] = None

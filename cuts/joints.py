@@ -42,15 +42,16 @@ class Joint:
     moment: float
 
 
-def joined(by: Modulated, pasts: tuple[np.ndarray, np.ndarray], known: tuple, seed: int) -> Joint:
+def joined(by: Modulated, pasts: tuple[np.ndarray, np.ndarray], known: tuple, seed: int, tried: int = TRIED) -> Joint:
     """Bits of a sound that go on from the errors before, up to a place at which they meet bits that lead up to the
-    errors after. `pasts` are those of the modulator at both ends."""
+    errors after. `pasts` are those of the modulator at both ends, and `tried` is how many there are of each direction.
+    """
     before, sound, after = known
     length = len(sound)
     first = max(length // 2 - PLACES // 2, length // 8)
     field = Field(by.rate, first, length - first)
     parts = sound[: field.stop], sound[first:][::-1]
-    times = TRIED if field.stop - first > PLACES // 2 else 2 * TRIED
+    times = tried if field.stop - first > PLACES // 2 else 2 * tried
     fronts, rears = (by.continued(*it, seed + 1 + number, times) for number, it in enumerate(zip(pasts, parts)))
     rears = rears[:, ::-1]
     ends = field.fronts(before, fronts - parts[0]), field.rears(rears - sound[first:], after)
@@ -67,15 +68,17 @@ def kinds_for(rate: int) -> list[modulators.Modulator]:
     return [usual, *(modulators.Modulator(order, gain, usual.dither) for order, gain in dict.fromkeys(louder))]
 
 
-def settled(join: Callable[[np.ndarray, int], Joint], sound: np.ndarray, moment: float, seed: int) -> np.ndarray:
+def settled(
+    join: Callable[[np.ndarray, int], Joint], sound: np.ndarray, moment: float, seed: int, enough: float = NOISE
+) -> np.ndarray:
     """The signs of a channel, whose sound has a slope that takes up the first moment. What a modulator leaves at very
     low frequencies has a moment too, which is seen where both halves meet, and taken up in the next try. `join` makes
-    bits of a sound by a seed."""
+    bits of a sound by a seed; those of which no more than `enough` is heard will do."""
     slope, found = bumps(len(sound))[1], []
     for number in range(TRIES):
         joint = join(sound + moment * slope, seed + number * APART)
         found.append((joint.heard, number, joint.signs))
-        if abs(joint.moment) < SETTLED and joint.heard < NOISE:
+        if abs(joint.moment) < SETTLED and joint.heard < enough:
             break
         moment += joint.moment
     return min(found, key=lambda it: it[:2])[2]

@@ -18,7 +18,7 @@ from cuts import hearing
 from cuts.continuing import Modulated
 from cuts.crossfades import wrapped
 from cuts.hearing import hearing_of, let_in
-from cuts.joints import Joint, bumps, joined, kinds_for, moments, settled
+from cuts.joints import TRIED, Joint, bumps, joined, kinds_for, moments, settled
 from cuts.sounding import Sounding, signs_of
 from cuts.stretches import Gap, Kept, pattern
 from modulator import modulators
@@ -28,6 +28,8 @@ SECTION = 1 << 20  # places at the end over which a bump goes at most
 TAIL = 10e-3  # seconds at the end in which there are several modulators
 SHORTEST = 0.5e-3  # seconds: in less, what leads up to an end doesn't come apart from what goes on
 SLOPE = 5e-3  # seconds in which a bump comes and goes
+FEW = 2  # modulators of each direction, for a first try
+ENOUGH = 2e-6  # of full scale: what is heard where both directions meet
 SPREAD = 0x9E3779B97F4A7C15  # by which seeds are spread
 
 
@@ -234,16 +236,19 @@ class Rendering:
         moment = float(wrapped(known - moments(sound, -half))[1])
         seed = seeded(channel, stop) % (1 << 62)
 
-        def join(row: np.ndarray, number: int) -> Joint:
+        def join(row: np.ndarray, number: int, tried: int = TRIED) -> Joint:
             for kind in kinds_for(self.rate):
                 by = Modulated(self.program, kind, self.rate)
+                pasts = front.past(kind), by.past_of(after[::-1])
                 try:
-                    return joined(by, (front.past(kind), by.past_of(after[::-1])), (before, row, after), number)
+                    return joined(by, pasts, (before, row, after), number, tried)
                 except modulators.Unstable:
                     continue
             raise TooLoud(channel, stop - len(sound), stop)
 
-        return settled(join, sound, moment, seed)
+        # Few show what is left of the moment.
+        moment += join(sound + moment * bumps(len(sound))[1], seed + 1, FEW).moment
+        return settled(join, sound, moment, seed, ENOUGH)
 
     # What is left.
 

@@ -4,11 +4,12 @@ import numpy as np
 from cuts.hearing import decibels
 from cuts.joints import kinds_for
 from cuts.rendering import BLOCK, Rendering, TooLoud, seeded
+from cuts.renders import Render
 from cuts.times import clock
 from modulator import modulators
 
 STEP = 0.5  # dB
-MOST = 40.0  # dB
+MOST = 60.0  # dB
 
 
 def is_held(rendering: Rendering, sound: np.ndarray) -> bool:
@@ -28,17 +29,23 @@ def less(rendering: Rendering, sound: np.ndarray) -> float:
     return next((it for it in np.arange(STEP, MOST, STEP) if is_held(rendering, sound * 10 ** (-it / 20))), MOST)
 
 
-def loudest(rendering: Rendering, error: TooLoud) -> tuple[int, float]:
-    """The place at which the sound of a channel is loudest, and how loud it is there."""
-    sound = np.abs(rendering.sounding.sound(error.channel, error.first, error.stop))
-    return error.first + int(sound.argmax()), float(sound.max())
+def loudest(render: Render) -> tuple[float, int, int]:
+    """How loud the sound of all new places is at most, the channel and the place."""
+    found = (0.0, 0, 0)
+    for channel, plan in enumerate(render.channels):
+        for gap in plan.gaps:
+            for first in range(gap.first, gap.stop, BLOCK):
+                sound = np.abs(render.sounding.sound(channel, first, min(first + BLOCK, gap.stop)))
+                found = max(found, (float(sound.max()), channel, first + int(sound.argmax())))
+    return found
 
 
-def refusal(rendering: Rendering, error: TooLoud) -> str:
-    """The line of a fault: where it is too loud, and how many dB less would do."""
-    place, level = loudest(rendering, error)
-    around = max(place - BLOCK // 2, 0), min(place + BLOCK // 2, rendering.sounding.length)
-    more = less(rendering, rendering.sounding.sound(error.channel, *around))
-    where = f"at {clock(place, rendering.rate)} (bit {place}) in channel {error.channel}"
+def refusal(render: Render, error: TooLoud) -> str:
+    """The line of a fault: where the mix is loudest, and how many dB less would do there, and where it was too loud."""
+    level, channel, place = loudest(render)
+    around = max(place - BLOCK // 2, 0), min(place + BLOCK // 2, render.length)
+    spans = (channel, *around), (error.channel, error.first, error.stop)
+    more = max(less(render.rendering, render.sounding.sound(*it)) for it in spans)
+    where = f"at {clock(place, render.rate)} (bit {place}) in channel {channel}"
     peak = f"the mix has a peak of {decibels(level):.1f} dB to full scale {where}"
-    return f"{peak}, and no modulator holds it: {more:g} dB less would do there"
+    return f"{peak}, and no modulator holds it from {clock(error.first, render.rate)} on: {more:g} dB less would do"

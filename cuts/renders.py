@@ -189,6 +189,8 @@ class Render:
     def __init__(self, rendering: Rendering, titles: list[tuple[int, str]]) -> None:
         self.rendering, self.sounding, self.titles = rendering, rendering.sounding, titles
         self.rate, self.count, self.length = rendering.rate, self.sounding.count, self.sounding.length
+        if len(titles) >= MOST_CUES:
+            raise Refused(f"the mix has {len(titles)} titles: there is room for {MOST_CUES - 1}")
         self.channels = [planned(rendering, it) for it in range(self.count)]
         self.cues = cues_of(self.channels, self.rate, self.length, MOST_CUES - len(titles))
         self.new = [it for it in self.cues if it.way is None]

@@ -13,6 +13,7 @@ from cuts.sounding import Sounding, Way, way_of
 from tools.null_testing.mixes import Clip
 
 ALIKE = 1e-6  # of full scale: gains that add up to 1
+NEARLY = 1e-2  # of full scale: by how much the decoders of clips at full gain may be louder or softer
 SILENCE = "silence"
 LITTLE = 64  # places: what is said of fewer, such as of the first one of a fade from silence, isn't told
 
@@ -77,7 +78,8 @@ def part_of(sounding: Sounding, channel: int, first: int, stop: int, heard: dict
         return Part(first, stop, None, SILENCE)
     if len(ways) > 1:
         return Part(first, stop, None, "crossfade" if changes else "overlap")
-    if is_whole(sounding, channel, clips, first, stop):
+    is_full = set(heard.values()) == {FULL} and abs(sum(map(sounding.total, clips)) - 1) < NEARLY
+    if is_full or is_whole(sounding, channel, clips, first, stop):
         return Part(first, stop, ways.pop(), "")
     return Part(first, stop, None, "fade" if changes else "level")
 

@@ -162,12 +162,16 @@ class Rendering:
         return signs_of(self.sounding.takes[take], channel, first + offset, stop + offset)
 
     def kept_errors(self, kept: Kept | None, channel: int, place: int, first: int, stop: int) -> np.ndarray:
-        """The errors of what is kept, near a place of it; none at the ends of the master."""
+        """The errors of what is kept, near a place of it; none outside of the master, where they end slowly."""
         if kept is None:
             return np.zeros(stop - first)
         if kept.way is None:
             return pattern(first, stop, kept.first)
-        return self.sounding.errors(kept.way, channel, place, first, stop)
+        low, high = max(first, 0), min(stop, self.sounding.length)
+        found = self.sounding.errors(kept.way, channel, place, low, high)
+        found = let_in(found, self.rate, high - low) if first < low else found
+        found = let_in(found[::-1], self.rate, high - low)[::-1] if high < stop else found
+        return np.pad(found, (low - first, stop - high))
 
     def before(self, gap: Gap, channel: int) -> np.ndarray:
         """The errors before new places."""

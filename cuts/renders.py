@@ -6,7 +6,7 @@ a channel that keeps a take's bits, while others don't, has a copy of them in th
 import os
 from bisect import bisect_right
 from collections.abc import Iterator
-from dataclasses import dataclass
+from dataclasses import dataclass, replace
 from typing import BinaryIO
 
 import numpy as np
@@ -46,16 +46,16 @@ def spread(rendering: Rendering, channel: int, kept: list[Kept], least: int) -> 
         late = min(rooms[1], wanted - early)
         if gap.before is not None and early > 0:
             one = found[numbers[gap.before]]
-            found[numbers[gap.before]] = Kept(one.first, one.stop - early, one.way)
+            found[numbers[gap.before]] = replace(one, stop=one.stop - early)
         if gap.after is not None and late > 0:
             one = found[numbers[gap.after]]
-            found[numbers[gap.after]] = Kept(one.first + late, one.stop, one.way)
+            found[numbers[gap.after]] = replace(one, first=one.first + late)
     return found
 
 
 def room_of(kept: Kept | None, gaps: list[Gap], least: int, most: int) -> int:
     """How many bits of what is kept may give way on one side."""
-    if kept is None:
+    if kept is None or kept.raw:
         return 0
     sides = sum(kept in (it.before, it.after) for it in gaps)
     return max(min((kept.length - least) // max(sides, 1), most), 0)

@@ -21,12 +21,13 @@ LITTLE = 64  # places: what is said of fewer, such as of the first one of a fade
 @dataclass(frozen=True)
 class Part:
     """Places of a channel from `first` on and before `stop`. `way` is that of the take whose own bits have this sound,
-    else None, and `why` says what it is instead."""
+    else None, and `why` says what it is instead. The bits themselves are part of a sound that is raw."""
 
     first: int
     stop: int
     way: Way | None
     why: str
+    is_raw: bool = False
 
 
 def pieces(points: Points, length: int) -> Iterator[tuple[int, int, int | None]]:
@@ -80,7 +81,7 @@ def part_of(sounding: Sounding, channel: int, first: int, stop: int, heard: dict
         return Part(first, stop, None, "crossfade" if changes else "overlap")
     is_full = set(heard.values()) == {FULL} and abs(sum(map(sounding.total, clips)) - 1) < NEARLY
     if is_full or is_whole(sounding, channel, clips, first, stop):
-        return Part(first, stop, ways.pop(), "")
+        return Part(first, stop, ways.pop(), "", any(len(sounding.decoders[it.decoder]) == 1 for it in clips))
     return Part(first, stop, None, "fade" if changes else "level")
 
 
@@ -108,11 +109,13 @@ def parts_of(sounding: Sounding, channel: int) -> list[Part]:
 
 @dataclass(frozen=True)
 class Kept:
-    """Places of a channel with bits that are known: those of a take, or if there is no way of a silent pattern."""
+    """Places of a channel with bits that are known: those of a take, or if there is no way of a silent pattern. No new
+    bits can have the sound from the first of some `raw` places to the last."""
 
     first: int
     stop: int
     way: Way | None
+    raw: tuple[int, int] | None = None
 
     @property
     def length(self) -> int:
@@ -125,10 +128,13 @@ def takes_own(parts: list[Part]) -> list[Kept]:
     for it in parts:
         if it.way is None:
             continue
+        raw = (it.first, it.stop) if it.is_raw else None
         if found and found[-1].stop == it.first and found[-1].way == it.way:
-            found[-1] = Kept(found[-1].first, it.stop, it.way)
+            last = found.pop()
+            raw = (last.raw[0], raw[1] if raw else last.raw[1]) if last.raw else raw
+            found.append(Kept(last.first, it.stop, it.way, raw))
         else:
-            found.append(Kept(it.first, it.stop, it.way))
+            found.append(Kept(it.first, it.stop, it.way, raw))
     return found
 
 
@@ -150,8 +156,10 @@ def shrunk(kept: list[Kept], margin: int, least: int, length: int) -> list[Kept]
         more = margin if it.way is not None else 0
         first = it.first + (more if it.first > 0 else 0)
         stop = it.stop - (more if it.stop < length else 0)
-        if stop - first >= min(least, length):
-            found.append(Kept(first, stop, it.way))
+        if it.raw:
+            first, stop = min(first, it.raw[0]), max(stop, it.raw[1])
+        if it.raw or stop - first >= min(least, length):
+            found.append(Kept(first, stop, it.way, it.raw))
     return found
 
 

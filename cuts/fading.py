@@ -23,7 +23,7 @@ from cuts.crossfades import Crossfade, Sounds, above, even_middle, wrapped
 from cuts.crossfades import SETTLED as EVEN
 from cuts.errors import sounds
 from cuts.hearing import hearing_of, let_in
-from cuts.joints import Joint, bumps, joined, kinds_for, moments, settled
+from cuts.joints import Joint, Meetings, bumps, kinds_for, moments, settled
 from cuts.projects import Project
 from cuts.seams import Seam
 from cuts.takes import Signals
@@ -237,7 +237,7 @@ def stable(program: Path, rate: int, known: tuple, seed: int) -> Joint:
     for modulator in kinds_for(rate):
         by = Modulated(program, modulator, rate)
         try:
-            return joined(by, (by.past_of(before), by.past_of(after[::-1])), known, seed)
+            return Meetings(by, (by.past_of(before), by.past_of(after[::-1])), known, seed).joint()
         except modulators.Unstable:
             continue
     raise NotStable("no modulator is stable for the sound of this fade: it is too loud")

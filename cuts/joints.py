@@ -42,23 +42,36 @@ class Joint:
     moment: float
 
 
-def joined(by: Modulated, pasts: tuple[np.ndarray, np.ndarray], known: tuple, seed: int, tried: int = TRIED) -> Joint:
-    """Bits of a sound that go on from the errors before, up to a place at which they meet bits that lead up to the
-    errors after. `pasts` are those of the modulator at both ends, and `tried` is how many there are of each direction.
-    """
-    before, sound, after = known
-    length = len(sound)
-    first = max(length // 2 - PLACES // 2, length // 8)
-    field = Field(by.rate, first, length - first)
-    parts = sound[: field.stop], sound[first:][::-1]
-    times = tried if field.stop - first > PLACES // 2 else 2 * tried
-    fronts, rears = (by.continued(*it, seed + 1 + number, times) for number, it in enumerate(zip(pasts, parts)))
-    rears = rears[:, ::-1]
-    ends = field.fronts(before, fronts - parts[0]), field.rears(rears - sound[first:], after)
-    found = field.quietest((fronts, ends[0]), (rears, ends[1]))
-    ahead, following = fronts[found.front, : found.place], rears[found.rear, found.place - first :]
-    signs = np.concatenate([ahead[: -(LINK // 2)], found.link, following[LINK // 2 :]])
-    return Joint(signs, found.heard, found.moment)
+class Meetings:
+    """Some modulators that go on from the errors before and some that lead up to the errors after. `pasts` are those of
+    the modulator at both ends, and `tried` is how many there are of each direction."""
+
+    def __init__(
+        self, by: Modulated, pasts: tuple[np.ndarray, np.ndarray], known: tuple, seed: int, tried: int = TRIED
+    ) -> None:
+        before, sound, after = known
+        length = len(sound)
+        self.first = max(length // 2 - PLACES // 2, length // 8)
+        self.field = Field(by.rate, self.first, length - self.first)
+        parts = sound[: self.field.stop], sound[self.first :][::-1]
+        times = tried if self.field.stop - self.first > PLACES // 2 else 2 * tried
+        self.fronts, rears = (
+            by.continued(*it, seed + 1 + number, times) for number, it in enumerate(zip(pasts, parts))
+        )
+        self.rears = rears[:, ::-1]
+        fronts = self.field.fronts(before, self.fronts - parts[0])
+        self.ends = fronts, self.field.rears(self.rears - sound[self.first :], after)
+
+    def moment(self) -> float:
+        """How far the first moment of most of them is from even numbers."""
+        return self.field.suited(*self.ends)[1]
+
+    def joint(self) -> Joint:
+        """Where two of them meet best."""
+        found = self.field.quietest((self.fronts, self.ends[0]), (self.rears, self.ends[1]))
+        ahead, following = self.fronts[found.front, : found.place], self.rears[found.rear, found.place - self.first :]
+        signs = np.concatenate([ahead[: -(LINK // 2)], found.link, following[LINK // 2 :]])
+        return Joint(signs, found.heard, found.moment)
 
 
 def kinds_for(rate: int) -> list[modulators.Modulator]:

@@ -18,7 +18,7 @@ from cuts import hearing
 from cuts.continuing import Modulated
 from cuts.crossfades import wrapped
 from cuts.hearing import hearing_of, let_in
-from cuts.joints import TRIED, Joint, bumps, joined, kinds_for, moments, settled
+from cuts.joints import Meetings, bumps, kinds_for, moments, settled
 from cuts.sounding import Sounding, signs_of
 from cuts.stretches import Gap, Kept, pattern
 from modulator import modulators
@@ -28,7 +28,7 @@ SECTION = 1 << 20  # places at the end over which a bump goes at most
 TAIL = 10e-3  # seconds at the end in which there are several modulators
 SHORTEST = 0.5e-3  # seconds: in less, what leads up to an end doesn't come apart from what goes on
 SLOPE = 5e-3  # seconds in which a bump comes and goes
-FEW = 2  # modulators of each direction, for a first try
+MANY, FEW = 4, 2  # modulators of each direction, and those for a first try
 ENOUGH = 2e-6  # of full scale: what is heard where both directions meet
 SPREAD = 0x9E3779B97F4A7C15  # by which seeds are spread
 
@@ -50,9 +50,14 @@ def seeded(*numbers: int) -> int:
     return found or 1
 
 
+def slope_of(rate: int) -> int:
+    """The places in which a bump comes, and those in which it goes."""
+    return int(SLOPE * rate)
+
+
 def level_bump(rate: int, length: int) -> np.ndarray:
     """A bump with the sum 1 that comes and goes slowly, and stays at its level in between."""
-    slope = min(int(SLOPE * rate), length // 2)
+    slope = min(slope_of(rate), length // 2)
     rising = (1 - np.cos(np.pi * (np.arange(slope) + 0.5) / max(slope, 1))) / 2
     bump = np.concatenate([rising, np.ones(length - 2 * slope), rising[::-1]])
     return bump / bump.sum()
@@ -240,19 +245,22 @@ class Rendering:
         moment = float(wrapped(known - moments(sound, -half))[1])
         seed = seeded(channel, stop) % (1 << 62)
 
-        def join(row: np.ndarray, number: int, tried: int = TRIED) -> Joint:
+        pasts = dict[modulators.Modulator, tuple[np.ndarray, np.ndarray]]()
+
+        def meetings(row: np.ndarray, number: int, tried: int) -> Meetings:
             for kind in kinds_for(self.rate):
                 by = Modulated(self.program, kind, self.rate)
-                pasts = front.past(kind), by.past_of(after[::-1])
+                if kind not in pasts:
+                    pasts[kind] = front.past(kind), by.past_of(after[::-1])
                 try:
-                    return joined(by, pasts, (before, row, after), number, tried)
+                    return Meetings(by, pasts[kind], (before, row, after), number, tried)
                 except modulators.Unstable:
                     continue
             raise TooLoud(channel, stop - len(sound), stop)
 
         # Few show what is left of the moment.
-        moment += join(sound + moment * bumps(len(sound))[1], seed + 1, FEW).moment
-        return settled(join, sound, moment, seed, ENOUGH)
+        moment += meetings(sound + moment * bumps(len(sound))[1], seed + 1, FEW).moment()
+        return settled(lambda row, number: meetings(row, number, MANY).joint(), sound, moment, seed, ENOUGH)
 
     # What is left.
 

@@ -13,7 +13,7 @@ import numpy as np
 import tomlkit
 
 from cuts.hearing import decibels, hearing_of
-from cuts.rendering import SECTION, Made, Rendering
+from cuts.rendering import SECTION, Made, Rendering, slope_of
 from cuts.sounding import Way
 from cuts.stretches import Gap, Kept, Part, gaps_of, parts_of, reasons, shrunk, silences, takes_own
 from cuts.times import clock
@@ -25,23 +25,23 @@ WEIGHTS = [1, 1]  # plain cuts need none, but a project has some
 PAUSE = 0.25  # seconds of new bits at both ends of a silence, before there is the silent pattern
 QUIET = 0.1  # seconds of such a pattern at least
 USUAL = 10e-3  # seconds of new bits at least, if there is room
-QUIETEST = 1e-6  # of full scale: new bits are as many as make a bump quieter than this, if there is room
-ROOM = 0.2  # seconds that a take's bits give way to new ones on one side, for a bump, at most
+QUIETEST = 1.25e-6  # of full scale: new bits are as many as make a bump quieter than this, if there is room
 CUE = 1e-3  # seconds: shorter cues of takes are copied
 PIECE = 1 << 20  # bits that are copied at a time
 
 
-def spread(rendering: Rendering, channel: int, kept: list[Kept], least: int) -> list[Kept]:
-    """The same, less what gives way so that bumps get quieter."""
+def spread(rendering: Rendering, channel: int, kept: list[Kept], least: int, room: int) -> list[Kept]:
+    """The same, less what gives way so that bumps get quieter: so many bits on each side at most."""
     rate, length, found = rendering.rate, rendering.sounding.length, list(kept)
     gaps, numbers = gaps_of(kept, length), {it: number for number, it in enumerate(kept)}
     for gap in gaps:
         wanted = round(USUAL * rate) - gap.length
         if gap.length < SECTION:
-            wanted = max(wanted, int(abs(rendering.missing(gap, channel)) / QUIETEST) + 1 - gap.length)
+            bits = abs(rendering.missing(gap, channel)) / QUIETEST + slope_of(rate)
+            wanted = max(wanted, int(bits) - gap.length)
         if wanted <= 0:
             continue
-        rooms = [room_of(it, gaps, least, round(ROOM * rate)) for it in (gap.before, gap.after)]
+        rooms = [room_of(it, gaps, least, room) for it in (gap.before, gap.after)]
         early = min(rooms[0], max(wanted // 2, wanted - rooms[1]))
         late = min(rooms[1], wanted - early)
         if gap.before is not None and early > 0:
@@ -70,7 +70,7 @@ class Channel:
     gaps: list[Gap]
 
 
-def planned(rendering: Rendering, number: int) -> Channel:
+def planned(rendering: Rendering, number: int, room: int) -> Channel:
     """The plan of a channel."""
     rate, length = rendering.rate, rendering.sounding.length
     parts = parts_of(rendering.sounding, number)
@@ -78,7 +78,7 @@ def planned(rendering: Rendering, number: int) -> Channel:
     still = silences(parts, round(PAUSE * rate), max(round(QUIET * rate), least))
     kept = sorted([*takes_own(parts), *still], key=lambda it: it.first)
     kept = shrunk(kept, 2 * hearing_of(rate).half, least, length)
-    kept = spread(rendering, number, kept, least)
+    kept = spread(rendering, number, kept, least, room)
     return Channel(parts, kept, gaps_of(kept, length))
 
 
@@ -184,14 +184,14 @@ class Report:
 
 
 class Render:
-    """A mix as a project."""
+    """A mix as a project. So many of a take's own bits may give way to new ones on each side."""
 
-    def __init__(self, rendering: Rendering, titles: list[tuple[int, str]]) -> None:
+    def __init__(self, rendering: Rendering, titles: list[tuple[int, str]], room: int) -> None:
         self.rendering, self.sounding, self.titles = rendering, rendering.sounding, titles
         self.rate, self.count, self.length = rendering.rate, self.sounding.count, self.sounding.length
         if len(titles) >= MOST_CUES:
             raise Refused(f"the mix has {len(titles)} titles: there is room for {MOST_CUES - 1}")
-        self.channels = [planned(rendering, it) for it in range(self.count)]
+        self.channels = [planned(rendering, it, room) for it in range(self.count)]
         self.cues = cues_of(self.channels, self.rate, self.length, MOST_CUES - len(titles))
         self.new = [it for it in self.cues if it.way is None]
 

@@ -124,13 +124,19 @@ def run(program: Path, modulator: Modulator, rate: int, arguments: list, samples
     zeros, poles = noise_transfer(modulator, rate)
     numbers = [*(repr(float(it)) for it in [*poles[1:], *zeros[1:]]), str(modulator.dither)]
     line: list[str | Path] = [program, str(modulator.order), *numbers, *(str(it) for it in arguments)]
-    done = subprocess.run(line, input=samples, capture_output=True, check=False)
+    # Files in memory: through pipes it would be slower than the modulator.
+    with open(os.memfd_create("samples"), "w+b") as given, open(os.memfd_create("bytes"), "w+b") as made:
+        given.write(samples)
+        given.seek(0)
+        done = subprocess.run(line, stdin=given, stdout=made, stderr=subprocess.PIPE, check=False)
+        made.seek(0)
+        data = made.read()
     if done.returncode:
         raise Refused(f"the modulator ended with status {done.returncode}")
     largest = float(done.stderr)
     if not largest < STABLE:
         raise Unstable(f"the modulator is not stable: {largest} before the quantizer")
-    return done.stdout, largest
+    return data, largest
 
 
 def modulated(

@@ -13,7 +13,7 @@ import numpy as np
 import tomlkit
 
 from cuts.hearing import decibels, hearing_of
-from cuts.rendering import SECTION, Made, Rendering, slope_of
+from cuts.rendering import Made, Rendering, slope_of
 from cuts.sounding import Way
 from cuts.stretches import Gap, Kept, Part, gaps_of, parts_of, reasons, shrunk, silences, takes_own
 from cuts.times import clock
@@ -36,7 +36,7 @@ def spread(rendering: Rendering, channel: int, kept: list[Kept], least: int, roo
     gaps, numbers = gaps_of(kept, length), {it: number for number, it in enumerate(kept)}
     for gap in gaps:
         wanted = round(USUAL * rate) - gap.length
-        if gap.length < SECTION:
+        if gap.length < 1 / QUIETEST + slope_of(rate):
             bits = abs(rendering.missing(gap, channel)) / QUIETEST + slope_of(rate)
             wanted = max(wanted, int(bits) - gap.length)
         if wanted <= 0:

@@ -26,6 +26,7 @@ PAUSE = 0.25  # seconds of new bits at both ends of a silence, before there is t
 QUIET = 0.1  # seconds of such a pattern at least
 USUAL = 10e-3  # seconds of new bits at least, if there is room
 QUIETEST = 1.25e-6  # of full scale: new bits are as many as make a bump quieter than this, if there is room
+LITTLE = 1e-7  # of full scale: a quieter bump isn't told
 CUE = 1e-3  # seconds: shorter cues of takes are copied
 PIECE = 1 << 20  # bits that are copied at a time
 
@@ -251,7 +252,7 @@ class Render:
             if report is None:
                 parts.append(f"channel {number} the take's own bits")
                 continue
-            bump = f", bump {decibels(report.bump):.1f} dB" if report.bump > 0 else ""
+            bump = f", bump {decibels(report.bump):.1f} dB" if report.bump > LITTLE else ""
             parts.append(f"channel {number} residual {decibels(report.residual):.1f} dB{bump}")
         return "; ".join(parts)
 

@@ -1,11 +1,10 @@
 -- Lines that are appended to a text.
-use Rattle.std.proofs.Common.{◌≡◌, ◌∙◌, ◌+◌, ◌≤◌, ◌++◌, [], ◌∷◌, List, ℕ, zero, suc, ℤ, inl, inr, Result, Ok, Err, OnOk, ap, sym, refl, append_assoc, arith, codes, add-one, get_or, length, map, subst, take, Vec, ◌<◌}
+use Rattle.std.proofs.Common.{◌≡◌, ◌∙◌, ◌+◌, ◌++◌, [], ◌∷◌, List, ℕ, Result, Ok, Err, OnOk, ap, sym, refl, append_assoc, arith, codes, add-one, get_or, length, map, subst, take, Vec, ◌<◌}
 use Rattle.std.proofs.Math.Seq.{take-suc}
 use Rattle.std.proofs.lemmas.List.{length-map, length-take-le, map-append}
 use Rattle.std.specs.declared.alloc.Global.{Global}
 use Rattle.std.specs.Fmt.{decimal}
 use Rattle.std.specs.List.{AllZip, concat}
-use Rattle.heard_core.specs.Levels.{IsLevel, level_text}
 use Rattle.null_core.specs.declared.stretch.Stretch.{Stretch}
 use Rattle.null_commands.specs.Lines.{Appends, EndsLine, Found, ShowsAllFound, ShowsFound, ShowsLevel, found_at, found_from, places_text}
 
@@ -16,10 +15,6 @@ items_of v = v.items
 append_nil : {X : Type 0} (xs : List X) → xs ++ [] ≡ xs
 append_nil [] = refl
 append_nil (x ∷ xs) = ap (λ ys. x ∷ ys) (append_nil xs)
-
--- nothing is appended
-pub nothing_shown : (full : ℕ) (old : List ℕ) → Appends (ShowsAllFound full []) old old
-nothing_shown full old = ([], record { lines = []; shown = tt; text_is = refl }, sym (append_nil old))
 
 joined : {A B : Type 0} (R : A → B → Type 0) (xs : List A) (us : List B) (ys : List A) (vs : List B) → AllZip R xs us → AllZip R ys vs → AllZip R (xs ++ ys) (us ++ vs)
 joined R [] [] ys vs all rest = rest
@@ -55,13 +50,6 @@ one_shown full channel s old new (text, (line, shown, is), whole) = (
 pub found_more : (channel : ℕ) (xs : List (List Stretch)) (ys : List Stretch) (n : ℕ) → n ≡ channel + length xs → found_from channel (xs ++ ys ∷ []) ≡ found_from channel xs ++ map (found_at n) ys
 found_more channel [] ys n is = append_nil (map (found_at channel) ys) ∙ ap (λ k. map (found_at k) ys) (omega arith)
 found_more channel (x ∷ xs) ys n is = ap (λ rest. map (found_at channel) x ++ rest) (found_more (channel + 1) xs ys n (omega arith)) ∙ sym (append_assoc (map (found_at channel) x) _ _)
-
--- the level of a residual
-pub level_shown : {E : Type 0} (full residual : ℕ) (old new : List ℕ) (r : Result Unit E) → (residual ≡ 0 → OnOk r (new ≡ old ++ codes "-inf"))
-    → (1 ≤ residual → OnOk r ((k : ℤ) × IsLevel residual full k × (new ≡ old ++ level_text k))) → OnOk r (Appends (ShowsLevel full residual) old new)
-level_shown full zero old new (Ok x) none some = (codes "-inf", inl (refl, refl), none refl)
-level_shown full (suc n) old new (Ok x) none some = let level = some (omega arith) in (level_text level.0, inr (omega arith, (level.0, level.1, refl)), level.2)
-level_shown full residual old new (Err e) none some = tt
 
 regrouped : (old a level b d : List ℕ) → old ++ a ++ level ++ (b ++ (d ++ 10 ∷ [])) ≡ old ++ (a ++ level ++ b ++ d ++ 10 ∷ [])
 regrouped old a level b d = simp append_assoc refl

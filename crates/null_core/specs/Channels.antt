@@ -35,7 +35,7 @@ pub record AreSettled (blocks : List Block) (last : List Bool) (new_blocks : Lis
   pub rest : length new_last < 65536
   pub few : length (blocks_bits new_blocks ++ new_last) ≤ length (blocks_bits blocks ++ last)
 
--- a list has so many bits of others from place i on
+-- from place i on, a list has the bits of the piece
 pub record IsPieceAt (bits : List Bool) (i : ℕ) (piece : Piece) : Type 0 where
   pub some : 0 < piece.size
   pub inside : i + piece.size ≤ length bits

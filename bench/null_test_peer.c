@@ -1,13 +1,13 @@
-// Makes the null test of docs/NULL_TEST.md, as a C programmer would write it: files are mapped, own bits are compared 64
-// at a time, takes are decoded by a table of 256 sums for each eight taps, and residuals are summed in 64 bits. Both sums
-// take four tables or taps at a time over a block of places. It prints what `tools/null_test` prints of the same mix, byte
-// by byte, and its status is the same.
+// Makes the null test of docs/NULL_TEST.md, as a C programmer would write it: files are read a block at a time, own bits
+// are compared 64 at a time, takes are decoded by a table of 256 sums for each eight taps, and residuals are summed in 64
+// bits. Both sums take four tables or taps at a time over a block of places. It prints what `tools/null_test` prints of
+// the same mix, byte by byte, and its status is the same.
 //
-// null_test_peer PLAN MASTER, where PLAN is what bench/nulltest writes of a mix without faults: the number of takes and
-// their names, a line each; then `unit`, `limit` and `every`; the taps of `audible`, their number first; the number of
-// decoders, and the taps of each in the same way; the number of clips, and for each its take, decoder, start, at and
-// length, the number of its lists of points (none, one for all channels, or one for each), and for each list the number of
-// points, and each point's place and gain.
+// null_test_peer PLAN MASTER [mapped]: with the last word files are mapped and not read. PLAN is what bench/nulltest writes
+// of a mix without faults: the number of takes and their names, a line each; then `unit`, `limit` and `every`; the taps of
+// `audible`, their number first; the number of decoders, and the taps of each in the same way; the number of clips, and for
+// each its take, decoder, start, at and length, the number of its lists of points (none, one for all channels, or one for
+// each), and for each list the number of points, and each point's place and gain.
 #include <fcntl.h>
 #include <inttypes.h>
 #include <math.h>
@@ -17,6 +17,7 @@
 #include <string.h>
 #include <sys/mman.h>
 #include <sys/stat.h>
+#include <unistd.h>
 
 #define CHANNELS 6
 #define FULL_GAIN (INT64_C(1) << 24)
@@ -25,13 +26,17 @@
 #define JUDGED 2048
 #define DECODED 4096
 #define SCANNED (1 << 18)
+// How many bytes of a file are read at least.
+#define READ (1 << 18)
 
-// A file's sound: bytes of the channels in turn in DSDIFF, blocks of 4096 bytes in DSF.
+// A file's sound: bytes of the channels in turn in DSDIFF, blocks of 4096 bytes in DSF. If the file isn't mapped, some of
+// them are held.
 struct recording {
     const uint8_t *sound;
-    int64_t count, bytes;
+    uint8_t *held;
+    int64_t count, bytes, start, held_first, held_stop, room;
     uint32_t rate, channels;
-    int in_blocks, is_turned;
+    int in_blocks, is_turned, file;
 };
 
 struct taps {
@@ -73,6 +78,7 @@ static struct channel channels[CHANNELS];
 static struct stretch *stretches;
 static int64_t take_number, decoder_number, clip_number, heard_number, stretch_number, unit, limit, every, reach;
 static uint8_t turned[256];
+static int is_mapped;
 
 // The errors of places of one channel, the same by their remainders, and what they are made by.
 static int32_t *errors, *rows, sounds[DECODED];
@@ -144,6 +150,23 @@ static void read_recording(struct recording *it, const char *name) {
     if (!memcmp(bytes, "DSD ", 4)) read_dsf(it, bytes);
     else read_dsdiff(it, bytes, (size_t)status.st_size);
     if (!it->sound || it->channels < 1 || it->channels > CHANNELS) exit(2);
+    it->file = file, it->start = it->sound - bytes;
+}
+
+// Bytes of the sound from one to another.
+static const uint8_t *bytes_of(struct recording *it, int64_t first, int64_t stop) {
+    if (is_mapped) return it->sound + first;
+    if (first < it->held_first || stop > it->held_stop) {
+        int64_t size = most(stop - first, READ);
+        if (size > it->room) {
+            free(it->held);
+            it->held = room(size), it->room = size;
+        }
+        ssize_t found = pread(it->file, it->held, (size_t)size, it->start + first);
+        if (found < stop - first) exit(2);
+        it->held_first = first, it->held_stop = first + found;
+    }
+    return it->held + (first - it->held_first);
 }
 
 static inline void pick(uint8_t *out, const uint8_t *in, int64_t number, int64_t step) {
@@ -151,19 +174,20 @@ static inline void pick(uint8_t *out, const uint8_t *in, int64_t number, int64_t
 }
 
 // The packed bits of a channel, the earliest the most significant. There are nulls outside of the recording.
-static void fetch(const struct recording *it, uint32_t channel, int64_t first, int64_t number, uint8_t *out) {
+static void fetch(struct recording *it, uint32_t channel, int64_t first, int64_t number, uint8_t *out) {
     int64_t low = most(first, 0), high = least(first + number, it->bytes);
     if (low != first || high != first + number) memset(out, 0, (size_t)number);
     if (it->in_blocks)
         for (int64_t at = low, stop; at < high; at = stop) {
-            const uint8_t *in = it->sound + (at / 4096 * it->channels + channel) * 4096 + at % 4096;
             stop = least(high, (at / 4096 + 1) * 4096);
+            int64_t place = (at / 4096 * it->channels + channel) * 4096 + at % 4096;
+            const uint8_t *in = bytes_of(it, place, place + stop - at);
             if (it->is_turned)
                 for (int64_t i = 0; i < stop - at; i++) out[at - first + i] = turned[in[i]];
             else memcpy(out + (at - first), in, (size_t)(stop - at));
         }
     else if (low < high) {
-        const uint8_t *in = it->sound + low * it->channels + channel;
+        const uint8_t *in = bytes_of(it, low * it->channels, high * it->channels) + channel;
         switch (it->channels) {
         case 1: memcpy(out + (low - first), in, (size_t)(high - low)); break;
         case 2: pick(out + (low - first), in, high - low, 2); break;
@@ -350,7 +374,7 @@ static void scan(uint32_t channel, int64_t first, int64_t stop) {
 
 // The sounds of a take from a bit on.
 static void decode(const struct clip *clip, uint32_t channel, int64_t first, int64_t number) {
-    const struct recording *take = &takes[clip->take];
+    struct recording *take = &takes[clip->take];
     const struct taps *it = &decoders[clip->decoder];
     int64_t begin = first - it->number / 2, byte = begin >> 3, shift = begin & 7, size = number + 8 * it->groups;
     fetch(take, channel, byte, size / 8 + 3, packed);
@@ -505,7 +529,8 @@ static int print_answer(void) {
 }
 
 int main(int given, char **arguments) {
-    if (given != 3) return 3;
+    if (given != 3 && (given != 4 || strcmp(arguments[3], "mapped"))) return 3;
+    is_mapped = given == 4;
     for (int byte = 0; byte < 256; byte++)
         for (int k = 0; k < 8; k++) turned[byte] |= (uint8_t)((byte >> k & 1) << (7 - k));
     read_plan(arguments[1]);

@@ -1,3 +1,4 @@
 mod ClipLaws
 pub mod LineLaws
 mod PointLaws
+mod SumLaws

@@ -1,4 +1,3 @@
-mod SumLaws
 pub mod NumberLaws
 pub mod GainLaws
 pub mod OverlapLaws

@@ -1,12 +1,11 @@
 //! Reads the numbers and the taps of a mix text.
 
-ghost use Rattle.std.specs.Prelude.{◌≡◌, ◌-◌, ◌≤◌, ◌^◌, unsigned_abs};
-ghost use Rattle.std.specs.List.{sum_by};
+ghost use Rattle.std.specs.Prelude.{◌≡◌};
 ghost use Rattle.toml.specs.View.{view, table_view};
-ghost use Rattle.clip_core.specs.Mixes.{total};
 ghost use Rattle.project_core.specs.Steps.{Gives};
 ghost use Rattle.mix_core.specs.Reading.{audible_at, number_at, number_of, number_or_least_at, taps_at, within};
 
+use clip_core::total;
 use project_core::table::{find, integer_of, integers_at, value_at};
 use project_core::{Key, ProjectFault, Table, abs_sum};
 use std::alloc::Global;
@@ -102,16 +101,4 @@ fn within(integer: i64, least: usize, bound: usize) -> Option<usize>
         Ok(number) if number >= least && number < bound => Some(number),
         _ => None,
     }
-}
-
-// The sum of the taps.
-fn total(taps: &[i32]) -> i64
-    requires { sum_by unsigned_abs taps.now ≤ 2 ^ 31 - 1 }
-    ensures { result ≡ total taps.now }
-{
-    let mut sum = 0i64;
-    for tap in taps {
-        sum += i64::from(*tap);
-    }
-    sum
 }

@@ -1,5 +1,5 @@
-use Rattle.mix_core.proofs.SumLaws.{IsTotalSoFar}
-use Rattle.mix_core.proofs.numbers.total.Given as goal
+use Rattle.clip_core.proofs.SumLaws.{IsTotalSoFar}
+use Rattle.clip_core.proofs.taps.total.Given as goal
 
 abbrev pub invariant-loop-tap : goal.invariant-loop-tap
 invariant-loop-tap l = IsTotalSoFar l.taps l.tap-index l.sum

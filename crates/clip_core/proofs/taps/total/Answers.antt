@@ -1,5 +1,5 @@
-use Rattle.mix_core.proofs.SumLaws.{sum_fits, total_ended, total_more, total_started}
-use Rattle.mix_core.proofs.numbers.total.Goals as goal
+use Rattle.clip_core.proofs.SumLaws.{sum_fits, total_ended, total_more, total_started}
+use Rattle.clip_core.proofs.taps.total.Goals as goal
 
 pub loop-tap-init : goal.loop-tap-init
 loop-tap-init c = total_started c.args.taps.now c.requires

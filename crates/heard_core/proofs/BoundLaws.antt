@@ -12,9 +12,9 @@ three_powers : (a b s t : ℕ) → t ≡ a + b + s → 2 ^ t ≡ 2 ^ a * 2 ^ b *
 three_powers a b s t is = ap (λ n. 2 ^ n) is ∙ pow-add 2 (a + b) s ∙ ap (λ z. z * 2 ^ s) (pow-add 2 a b)
 
 -- the lower bound of a product, of which the last bits are dropped
-pub above_low : (x y a b s r t m n : ℕ) → r ≡ x * y / 2 ^ s → t ≡ a + b + s → x * 2 ^ a ≤ m → y * 2 ^ b ≤ n → r * 2 ^ t ≤ m * n
+pub above_low : (x y a b s r t m n : ℕ) → r ≤ x * y / 2 ^ s → t ≡ a + b + s → x * 2 ^ a ≤ m → y * 2 ^ b ≤ n → r * 2 ^ t ≤ m * n
 above_low x y a b s r t m n cut shifts l k =
-    let whole : r * 2 ^ s ≤ x * y = rw cut (div-mul-le_self (x * y) (2 ^ s)) in
+    let whole : r * 2 ^ s ≤ x * y = omega (arith, mul-le-mul_right (2 ^ s) cut, div-mul-le_self (x * y) (2 ^ s)) in
     omega (arith, mul-le-mul_right (2 ^ a * 2 ^ b) whole, mul-le (x * 2 ^ a) (y * 2 ^ b) m n l k, ap (λ z. r * z) (three_powers a b s t shifts))
 
 rounded_up : (p s r : ℕ) → r ≡ p / 2 ^ s + min s 1 → p ≤ r * 2 ^ s

@@ -1,5 +1,5 @@
 -- The convolution by taps in parts, and its greatest value.
-use Rattle.std.proofs.Common.{◌≡◌, ℕ, zero, suc, ◌+◌, ◌-◌, ◌*◌, ◌<◌, ◌≤◌, ℤ, pos, ◌+ℤ◌, ◌-ℤ◌, ◌*ℤ◌, unsigned_abs, inl, inr, Bool, List, ◌++◌, length, get_or, take, replicate, sum_by, refl, ap, ap₂, sym, ◌∙◌, arith, length-append, mul-zero}
+use Rattle.std.proofs.Common.{◌≡◌, ℕ, zero, suc, ◌+◌, ◌-◌, ◌*◌, ◌/◌, ◌<◌, ◌≤◌, ℤ, pos, ◌+ℤ◌, ◌-ℤ◌, ◌*ℤ◌, unsigned_abs, inl, inr, Bool, List, ◌++◌, length, get_or, take, replicate, sum_by, refl, ap, ap₂, sym, ◌∙◌, arith, length-append, mul-zero}
 use Rattle.std.specs.Int.{div_ceil}
 use Rattle.std.proofs.Math.IntN.{*ℤ-zero, zero-*ℤ}
 use Rattle.std.proofs.Math.Seq.{get_or-append_right}
@@ -88,3 +88,7 @@ one_more_part h p =
     let all : 4096 * (p + 1) ≡ 4096 * p + 4096 = omega arith in
     let whole = take (4096 * p + 4096) h in
     ap (λ n. take n h) all ∙ sym (take-append-drop (4096 * p) whole) ∙ ap₂ ◌++◌ (take-take (4096 * p) (4096 * p + 4096) h (omega arith)) (drop-take (4096 * p) 4096 h)
+
+-- each piece begins within them
+pub piece_within : (taps : List ℤ) (k : ℕ) → k < 8 * div_ceil (length taps) 4096 → 4096 * (k / 8) < length (padded taps)
+piece_within taps k h = omega (arith, h, length-padded taps, (div_ceil_times (length taps) 8 (omega arith)).0, (div_ceil_times (length taps) 4096 (omega arith)).1)

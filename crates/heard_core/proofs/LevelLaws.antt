@@ -15,7 +15,7 @@ tens e t is (suc q) =
     let more : e * q + e ≡ e * suc q = omega arith in
     pow-suc t q ∙ (λ i. tens e t is q i * is i) ∙ sym (pow-add 10 (e * q) e) ∙ ap (λ n. 10 ^ n) more
 
-pub in_limbs : (x m n e : ℕ) → m ≡ x * 10000000000000000000 ^ (e / 19) → n ≡ m * 10 ^ (e % 19) → n ≡ x * 10 ^ e
+in_limbs : (x m n e : ℕ) → m ≡ x * 10000000000000000000 ^ (e / 19) → n ≡ m * 10 ^ (e % 19) → n ≡ x * 10 ^ e
 in_limbs x m n e first last =
     let q = e / 19 in
     let r = e % 19 in
@@ -50,15 +50,18 @@ pub above_lowest : (v f : ℕ) → 1 ≤ v → f < 18446744073709551616 → IsAt
 unfolding limit strength
 above_lowest v f some fits most = not_below (f ^ 2000) _ (quiet 2000 40000 v f refl (λ e. absurd (omega arith)) some (omega arith)) most
 
-pub is_strength : (x one n : ℕ) → one ≡ natural (1 ∷ []) → n ≡ one * x ^ 2000 → n ≡ strength x
+-- a number times a strength and a power of ten
+pub scaled : (old x m n k t : ℕ) → m ≡ old * x ^ 2000 → n ≡ m * 10000000000000000000 ^ (t / 19) → k ≡ n * 10 ^ (t % 19) → k ≡ old * (strength x * 10 ^ t)
 unfolding strength
-is_strength x one n is made = power_from_one 2000 x one n (is ∙ one_is) made
+scaled old x m n k t first more last = by_power 2000 old x m n k t first more last
   where
-    one_is : natural (1 ∷ []) ≡ 1
-    one_is = omega arith
+    by_power : (p old x m n k t : ℕ) → m ≡ old * x ^ p → n ≡ m * 10000000000000000000 ^ (t / 19) → k ≡ n * 10 ^ (t % 19) → k ≡ old * (x ^ p * 10 ^ t)
+    by_power p old x m n k t first more last = omega (arith, in_limbs m n k t more last, ap (λ z. z * 10 ^ t) first)
 
-    power_from_one : (p x one n : ℕ) → one ≡ 1 → n ≡ one * x ^ p → n ≡ x ^ p
-    power_from_one p x one n is made = omega (arith, made, ap (λ z. z * x ^ p) is)
+pub from_one : (one n scale : ℕ) → one ≡ natural (1 ∷ []) → n ≡ one * scale → n ≡ scale
+from_one one n scale is made =
+    let one_is : natural (1 ∷ []) ≡ 1 = omega arith in
+    omega (arith, made, ap (λ z. z * scale) (is ∙ one_is))
 
 -- what a comparison says where it isn't true
 pub not_measured : (v f : ℕ) (k : ℤ) (b : Bool) → (IsTrue b ↔ IsAtMost v f k) → b ≡ false → IsAtMost v f k → ⊥

@@ -3,6 +3,9 @@
 ghost use Rattle.std.specs.Prelude.{◌*◌, ◌^◌, ◌<◌, ◌≤◌, ◌↔◌, ℕ, IfSome, IsTrue};
 ghost use Rattle.heard_core.specs.Bounds.{IsWithin};
 
+// The greatest number of 64 bits.
+const MOST: u128 = (1 << 64) - 1;
+
 /// Bounds of a number: it is at least `low * 2^shift` and at most `high * 2^shift`.
 #[derive(Clone, Copy)]
 pub(crate) struct Bounds {
@@ -29,10 +32,11 @@ pub(crate) fn times(a: Bounds, b: Bounds) -> Option<Bounds>
     let low = u128::from(a.low) * u128::from(b.low);
     let high = u128::from(a.high) * u128::from(b.high);
     let spare = 65_u32.saturating_sub(high.leading_zeros());
+    let shift = u64::from(a.shift) + u64::from(b.shift) + u64::from(spare);
     Some(Bounds {
-        low: u64::try_from(low >> spare).ok()?,
+        low: (low >> spare).min(MOST) as u64,
         high: u64::try_from((high >> spare) + u128::from(spare.min(1))).ok()?,
-        shift: a.shift.checked_add(b.shift)?.checked_add(spare)?,
+        shift: u32::try_from(shift).ok()?,
     })
 }
 

@@ -138,8 +138,15 @@ fn scaled_strength(alloc: Global, x: u64, tens: u64) -> Result<Vec<u64>, AllocEr
     ensures { IfOk result (λ made. natural made.items ≡ strength x * 10 ^ tens) }
 {
     let mut made = Vec::from_slice(alloc, &[1])?;
-    multiply_by_power(&mut made, x, 2000)?;
-    multiply_by_power(&mut made, TENS, tens / TENS_EXPONENT)?;
-    multiply_by_power(&mut made, 10, tens % TENS_EXPONENT)?;
+    scale(&mut made, x, tens)?;
     Ok(made)
+}
+
+// Multiplies a number by a scaled strength.
+fn scale(limbs: &mut Vec<u64>, x: u64, tens: u64) -> Result<(), AllocError>
+    ensures { IfOk result (λ _. natural limbs.new.items ≡ natural limbs.old.items * (strength x * 10 ^ tens)) }
+{
+    multiply_by_power(limbs, x, 2000)?;
+    multiply_by_power(limbs, TENS, tens / TENS_EXPONENT)?;
+    multiply_by_power(limbs, 10, tens % TENS_EXPONENT)
 }

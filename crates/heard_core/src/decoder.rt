@@ -39,8 +39,8 @@ impl Decoder {
         requires { AreTaps (2 ^ 28) taps.now }
         ensures { IfOk result (λ made. made ≡ taps.now) }
     {
-        let pieces = pieces_of(alloc, taps)?;
         let taps = Vec::from_slice(alloc, taps)?;
+        let pieces = pieces_of(alloc, taps.as_slice())?;
         Ok(Decoder { taps, pieces })
     }
 

@@ -1,7 +1,7 @@
 //! A decoder's taps in parts that tables can sum, for each bit of a byte.
 
-ghost use Rattle.std.specs.Prelude.{◌≡◌, ◌*◌, ◌/◌, ◌%◌, ◌^◌, ◌<◌, ◌≤◌, length, IfOk, unsigned_abs};
-ghost use Rattle.std.specs.List.{sum_by};
+ghost use Rattle.std.specs.Prelude.{◌≡◌, ◌*◌, ◌/◌, ◌%◌, ◌^◌, ◌<◌, ◌≤◌, ◌++◌, ◌∷◌, [], ℕ, length, map, IfOk, unsigned_abs};
+ghost use Rattle.std.specs.List.{range_with_len, sum_by};
 ghost use Rattle.clip_core.specs.Mixes.{AreTaps};
 ghost use Rattle.heard_core.specs.Pieces.{all_pieces, padded, piece};
 
@@ -21,11 +21,37 @@ pub(crate) fn pieces_of(alloc: Global, taps: &[i32]) -> Result<Vec<Piece>, Alloc
     ensures { IfOk result (λ made. made.items ≡ all_pieces taps.now) }
 {
     let padded = padded_with_zeros(alloc, taps)?;
+    first_pieces(alloc, padded.as_slice(), 8 * taps.len().div_ceil(MAX_TAPS))
+}
+
+// The first pieces of padded taps.
+fn first_pieces(alloc: Global, taps: &[i32], number: usize) -> Result<Vec<Piece>, AllocError>
+    requires within { (k : ℕ) → k < number → 4096 * (k / 8) < length taps.now }
+    requires eights { length taps.now % 8 ≡ 0 }
+    requires small { sum_by unsigned_abs taps.now ≤ 2 ^ 28 }
+    ensures { IfOk result (λ made. made.items ≡ map (piece taps.now) (range_with_len 0 number)) }
+{
     let mut made = Vec::new(alloc);
-    for k in 0..8 * taps.len().div_ceil(MAX_TAPS) {
-        made.push(piece_of(alloc, padded.as_slice(), k)?)?;
+    for k in 0..number {
+        push_piece(alloc, &mut made, taps, k)?;
     }
     Ok(made)
+}
+
+// Appends piece `k` of padded taps.
+fn push_piece(
+    alloc: Global,
+    made: &mut Vec<Piece>,
+    taps: &[i32],
+    k: usize,
+) -> Result<(), AllocError>
+    requires within { 4096 * (k / 8) < length taps.now }
+    requires eights { length taps.now % 8 ≡ 0 }
+    requires small { sum_by unsigned_abs taps.now ≤ 2 ^ 28 }
+    ensures { IfOk result (λ _. made.new.items ≡ made.old.items ++ piece taps.now k ∷ []) }
+{
+    made.push(piece_of(alloc, taps, k)?)?;
+    Ok(())
 }
 
 // Taps with zeros after them, up to whole groups of eight.

@@ -2,6 +2,9 @@
 
 ghost use Rattle.std.specs.Prelude.{◌≡◌, ◌+◌, ◌*◌, ◌^◌, ◌<◌, ◌≤◌, ◌+ℤ◌, EachIndex, length, pos, slice_index_or, unsigned_abs};
 ghost use Rattle.clip_core.specs.Mixes.{AreTaps};
+ghost use Rattle.fir_core.specs.Places.{sums_from};
+ghost use Rattle.fir_core.specs.Sources.{ArePlayable};
+ghost use Rattle.fir_core.specs.Windows.{aligned};
 ghost use Rattle.heard_core.specs.Pieces.{all_pieces, sums_at, sums_before};
 
 use crate::piece::Piece;
@@ -48,11 +51,22 @@ fn add_part(source: Source<'_>, p: usize, place: usize, sums: &mut [i32])
     }
     let (_, later) = sums.split_at_mut(skipped);
     let first = place + 8 * skipped - before;
-    let piece = &source.pieces[8 * p + first % 8];
+    add_piece(&source.pieces[8 * p + first % 8], source.bits, first, later);
+}
+
+// Adds to the sums what a piece adds.
+fn add_piece(piece: &Piece, bits: &Bits, first: usize, sums: &mut [i32])
+    requires tables { piece.now.tables ≡ aligned piece.now.taps.taps piece.now.taps.delay }
+    requires places { ArePlayable piece.now.taps first (length sums.old) }
+    requires few { length sums.old ≤ 4096 }
+    requires small { EachIndex sums.old (λ i. unsigned_abs (slice_index_or sums.old i (pos 0)) ≤ 2 ^ 28) }
+    ensures len { length sums.new ≡ length sums.old }
+    ensures added { EachIndex sums.old (λ i. slice_index_or sums.new i (pos 0) ≡ slice_index_or sums.old i (pos 0) +ℤ slice_index_or (sums_from piece.now.taps bits.now first (length sums.old)) i (pos 0)) }
+{
     let mut room = [0; RUN];
-    let (more, _) = room.split_at_mut(later.len());
-    fill_sums(more, &piece.taps, &piece.tables, source.bits, first);
-    add_all(later, more);
+    let (more, _) = room.split_at_mut(sums.len());
+    fill_sums(more, &piece.taps, &piece.tables, bits, first);
+    add_all(sums, more);
 }
 
 // Adds numbers to as many sums.

@@ -75,3 +75,15 @@ finish-requires-clause-small_errors g c =
 
 pub returns : goal.returns
 returns g c = λ w h. c.loop-w.invariant.done w (omega arith)
+
+pub overflow_mul-w : goal.overflow_mul-w
+overflow_mul-w g c = record { fits = omega (arith, c.requires.room c.loop-w.w c.loop-w-test.true) }
+
+pub overflow_add-w : goal.overflow_add-w
+overflow_add-w g c = record { fits = omega (arith, c.requires.room c.loop-w.w c.loop-w-test.true) }
+
+pub slice_bounds-finish-count-in-loop-w : goal.slice_bounds-finish-count-in-loop-w
+slice_bounds-finish-count-in-loop-w g c = omega (arith, c.requires.room c.loop-w.w c.loop-w-test.true)
+
+pub bounds-sums-w : goal.bounds-sums-w
+bounds-sums-w g c = c.loop-w-test.true

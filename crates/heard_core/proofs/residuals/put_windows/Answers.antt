@@ -48,3 +48,15 @@ loop-w-preserved g c =
             ∙ ap (λ j. dot ts (drop (j * c.args.step) es)) (sym here)
       ];
     }
+
+pub overflow_mul-first : goal.overflow_mul-first
+overflow_mul-first g c = record { fits = omega (arith, c.requires.within c.args.first (omega (arith, c.requires.room, c.requires.some))) }
+
+pub slice_bounds-sum_windows-count : goal.slice_bounds-sum_windows-count
+slice_bounds-sum_windows-count g c = omega (arith, c.requires.within c.args.first (omega (arith, c.requires.room, c.requires.some)))
+
+pub returns-clause-kept : goal.returns-clause-kept
+returns-clause-kept g c = c.loop-w.invariant.kept
+
+pub returns-clause-put : goal.returns-clause-put
+returns-clause-put g c = λ i l h. c.loop-w.invariant.put i l (omega arith)

@@ -1,7 +1,0 @@
-use Rattle.std.proofs.Common.{◌≡◌, map}
-use Rattle.std.specs.List.{range_with_len}
-use Rattle.heard_core.specs.Pieces.{padded, piece}
-use Rattle.heard_core.proofs.piece.pieces_of.Given as goal
-
-abbrev pub invariant-loop-k : goal.invariant-loop-k
-invariant-loop-k l = l.made.items ≡ map (piece (padded l.taps)) (range_with_len 0 l.k)

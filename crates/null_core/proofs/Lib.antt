@@ -2,6 +2,7 @@ pub mod AloneLaws
 pub mod AroundLaws
 pub mod CallingLaws
 mod BlockLaws
+mod ByteLaws
 pub mod ChannelLaws
 pub mod ChunkLaws
 pub mod DueLaws
@@ -25,4 +26,3 @@ pub mod SmallLaws
 pub mod SpanLaws
 pub mod StretchLaws
 pub mod VerdictLaws
-mod WordLaws

@@ -22,4 +22,3 @@ pub mod Stretches
 pub mod Verdicts
 pub mod View
 pub mod Walks
-pub mod Words

@@ -1,15 +1,16 @@
 -- Bits in blocks, as a channel has them.
-use Rattle.std.proofs.Common.{◌≡◌, ℕ, ◌+◌, ◌-◌, ◌*◌, ◌/◌, ◌%◌, ◌<◌, ◌≤◌, Bool, false, List, [], ◌∷◌, ◌++◌, All, length, get_or, take, drop, slice_range, inl, inr, sym, ap, subst, ◌∙◌, arith}
+use Rattle.std.proofs.Common.{◌≡◌, ℕ, ◌+◌, ◌-◌, ◌*◌, ◌/◌, ◌%◌, ◌^◌, ◌<◌, ◌≤◌, Bool, false, List, [], ◌∷◌, ◌++◌, All, length, get_or, take, drop, slice_range, inl, inr, sym, ap, subst, ◌∙◌, arith}
 use Rattle.std.specs.List.{flat_map}
 use Rattle.std.proofs.lemmas.Bool.{cases_lt}
-use Rattle.std.proofs.lemmas.List.{append-nil, append_assoc, ext_get_or, get_or_append_left, get_or-append_right, length-append, length-drop, length-take, length-take-le, take-append-drop, take-take}
+use Rattle.std.proofs.lemmas.List.{append-nil, append_assoc, ext_get_or, get_or_append_left, get_or-append_right, length-append, length-drop, length-take, length-take-le, nil_from_length, take-append-drop, take-take}
 use Rattle.std.proofs.lemmas.List.Concat.{flat_map-append, get_or-flat_map}
 use Rattle.std.proofs.lemmas.List.Edits.{get_or-between, length-between}
 use Rattle.std.proofs.lemmas.Slice.{between_is}
 use Rattle.std.proofs.lemmas.List.Elements.{All-get_or, All-head, All-push, All-tail, All-take}
 use Rattle.null_core.specs.declared.channel.Block.{Block}
+use Rattle.null_core.specs.declared.channel.Channel.TheInside.{Inside}
 use Rattle.null_core.specs.declared.channel.Piece.{Piece}
-use Rattle.null_core.specs.Channels.{AreSettled, IsFull, IsPieceAt, block_bits, blocks_bits}
+use Rattle.null_core.specs.Channels.{AreSettled, IsFull, IsPieceAt, KeepsChannel, block_bits, blocks_bits, channel_view}
 
 -- lists of n elements each, one after another
 module _ {X : Type 0} {A : Type 0} (f : X → List A) (n : ℕ) where
@@ -30,15 +31,26 @@ module _ {X : Type 0} {A : Type 0} (f : X → List A) (n : ℕ) where
 pub within : (xs : List Bool) (first n : ℕ) → 0 < n → length (slice_range xs first (first + n)) ≡ n → first + n ≤ length xs
 within xs first n some full = omega (arith, full, length-take (first + n - first) (drop first xs), length-drop first xs)
 
+-- how many elements a range has
+pub range_size : (xs : List Bool) (first n : ℕ) → first + n ≤ length xs → length (slice_range xs first (first + n)) ≡ n
+range_size xs first n inside = (let it = length-between xs first (first + n) inside in omega (arith, it))
+
 -- bits that are alike as far as a block goes
-pub same_block : (xs ys : List Bool) (first n same : ℕ) → length xs ≡ n → first + n ≤ length ys → n ≤ same → ((k : ℕ) → k < same → get_or xs (0 + k) false ≡ get_or ys (first + k) false) → slice_range ys first (first + n) ≡ xs
-same_block xs ys first n same full inside all alike =
-    let size : length (slice_range ys first (first + n)) ≡ n = (let it = length-between ys first (first + n) inside in omega (arith, it)) in
-    ext_get_or false (slice_range ys first (first + n)) xs (size ∙ sym full) (λ i lt.
+pub same_block : (xs ys : List Bool) (from first n same : ℕ) → from + n ≤ length xs → first + n ≤ length ys → n ≤ same → ((k : ℕ) → k < same → get_or xs (from + k) false ≡ get_or ys (first + k) false) → slice_range ys first (first + n) ≡ slice_range xs from (from + n)
+same_block xs ys from first n same there inside all alike =
+    let size = range_size ys first n inside in
+    ext_get_or false (slice_range ys first (first + n)) (slice_range xs from (from + n)) (size ∙ sym (range_size xs from n there)) (λ i lt.
     let low : i < n = omega (arith, lt, size) in
-    let at : 0 + i ≡ i = omega arith in
-    get_or-between ys first (first + n) i false (omega arith) ∙ sym (alike i (omega arith)) ∙ ap (λ k. get_or xs k false) at
+    get_or-between ys first (first + n) i false (omega arith) ∙ sym (alike i (omega arith)) ∙ sym (get_or-between xs from (from + n) i false (omega arith))
     )
+
+-- a range of all elements
+pub whole_range : (xs : List Bool) (n : ℕ) → length xs ≡ n → slice_range xs 0 (0 + n) ≡ xs
+whole_range xs n full =
+    let size = range_size xs 0 n (omega arith) in
+    ext_get_or false (slice_range xs 0 (0 + n)) xs (size ∙ sym full) (λ i lt.
+    let here : 0 + i ≡ i = omega arith in
+    get_or-between xs 0 (0 + n) i false (omega (arith, lt, size)) ∙ ap (λ k. get_or xs k false) here)
 
 -- how many bits a channel has
 pub length-channel : (blocks : List Block) (last : List Bool) → All IsFull blocks → length (blocks_bits blocks ++ last) ≡ 65536 * length blocks + length last
@@ -127,3 +139,19 @@ take_between xs i j le = ap (λ l. l ++ slice_range xs i j) (sym (take-take i j 
 
 pub added_more : (old now more xs : List Bool) (i j : ℕ) → i ≤ j → now ≡ old ++ take i xs → more ≡ now ++ slice_range xs i j → more ≡ old ++ take j xs
 added_more old now more xs i j le so_far is = is ∙ ap (λ l. l ++ slice_range xs i j) so_far ∙ append_assoc old (take i xs) (slice_range xs i j) ∙ ap (λ l. old ++ l) (take_between xs i j le)
+
+-- a block is added to those of a channel that has no further bits
+module _ (blocks : List Block) (x : Inside) (more : List Bool) (none : length x.last ≡ 0) where
+  nothing : x.last ≡ []
+  nothing = nil_from_length x.last none
+
+  pub block_added : blocks_bits x.blocks.items ≡ blocks_bits blocks ++ more → channel_view x ≡ (blocks_bits blocks ++ x.last) ++ more
+  block_added is =
+      ap (λ l. blocks_bits x.blocks.items ++ l) nothing ∙ append-nil (blocks_bits x.blocks.items) ∙ is ∙ ap (λ l. l ++ more) (sym (append-nil (blocks_bits blocks)) ∙ ap (λ l. blocks_bits blocks ++ l) (sym nothing))
+
+  pub block_kept : AreSettled blocks more x.blocks.items [] → All IsFull blocks → length (blocks_bits blocks ++ more) ≤ 2 ^ 36 → KeepsChannel x
+  block_kept settled full fits = record {
+    full = settled.full full;
+    rest = omega (arith, none);
+    few = omega (arith, settled.few, fits, ap (λ l. length (blocks_bits x.blocks.items ++ l)) nothing);
+  }

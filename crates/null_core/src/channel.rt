@@ -95,7 +95,13 @@ impl<'a> Channel<'a> {
         ensures inside { IfOk result (λ next. next ≤ length bits.now) }
         ensures added { IfOk result (λ next. self.new ≡ self.old ++ slice_range bits.now from next) }
     {
-        let next = bits.len().min(from + (BLOCK - self.last.len()));
+        let count = bits.len();
+        let held = self.last.len();
+        if held == 0 && BLOCK <= count - from {
+            push_block(alloc, parts, &mut self.blocks, bits, from)?;
+            return Ok(from + BLOCK);
+        }
+        let next = count.min(from + (BLOCK - held));
         self.last.push_range(bits, from, next)?;
         settle(alloc, parts, &mut self.blocks, &mut self.last)?;
         Ok(next)
@@ -184,6 +190,45 @@ fn piece_of<'b>(block: &'b Block<'_>, place: usize) -> Piece<'b>
     }
 }
 
+// Adds a block of bits from one of them on.
+fn push_block<'a>(
+    alloc: Global,
+    parts: &[Part<'a>],
+    blocks: &mut Vec<Block<'a>>,
+    bits: &Bits,
+    from: usize,
+) -> Result<(), AllocError>
+    requires inside { from + 65536 ≤ length bits.now }
+    requires fits { 65536 * length blocks.old.items < 2 ^ 36 }
+    ensures added { OnOk result (blocks_bits blocks.new.items ≡ blocks_bits blocks.old.items ++ slice_range bits.now from (from + 65536)) }
+    ensures settled { AreSettled blocks.old.items (slice_range bits.now from (from + 65536)) blocks.new.items [] }
+{
+    let block = block_of(alloc, parts, BLOCK * blocks.len(), bits, from)?;
+    blocks.push(block)?;
+    Ok(())
+}
+
+// A full block from a place on: bits of a part if one has them, or else a copy of bits from one of them on.
+fn block_of<'a>(
+    alloc: Global,
+    parts: &[Part<'a>],
+    place: usize,
+    bits: &Bits,
+    from: usize,
+) -> Result<Block<'a>, AllocError>
+    requires place { place < 2 ^ 36 }
+    requires inside { from + 65536 ≤ length bits.now }
+    ensures { IfOk result (λ block. block_bits block ≡ slice_range bits.now from (from + 65536)) }
+{
+    let _count = bits.len();
+    if let Some(block) = block_in_parts(parts, place, bits, from) {
+        return Ok(block);
+    }
+    let mut copied = Bits::new(alloc);
+    copied.push_range(bits, from, from + BLOCK)?;
+    Ok(Block::Kept(copied))
+}
+
 // Makes a block of the last bits if they fill one.
 fn settle<'a>(
     alloc: Global,
@@ -211,22 +256,28 @@ fn settled<'a>(parts: &[Part<'a>], place: usize, bits: Bits) -> Block<'a>
     requires full { length bits ≡ 65536 }
     ensures { block_bits result ≡ bits }
 {
-    match block_in_parts(parts, place, &bits) {
+    match block_in_parts(parts, place, &bits, 0) {
         Some(block) => block,
         None => Block::Kept(bits),
     }
 }
 
 // Bits of a part that equal those of a block from a place on, if a part of the source has them that is asked for there.
-fn block_in_parts<'a>(parts: &[Part<'a>], place: usize, bits: &Bits) -> Option<Block<'a>>
+// The block has the bits from one of them on.
+fn block_in_parts<'a>(
+    parts: &[Part<'a>],
+    place: usize,
+    bits: &Bits,
+    from: usize,
+) -> Option<Block<'a>>
     requires place { place < 2 ^ 36 }
-    requires full { length bits.now ≡ 65536 }
-    ensures { IfSome result (λ block. block_bits block ≡ bits.now) }
+    requires inside { from + 65536 ≤ length bits.now }
+    ensures { IfSome result (λ block. block_bits block ≡ slice_range bits.now from (from + 65536)) }
 {
     let source = alone_at(parts, place).source?;
     for part in parts {
         if part.take == source.take && part.ahead == source.ahead {
-            if let Some(block) = block_in(part, place, bits) {
+            if let Some(block) = block_in(part, place, bits, from) {
                 return Some(block);
             }
         }
@@ -235,14 +286,14 @@ fn block_in_parts<'a>(parts: &[Part<'a>], place: usize, bits: &Bits) -> Option<B
 }
 
 // Bits of a part that equal those of a block from a place on, if it has them.
-fn block_in<'a>(part: &Part<'a>, place: usize, bits: &Bits) -> Option<Block<'a>>
+fn block_in<'a>(part: &Part<'a>, place: usize, bits: &Bits, from: usize) -> Option<Block<'a>>
     requires place { place < 2 ^ 36 }
-    requires full { length bits.now ≡ 65536 }
-    ensures { IfSome result (λ block. block_bits block ≡ bits.now) }
+    requires inside { from + 65536 ≤ length bits.now }
+    ensures { IfSome result (λ block. block_bits block ≡ slice_range bits.now from (from + 65536)) }
 {
     let count = part.bits.len();
     let first = (part.start + place).checked_sub(part.at)?;
-    if count < first + BLOCK || alike_bits(bits, 0, part.bits, first, BLOCK) < BLOCK {
+    if count < first + BLOCK || alike_bits(bits, from, part.bits, first, BLOCK) < BLOCK {
         return None;
     }
     Some(Block::OfPart(part.bits, first))

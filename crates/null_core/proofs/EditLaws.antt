@@ -9,7 +9,7 @@ use Rattle.null_core.specs.Parts.{AskedContent, PartContent, reach}
 use Rattle.null_core.specs.Walks.{IsNoOnes, IsOwnFrom, IsOwnStart, IsPastOthers, IsUnedited}
 use Rattle.null_core.proofs.OwnLaws.{ends_here}
 
-module _ (a : AskedContent) (bits : List Bool) (n : ℕ) (run : OwnRun) (from_here : IsOwnFrom a.parts bits (n - reach a) run) where
+module _ (a : AskedContent) (bits : List Bool) (n : ℕ) (run : OwnRun) (from_here : IsOwnFrom a.parts bits (n - reach a) (length bits) run) where
   -- its first place around is no one's
   pub edited_none : n < length bits → run.source ≡ None → IsEdited a bits n
   edited_none inside is t o around =
@@ -20,7 +20,7 @@ module _ (a : AskedContent) (bits : List Bool) (n : ℕ) (run : OwnRun) (from_he
   pub edited_end : (s : Source) → run.source ≡ Some s → run.until < length bits → run.until ≤ n + reach a → IsEdited a bits n
   edited_end s is inside near t o around =
       let low = n - reach a in
-      ends_here a.parts bits low low t o run s from_here is (omega arith) from_here.some inside (around low (omega arith) (omega arith) (omega (arith, from_here.some))) (around run.until (omega (arith, from_here.some)) near inside)
+      ends_here a.parts bits low (length bits) low t o run s from_here is (omega arith) from_here.some inside (around low (omega arith) (omega arith) (omega (arith, from_here.some))) (around run.until (omega (arith, from_here.some)) near inside)
 
   -- the run goes on around a later place
   pub unedited_in : (s : Source) (k : ℕ) → run.source ≡ Some s → n ≤ k → (run.until ≡ length bits) ⊎ (k + reach a < run.until) → IsUnedited a bits k
@@ -41,7 +41,7 @@ module _ (parts : List PartContent) (bits : List Bool) (low high : ℕ) (some : 
     other = λ _ t o own. others.other lt t o (own (past - 1) (omega arith) (omega (arith, others.before)));
   }
 
-  module _ (run : OwnRun) (from_here : IsOwnFrom parts bits low run) where
+  module _ (run : OwnRun) (from_here : IsOwnFrom parts bits low high run) where
     pub start_none : run.source ≡ None → IsOwnStart parts bits low high (low + 1)
     start_none is = record {
       after = omega arith;
@@ -63,7 +63,7 @@ module _ (parts : List PartContent) (bits : List Bool) (low high : ℕ) (some : 
       after = omega (arith, from_here.some);
       before = omega arith;
       own = λ same. absurd (omega (arith, from_here.some, same));
-      other = λ _ t o own. ends_here parts bits low (run.until - 1) t o run s from_here is (omega (arith, from_here.some)) (omega (arith, from_here.some)) (omega arith) (own (run.until - 1) (omega arith) (omega (arith, from_here.some))) (own run.until (omega arith) near);
+      other = λ _ t o own. ends_here parts bits low high (run.until - 1) t o run s from_here is (omega (arith, from_here.some)) (omega (arith, from_here.some)) near (own (run.until - 1) (omega arith) (omega (arith, from_here.some))) (own run.until (omega arith) near);
     }
 
 module _ (a : AskedContent) (bits : List Bool) (place high next : ℕ) (here : place < length bits) (is : high ≡ min (place + reach a + 1) (length bits)) (start : IsOwnStart a.parts bits (place - reach a) high next) where

@@ -138,20 +138,20 @@ past_heard parts bits low high past heard so_far = record {
 }
 
 -- ---- whose own bits
-module _ (parts : List PartContent) (bits : List Bool) (m until : ℕ) (alone : Alone) (from_here : IsAloneFrom parts m alone) (less : until ≤ alone.until) (inside : until ≤ length bits) where
+module _ (parts : List PartContent) (bits : List Bool) (m until high : ℕ) (alone : Alone) (from_here : IsAloneFrom parts m alone) (less : until ≤ alone.until) (inside : until ≤ high) where
   none_alone : alone.source ≡ None → (k : ℕ) → m ≤ k → k < until → IsNoOnes parts bits k
   none_alone is k from to t o own = MatchOption-at_none (IsNoOnesAlone parts k) (λ (s : Source). IsAlone parts s.take s.ahead k) is (from_here.same k from (omega arith)) t o own.alone
 
-  pub piece_none : m < until → alone.source ≡ None → IsOwnPiece parts bits m (record { source = None; until = until })
+  pub piece_none : m < until → alone.source ≡ None → IsOwnPiece parts bits m high (record { source = None; until = until })
   piece_none some is = record { some = some; inside = inside; same = none_alone is }
 
-  pub past_none : (high : ℕ) → m < until → until ≤ high → alone.source ≡ None → IsPastOthers parts bits m high until
-  past_none high some before is = record { after = omega arith; before = before; other = λ lt. none_alone is (until - 1) (omega arith) (omega arith) }
+  pub past_none : m < until → alone.source ≡ None → IsPastOthers parts bits m high until
+  past_none some is = record { after = omega arith; before = inside; other = λ lt. none_alone is (until - 1) (omega arith) (omega arith) }
 
   pub piece_own : (source : Source) (end : ℕ) (run : OwnRun) → m < until → alone.source ≡ Some source → AreAlikeTo parts bits m until end → (end ≡ m → run ≡ record { source = None; until = m + 1 }) → (m < end → run ≡ record { source = Some source; until = end })
-      → IsOwnPiece parts bits m run
+      → IsOwnPiece parts bits m high run
   piece_own source end run some is alike none own = elim (cases_lt m end) [
-    | inl lt ↦ subst (IsOwnPiece parts bits m) (sym (own lt)) (record {
+    | inl lt ↦ subst (IsOwnPiece parts bits m high) (sym (own lt)) (record {
       some = lt;
       inside = omega (arith, alike.before);
       same = λ k from to. record {
@@ -161,7 +161,7 @@ module _ (parts : List PartContent) (bits : List Bool) (m until : ℕ) (alone : 
     })
     | inr past ↦
         let same : end ≡ m = omega (arith, past, alike.after) in
-        subst (IsOwnPiece parts bits m) (sym (none same)) (record {
+        subst (IsOwnPiece parts bits m high) (sym (none same)) (record {
           some = omega arith;
           inside = omega arith;
           same = λ k from to t o own. (let here : k ≡ end = omega arith in alike.ends (omega arith) (subst (HasBit parts bits) here own.same));
@@ -190,17 +190,17 @@ other_source parts bits k source (Some s) here other own =
     let same = one_source parts k s.take source.take s.ahead source.ahead here.alone own.alone in
     other (ap (λ (x : Source). Some x) (same_source s source same.0 same.1))
 
-module _ (parts : List PartContent) (bits : List Bool) (source : Source) where
-  piece_at : (m k : ℕ) (run : OwnRun) → IsOwnPiece parts bits m run → run.source ≡ Some source → m ≤ k → k < run.until → IsOwn parts bits source.take source.ahead k
+module _ (parts : List PartContent) (bits : List Bool) (high : ℕ) (source : Source) where
+  piece_at : (m k : ℕ) (run : OwnRun) → IsOwnPiece parts bits m high run → run.source ≡ Some source → m ≤ k → k < run.until → IsOwn parts bits source.take source.ahead k
   piece_at m k run piece is from to = MatchOption-at_some (IsNoOnes parts bits k) (λ (s : Source). IsOwn parts bits s.take s.ahead k) source is (piece.same k from to)
 
-  pub own_more : (from m : ℕ) (run : OwnRun) → AreOwn parts bits source.take source.ahead from m → IsOwnPiece parts bits m run → run.source ≡ Some source → AreOwn parts bits source.take source.ahead from run.until
+  pub own_more : (from m : ℕ) (run : OwnRun) → AreOwn parts bits source.take source.ahead from m → IsOwnPiece parts bits m high run → run.source ≡ Some source → AreOwn parts bits source.take source.ahead from run.until
   own_more from m run so_far piece is k after to = elim (cases_lt k m) [
     | inl before ↦ so_far k after before
     | inr past ↦ piece_at m k run piece is past to
   ]
 
-  pub run_own : (m until : ℕ) (run : OwnRun) → IsOwnPiece parts bits m run → run.source ≡ Some source → IsOwnTo parts bits source run.until until → IsOwnFrom parts bits m (record { source = Some source; until = until })
+  pub run_own : (m until : ℕ) (run : OwnRun) → IsOwnPiece parts bits m high run → run.source ≡ Some source → IsOwnTo parts bits source run.until high until → IsOwnFrom parts bits m high (record { source = Some source; until = until })
   run_own m until run piece is to = record {
     some = omega (arith, piece.some, to.after);
     inside = to.inside;
@@ -208,12 +208,12 @@ module _ (parts : List PartContent) (bits : List Bool) (source : Source) where
       | inl first ↦ piece_at m k run piece is after first
       | inr later ↦ to.same k later before
     ];
-    ends = λ s same. subst (λ (x : Source). (until ≡ length bits) ⊎ (IsOwn parts bits x.take x.ahead until → ⊥)) (same_Some source s same) to.ends;
+    ends = λ s same. subst (λ (x : Source). (until ≡ high) ⊎ (IsOwn parts bits x.take x.ahead until → ⊥)) (same_Some source s same) to.ends;
   }
 
 -- where the own bits of a run end, those of no source go on from it
-pub ends_here : (parts : List PartContent) (bits : List Bool) (m k t : ℕ) (o : ℤ) (run : OwnRun) (s : Source) → IsOwnFrom parts bits m run → run.source ≡ Some s → m ≤ k → k < run.until → run.until < length bits → IsOwn parts bits t o k → IsOwn parts bits t o run.until → ⊥
-ends_here parts bits m k t o run s from_here is from to inside own_here own_there =
+pub ends_here : (parts : List PartContent) (bits : List Bool) (m high k t : ℕ) (o : ℤ) (run : OwnRun) (s : Source) → IsOwnFrom parts bits m high run → run.source ≡ Some s → m ≤ k → k < run.until → run.until < high → IsOwn parts bits t o k → IsOwn parts bits t o run.until → ⊥
+ends_here parts bits m high k t o run s from_here is from to inside own_here own_there =
     let own_run = MatchOption-at_some (IsNoOnes parts bits k) (λ (x : Source). IsOwn parts bits x.take x.ahead k) s is (from_here.same k from to) in
     let same = one_source parts k t s.take o s.ahead own_here.alone own_run.alone in
     elim (from_here.ends s is) [

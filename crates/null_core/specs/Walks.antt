@@ -30,25 +30,26 @@ pub record IsAloneFrom (parts : List PartContent) (m : ℕ) (found : Alone) : Ty
 abbrev pub AreOwn : List PartContent → List Bool → ℕ → ℤ → ℕ → ℕ → Type 0
 AreOwn parts bits t o from to = (k : ℕ) → from ≤ k → k < to → IsOwn parts bits t o k
 
--- from a place up to another one the master has the own bits of one source, or those of none
-pub record IsOwnPiece (parts : List PartContent) (bits : List Bool) (m : ℕ) (run : OwnRun) : Type 0 where
+-- from a place up to another one, `high` at most, the master has the own bits of one source, or those of none
+pub record IsOwnPiece (parts : List PartContent) (bits : List Bool) (m high : ℕ) (run : OwnRun) : Type 0 where
   pub some : m < run.until
-  pub inside : run.until ≤ length bits
+  pub inside : run.until ≤ high
   pub same : (k : ℕ) → m ≤ k → k < run.until → MatchOption run.source (IsNoOnes parts bits k) (λ (s : Source). IsOwn parts bits s.take s.ahead k)
 
--- the own bits of a source go on from a place up to another one, and end there
-pub record IsOwnTo (parts : List PartContent) (bits : List Bool) (s : Source) (from to : ℕ) : Type 0 where
+-- the own bits of a source go on from a place up to another one, which is `high`, or they end there
+pub record IsOwnTo (parts : List PartContent) (bits : List Bool) (s : Source) (from high to : ℕ) : Type 0 where
   pub after : from ≤ to
-  pub inside : to ≤ length bits
+  pub inside : to ≤ high
   pub same : AreOwn parts bits s.take s.ahead from to
-  pub ends : (to ≡ length bits) ⊎ (IsOwn parts bits s.take s.ahead to → ⊥)
+  pub ends : (to ≡ high) ⊎ (IsOwn parts bits s.take s.ahead to → ⊥)
 
--- from a place up to another one the master has the own bits of one source, or those of none; those of one end there
-pub record IsOwnFrom (parts : List PartContent) (bits : List Bool) (m : ℕ) (run : OwnRun) : Type 0 where
+-- from a place up to another one the master has the own bits of one source, or those of none; that one is `high`, or
+-- those of one end there
+pub record IsOwnFrom (parts : List PartContent) (bits : List Bool) (m high : ℕ) (run : OwnRun) : Type 0 where
   pub some : m < run.until
-  pub inside : run.until ≤ length bits
+  pub inside : run.until ≤ high
   pub same : (k : ℕ) → m ≤ k → k < run.until → MatchOption run.source (IsNoOnes parts bits k) (λ (s : Source). IsOwn parts bits s.take s.ahead k)
-  pub ends : (s : Source) → run.source ≡ Some s → (run.until ≡ length bits) ⊎ (IsOwn parts bits s.take s.ahead run.until → ⊥)
+  pub ends : (s : Source) → run.source ≡ Some s → (run.until ≡ high) ⊎ (IsOwn parts bits s.take s.ahead run.until → ⊥)
 
 -- from place m up to another one the master has the bits of each part that is heard; that one is `until`, or it hasn't
 -- such a part's bit

@@ -41,7 +41,7 @@ fn first_edited(asked: Asked<'_>, bits: &Channel<'_>, from: usize) -> Option<usi
     let count = bits.len();
     let mut place = from;
     while place < count {
-        let run = own_run(asked.parts, bits, place.saturating_sub(reach));
+        let run = own_run(asked.parts, bits, place.saturating_sub(reach), count);
         match run.source {
             None => return Some(place),
             Some(_) if run.until == count => return None,
@@ -86,7 +86,7 @@ fn own_start(parts: &[Part<'_>], bits: &Channel<'_>, low: usize, high: usize) ->
     if past > low {
         return past;
     }
-    let run = own_run(parts, bits, low);
+    let run = own_run(parts, bits, low, high);
     match run.source {
         Some(_) if run.until >= high => low,
         Some(_) => run.until,

@@ -19,30 +19,38 @@ pub struct OwnRun {
     pub until: usize,
 }
 
-/// Whose own bits a channel of the master has from place `m` on, and how far. If they are a take's, the run is not longer.
-pub(crate) fn own_run(parts: &[Part<'_>], bits: &Channel<'_>, m: usize) -> OwnRun
-    requires { m < length bits.now }
-    ensures { IsOwnFrom (map part_content parts.now) bits.now m result }
+/// Whose own bits a channel of the master has from place `m` on, and how far, up to place `high` at most. If they are a
+/// take's, the run is not longer, or ends at `high`.
+pub(crate) fn own_run(parts: &[Part<'_>], bits: &Channel<'_>, m: usize, high: usize) -> OwnRun
+    requires in_order { m < high }
+    requires inside { high ≤ length bits.now }
+    ensures { IsOwnFrom (map part_content parts.now) bits.now m high result }
 {
-    let first = own_piece(parts, bits, m);
+    let first = own_piece(parts, bits, m, high);
     match first.source {
         Some(source) => OwnRun {
             source: Some(source),
-            until: own_until(parts, bits, source, first.until),
+            until: own_until(parts, bits, source, first.until, high),
         },
         None => first,
     }
 }
 
-// The place up to which the own bits of a take go on from place `from`.
-fn own_until(parts: &[Part<'_>], bits: &Channel<'_>, source: Source, from: usize) -> usize
-    requires { from ≤ length bits.now }
-    ensures { IsOwnTo (map part_content parts.now) bits.now source from result }
+// The place up to which the own bits of a take go on from place `from`, `high` at most.
+fn own_until(
+    parts: &[Part<'_>],
+    bits: &Channel<'_>,
+    source: Source,
+    from: usize,
+    high: usize,
+) -> usize
+    requires in_order { from ≤ high }
+    requires inside { high ≤ length bits.now }
+    ensures { IsOwnTo (map part_content parts.now) bits.now source from high result }
 {
-    let count = bits.len();
     let mut until = from;
-    while until < count {
-        let next = own_piece(parts, bits, until);
+    while until < high {
+        let next = own_piece(parts, bits, until, high);
         if !is_source(next.source, source) {
             return until;
         }
@@ -61,14 +69,15 @@ fn is_source(found: Option<Source>, source: Source) -> bool
     }
 }
 
-// Whose own bits the master has from place `m` on, as far as the same parts are heard.
-fn own_piece(parts: &[Part<'_>], bits: &Channel<'_>, m: usize) -> OwnRun
-    requires { m < length bits.now }
-    ensures { IsOwnPiece (map part_content parts.now) bits.now m result }
+// Whose own bits the master has from place `m` on, as far as the same parts are heard, up to place `high` at most.
+fn own_piece(parts: &[Part<'_>], bits: &Channel<'_>, m: usize, high: usize) -> OwnRun
+    requires in_order { m < high }
+    requires inside { high ≤ length bits.now }
+    ensures { IsOwnPiece (map part_content parts.now) bits.now m high result }
 {
-    let count = bits.len();
+    let _count = bits.len();
     let alone = alone_at(parts, m);
-    let until = alone.until.min(count);
+    let until = alone.until.min(high);
     match alone.source {
         Some(source) => piece_of(source, m, alike_until(parts, bits, m, until)),
         None => OwnRun {

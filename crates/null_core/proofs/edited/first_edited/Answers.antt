@@ -6,10 +6,11 @@ use Rattle.null_core.proofs.EditLaws.{edited_end, edited_none, unedited_in}
 use Rattle.null_core.proofs.edited.first_edited.Goals as goal
 use Rattle.null_core.proofs.edited.first_edited.Goals.{After-own_run-run}
 
-from_here : (c : After-own_run-run) → IsOwnFrom (map part_content c.args.asked.parts.now) c.args.bits.now (c.loop-place.place - reach (asked_content c.args.asked)) c.own_run-run.result
+from_here : (c : After-own_run-run) → IsOwnFrom (map part_content c.args.asked.parts.now) c.args.bits.now (c.loop-place.place - reach (asked_content c.args.asked)) (length c.args.bits.now) c.own_run-run.result
 from_here c =
     let same : c.saturating_sub.result ≡ c.loop-place.place - reach (asked_content c.args.asked) = omega (arith, c.saturating_sub.ensures, c.len-reach.ensures.value) in
-    subst (λ m. IsOwnFrom (map part_content c.args.asked.parts.now) c.args.bits.now m c.own_run-run.result) same c.own_run-run.ensures
+    let parts = map part_content c.args.asked.parts.now in
+    subst (λ n. IsOwnFrom parts c.args.bits.now (c.loop-place.place - reach (asked_content c.args.asked)) n c.own_run-run.result) c.len-count.ensures.value (subst (λ m. IsOwnFrom parts c.args.bits.now m c.len-count.result c.own_run-run.result) same c.own_run-run.ensures)
 
 pub returns-in-None : goal.returns-in-None
 returns-in-None c = record {

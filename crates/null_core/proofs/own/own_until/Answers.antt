@@ -22,5 +22,5 @@ loop-until-preserved c =
     record {
       after = omega (arith, so_far.after, next.some);
       inside = next.inside;
-      same = own_more (map part_content c.args.parts.now) c.args.bits.now c.args.source c.args.from c.loop-until.until c.own_piece-next.result so_far.same next (c.if-not-is_source.ensures.0 refl);
+      same = own_more (map part_content c.args.parts.now) c.args.bits.now c.args.high c.args.source c.args.from c.loop-until.until c.own_piece-next.result so_far.same next (c.if-not-is_source.ensures.0 refl);
     }

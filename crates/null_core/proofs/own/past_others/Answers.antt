@@ -10,4 +10,5 @@ pub past_heard-requires-clause-heard : goal.past_heard-requires-clause-heard
 past_heard-requires-clause-heard c = λ k from to. c.alone_at-alone.ensures.heard c.in-Some.field-0 c.in-Some.is k from (omega (arith, to, c.min-end.ensures))
 
 pub returns-in-None : goal.returns-in-None
-returns-in-None c = past_none (map part_content c.args.parts.now) c.args.bits.now c.args.low c.min-end.result c.alone_at-alone.result c.alone_at-alone.ensures (omega (arith, c.min-end.ensures)) (omega (arith, c.min-end.ensures, c.requires.inside)) c.args.high (omega (arith, c.min-end.ensures, c.requires.in_order, c.alone_at-alone.ensures.some)) (omega (arith, c.min-end.ensures)) c.in-None.is
+returns-in-None c =
+    past_none (map part_content c.args.parts.now) c.args.bits.now c.args.low c.min-end.result c.args.high c.alone_at-alone.result c.alone_at-alone.ensures (omega (arith, c.min-end.ensures)) (omega (arith, c.min-end.ensures)) (omega (arith, c.min-end.ensures, c.requires.in_order, c.alone_at-alone.ensures.some)) c.in-None.is

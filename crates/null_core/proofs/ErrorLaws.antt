@@ -46,6 +46,3 @@ same_w32 z small = to_z-of_z w32 z (fits_signed_from_abs w32 z small)
 module _ (f : ℕ → ℤ) (a n i : ℕ) (xs : List ℤ) (is : xs ≡ map f (range_with_len a n)) (inside : i < n) where
   pub listed_at : (d : ℤ) → get_or xs i d ≡ f (a + i)
   listed_at d = ap (λ ys. get_or ys i d) is ∙ get_or-map-range_with_len f a n i (a + i) d inside refl
-
-  pub listed_small : (x : ℤ) → x ≡ get_or xs i x → unsigned_abs (get_or xs i (pos 0)) ≤ 2 ^ 60 → unsigned_abs x ≤ 2 ^ 60
-  listed_small x at small = subst (λ (y : ℤ). unsigned_abs y ≤ 2 ^ 60) (listed_at (pos 0) ∙ sym (at ∙ listed_at x)) small

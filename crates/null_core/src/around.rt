@@ -7,13 +7,14 @@ ghost use Rattle.null_core.specs.Parts.{IsAsked, asked_content};
 use crate::asked::Asked;
 use crate::channel::Channel;
 use crate::errors::push_errors;
-use std::alloc::{AllocError, Global};
+use crate::mixing::MixSpace;
+use std::alloc::AllocError;
 
 /// Lists the errors that windows read which begin `reach` places before place `first`: 0 outside of the master. If one
 /// is `2^31` or more in absolute value, the first such place is returned, and what is listed is of no use.
 pub(crate) fn list_errors_around(
-    alloc: Global,
     errors: &mut Vec<i32>,
+    space: &mut MixSpace,
     asked: Asked<'_>,
     bits: &Channel<'_>,
     first: usize,
@@ -29,7 +30,7 @@ pub(crate) fn list_errors_around(
     let end = (first + number).saturating_sub(reach).min(count);
     errors.clear();
     errors.resize(reach.saturating_sub(first), 0)?;
-    let loud = push_errors(alloc, errors, asked, bits, first.saturating_sub(reach), end)?;
+    let loud = push_errors(errors, space, asked, bits, first.saturating_sub(reach), end)?;
     errors.resize(number, 0)?;
     Ok(loud)
 }

@@ -8,6 +8,7 @@ ghost use Rattle.null_core.specs.Parts.{IsAsked, asked_content};
 use crate::around::list_errors_around;
 use crate::asked::Asked;
 use crate::channel::Channel;
+use crate::mixing::MixSpace;
 use crate::peak::peak_of;
 use crate::stretch::Stretch;
 use std::alloc::{AllocError, Global};
@@ -24,15 +25,30 @@ pub(crate) struct Chunk {
 /// Memory that each chunk uses again. A chunk spans at most `2^16` places, and the windows read fewer than that beyond it.
 #[derive(Drop)]
 pub(crate) struct Workspace {
+    /// What the mix is made in.
+    pub space: MixSpace,
     /// The errors that the windows read.
     pub errors: Vec<i32>,
     /// The residuals.
     pub sums: Vec<i64>,
 }
 
+impl Workspace {
+    /// Nothing yet.
+    pub(crate) fn new(alloc: Global) -> Workspace {
+        Workspace {
+            space: MixSpace {
+                sound: Vec::new(alloc),
+                mixed: Vec::new(alloc),
+            },
+            errors: Vec::new(alloc),
+            sums: Vec::new(alloc),
+        }
+    }
+}
+
 /// A chunk as a stretch, or the first place that is too loud.
 pub(crate) fn judge_chunk(
-    alloc: Global,
     asked: Asked<'_>,
     bits: &Channel<'_>,
     chunk: Chunk,
@@ -45,10 +61,9 @@ pub(crate) fn judge_chunk(
 {
     let every = asked.every;
     let span = chunk.last - chunk.first;
-    let errors = &mut workspace.errors;
     let loud = list_errors_around(
-        alloc,
-        errors,
+        &mut workspace.errors,
+        &mut workspace.space,
         asked,
         bits,
         chunk.first,

@@ -4,12 +4,13 @@ ghost use Rattle.std.specs.Prelude.{◌≡◌, ◌+◌, ◌-◌, ◌^◌, ◌<�
 ghost use Rattle.std.specs.List.{range_with_len};
 ghost use Rattle.null_core.specs.Errors.{IsLoud, error_of, in_units, wanted};
 ghost use Rattle.null_core.specs.Judging.{AppendErrors, IsQuietError};
+ghost use Rattle.null_core.specs.Mixing.{AreSmall, mixes_from};
 ghost use Rattle.null_core.specs.Parts.{IsAsked, asked_content, mix_at, part_content};
 
 use crate::asked::Asked;
 use crate::channel::Channel;
-use crate::mixing::mix_between;
-use std::alloc::{AllocError, Global};
+use crate::mixing::{MixSpace, mix_between};
+use std::alloc::AllocError;
 
 /// From which absolute value on an error is too large to be judged.
 const LOUD: u64 = 1 << 31;
@@ -26,8 +27,8 @@ const SHIFT: u32 = 23;
 /// Appends the errors of the places from `from` up to `to`. If one is `2^31` or more in absolute value, the first such
 /// place is returned, and what was appended is of no use. Err is out of memory.
 pub(crate) fn push_errors(
-    alloc: Global,
     errors: &mut Vec<i32>,
+    space: &mut MixSpace,
     asked: Asked<'_>,
     bits: &Channel<'_>,
     from: usize,
@@ -39,7 +40,25 @@ pub(crate) fn push_errors(
     ensures { IfOk result (λ loud. AppendErrors (asked_content asked.entry) bits.now from to errors.old.items errors.new.items loud) }
 {
     let _count = bits.len();
-    let mixed = mix_between(alloc, asked.parts, from, to)?;
+    mix_between(space, asked.parts, from, to)?;
+    push_quiet(errors, asked, bits, from, &space.mixed)
+}
+
+// The same where this is the mix.
+fn push_quiet(
+    errors: &mut Vec<i32>,
+    asked: Asked<'_>,
+    bits: &Channel<'_>,
+    from: usize,
+    mixed: &[i64],
+) -> Result<Option<usize>, AllocError>
+    requires unit { asked.unit ≤ 2 ^ 28 }
+    requires inside { from + length mixed.now ≤ length bits.now }
+    requires mix { mixed.now ≡ mixes_from (map part_content asked.parts.now) from (length mixed.now) }
+    requires small { AreSmall (2 ^ 60) mixed.now }
+    ensures { IfOk result (λ loud. AppendErrors (asked_content asked.entry) bits.now from (from + length mixed.now) errors.old.items errors.new.items loud) }
+{
+    let _count = bits.len();
     for i in 0..mixed.len() {
         match quiet_error(asked, bits, from + i, mixed[i]) {
             Some(error) => errors.push(error)?,

@@ -36,22 +36,13 @@ pub fn judge_channel<W: Watch>(
     requires { IsAsked (asked_content asked) }
     ensures { IfOk result (λ found. JudgesChannel (asked_content asked.entry) bits.now (judged_items found)) }
 {
-    let mut workspace = Workspace {
-        errors: Vec::new(alloc),
-        sums: Vec::new(alloc),
-    };
+    let mut workspace = Workspace::new(alloc);
     let compared = Compared { bits, watch };
     let mut stretches = Vec::new(alloc);
     let mut from = 0;
     while let Some(span) = next_span(asked, bits, from) {
-        if let Some(place) = judge_span(
-            alloc,
-            asked,
-            &compared,
-            span,
-            &mut workspace,
-            &mut stretches,
-        )? {
+        let loud = judge_span(asked, &compared, span, &mut workspace, &mut stretches)?;
+        if let Some(place) = loud {
             return Ok(Err(place));
         }
         from = span.stop;
@@ -61,7 +52,6 @@ pub fn judge_channel<W: Watch>(
 
 // Adds the stretches of a span, or returns the first place that is too loud.
 fn judge_span<W: Watch>(
-    alloc: Global,
     asked: Asked<'_>,
     compared: &Compared<'_, '_, '_, W>,
     span: Span,
@@ -82,7 +72,7 @@ fn judge_span<W: Watch>(
     let mut first = span.start.next_multiple_of(asked.every);
     while first < span.stop {
         let last = chunk_end(first, span.stop, asked.every, tap_number);
-        match judge_chunk(alloc, asked, bits, Chunk { first, last }, workspace)? {
+        match judge_chunk(asked, bits, Chunk { first, last }, workspace)? {
             Err(place) => return Ok(Some(place)),
             Ok(stretch) => join_stretch(stretches, stretch, tap_number)?,
         }

@@ -1,6 +1,6 @@
 //! The mix at some places.
 
-ghost use Rattle.std.specs.Prelude.{◌≡◌, ◌+◌, ◌-◌, ◌^◌, ◌<◌, ◌≤◌, ◌+ℤ◌, ◌*ℤ◌, IfOk, length, map, pos, replicate, slice_index_or, unsigned_abs};
+ghost use Rattle.std.specs.Prelude.{◌≡◌, ◌+◌, ◌-◌, ◌^◌, ◌<◌, ◌≤◌, ◌+ℤ◌, ◌*ℤ◌, OnOk, length, map, pos, replicate, slice_index_or, unsigned_abs};
 ghost use Rattle.clip_core.specs.Gains.{ArePoints, gain};
 ghost use Rattle.clip_core.specs.Lines.{IsLineOf, IsOnLine, line_gain, until};
 ghost use Rattle.null_core.specs.Mixing.{AreFewParts, AreSmall, IsGained, IsPartAdded, mixes_from};
@@ -8,27 +8,35 @@ ghost use Rattle.null_core.specs.Parts.{IsPart, part_content};
 
 use crate::part::Part;
 use clip_core::{Line, Point, line_at};
-use std::alloc::{AllocError, Global};
+use std::alloc::AllocError;
 
-/// The mix at the places from `from` up to `to`: what all parts add there. Err is out of memory.
+/// Memory in which the mix is made, which each chunk uses again.
+#[derive(Drop)]
+pub(crate) struct MixSpace {
+    /// The sound of a part.
+    pub sound: Vec<i32>,
+    /// The mix.
+    pub mixed: Vec<i64>,
+}
+
+/// Makes the mix at the places from `from` up to `to`: what all parts add there. Err is out of memory.
 pub(crate) fn mix_between(
-    alloc: Global,
+    space: &mut MixSpace,
     parts: &[Part<'_>],
     from: usize,
     to: usize,
-) -> Result<Vec<i64>, AllocError>
+) -> Result<(), AllocError>
     requires parts { AreFewParts (map part_content parts.now) }
     requires in_order { from ≤ to }
     requires inside { to ≤ 2 ^ 36 }
-    ensures mix { IfOk result (λ mixed. mixed.items ≡ mixes_from (map part_content parts.now) from (to - from)) }
-    ensures bound { IfOk result (λ mixed. AreSmall (2 ^ 60) mixed.items) }
+    ensures mix { OnOk result (space.new.mixed.items ≡ mixes_from (map part_content parts.now) from (to - from)) }
+    ensures bound { OnOk result (AreSmall (2 ^ 60) space.new.mixed.items) }
 {
-    let mut sound = Vec::new(alloc);
-    sound.resize(to - from, 0)?;
-    let mut mixed = Vec::new(alloc);
-    mixed.resize(to - from, 0)?;
-    add_parts(parts, from, &mut sound, &mut mixed);
-    Ok(mixed)
+    space.sound.resize(to - from, 0)?;
+    space.mixed.clear();
+    space.mixed.resize(to - from, 0)?;
+    add_parts(parts, from, &mut space.sound, &mut space.mixed);
+    Ok(())
 }
 
 // Makes zeros the mix at the places from `from` on. The sound is a place to work in.

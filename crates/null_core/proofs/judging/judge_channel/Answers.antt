@@ -11,7 +11,7 @@ judge_span-requires-clause-so_far g c = judged_over (asked_content c.args.asked)
 pub loop-span-preserved : goal.loop-span-preserved
 loop-span-preserved g c = record {
   inside = c.in-Some.ensures.inside;
-  so_far = subst (JudgesSpan (asked_content c.args.asked) c.args.bits.now c.in-Some.span.stop c.judge_span.new.stretches.items) c.in_default-2.is c.in_ok-place.ensures;
+  so_far = subst (JudgesSpan (asked_content c.args.asked) c.args.bits.now c.in-Some.span.stop c.judge_span.new.stretches.items) c.in_default-loud.is c.in_ok-loud.ensures;
 }
 
 pub returns : goal.returns

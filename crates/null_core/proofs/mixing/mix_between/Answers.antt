@@ -11,7 +11,7 @@ use Rattle.null_core.proofs.mixing.mix_between.Goals.{After-deref_mut-2}
 zeros : (c : After-deref_mut-2) → c.deref_mut-2.result.now ≡ replicate (c.args.to - c.args.from) (pos 0)
 zeros c =
     let number = c.args.to - c.args.from in
-    c.deref_mut-2.ensures.value ∙ only_zeros c.new-mixed.result.items c.resize-2.new.self.items number number c.new-mixed.result.len refl c.new-mixed.ensures.items (omega (arith, c.new-mixed.result.ok.0)) c.in_ok-resize-2.ensures.items
+    c.deref_mut-2.ensures.value ∙ only_zeros c.clear.new.self.items c.resize-2.new.self.items number number c.clear.new.self.len refl c.clear.ensures.items (omega (arith, c.clear.new.self.ok.0)) c.in_ok-resize-2.ensures.items
 
 long : (c : After-deref_mut-2) → length c.deref_mut-2.result.now ≡ c.args.to - c.args.from
 long c = ap length (zeros c) ∙ length-replicate (c.args.to - c.args.from) (pos 0)

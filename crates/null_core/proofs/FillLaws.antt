@@ -1,7 +1,7 @@
 -- Channels that are filled with a sound that comes, and what the whole file holds.
-use Rattle.std.proofs.Common.{◌≡◌, ◌∙◌, ℕ, ◌+◌, ◌%◌, ◌<◌, ◌≤◌, inl, inr, Bool, List, [], ◌++◌, Option, Some, None, ap, arith, get_or, length, refl, replicate, set, subst, sym, Global, Vec}
+use Rattle.std.proofs.Common.{◌≡◌, ◌∙◌, ℕ, ◌+◌, ◌%◌, ◌<◌, ◌≤◌, inl, inr, Bool, List, [], ◌++◌, Option, Some, None, ap, arith, get_or, length, refl, replicate, subst, sym, Global, Vec}
 use Rattle.std.proofs.lemmas.Bool.{cases_lt}
-use Rattle.std.proofs.lemmas.List.{ext_get_or, get_or-replicate, get_or-set_other, get_or-set_same, length-replicate, length-set, nil_from_length}
+use Rattle.std.proofs.lemmas.List.{ext_get_or, get_or-replicate, length-replicate, nil_from_length}
 use Rattle.chunk_core.specs.declared.inlet.Inlet.{Inlet}
 use Rattle.dsd_bits.specs.Contents.{Content}
 use Rattle.dsd_bits.specs.Shape.{HasShape}
@@ -53,19 +53,6 @@ pub record LongerUpTo (bits old now : List (List Bool)) (n : ℕ) : Type 0 where
 
 pub longer_none : (bits old : List (List Bool)) → LongerUpTo bits old old 0
 longer_none bits old = record { number = refl; later = λ k h. refl; longer = λ k h. absurd (omega (arith, h)) }
-
-pub longer_next : (bits old now : List (List Bool)) (n : ℕ) (new : List Bool) → LongerUpTo bits old now n → n < length now → new ≡ get_or now n [] ++ get_or bits n [] → LongerUpTo bits old (set now n new) (n + 1)
-longer_next bits old now n new so_far low is = record {
-  number = length-set now n new ∙ so_far.number;
-  later = λ k h. get_or-set_other now n k new [] (λ same. omega (arith, h, same)) ∙ so_far.later k (omega (arith, h));
-  longer = λ k h. elim (cases_lt k n) [
-    | inl before ↦ get_or-set_other now n k new [] (λ same. omega (arith, before, same)) ∙ so_far.longer k before
-    | inr at ↦ (
-        let same : k ≡ n = omega (arith, h, at) in
-        subst (λ (j : ℕ). get_or (set now n new) j [] ≡ get_or old j [] ++ get_or bits j []) (sym same)
-        (get_or-set_same now n new [] low ∙ is ∙ ap (λ xs. xs ++ get_or bits n []) (so_far.later n (omega arith))))
-  ];
-}
 
 pub longer_all : (bits old now : List (List Bool)) (n : ℕ) → LongerUpTo bits old now n → length old ≤ n → AreLonger bits old now
 longer_all bits old now n so_far enough = record { number = so_far.number; each = λ c h. so_far.longer c (omega (arith, h, enough)) }

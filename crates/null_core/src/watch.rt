@@ -7,7 +7,7 @@ pub trait Watch {
 }
 
 /// Tells of the places of one channel as of those of all channels one after the other.
-#[derive(Clone, Copy)]
+#[derive(Drop)]
 pub(crate) struct ChannelWatch<'a, W> {
     /// What is told of all channels.
     pub watch: &'a W,

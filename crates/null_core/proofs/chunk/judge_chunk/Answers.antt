@@ -1,4 +1,5 @@
 use Rattle.std.proofs.Common.{◌≡◌, ℕ, ◌+◌, ◌-◌, ◌*◌, ◌/◌, ◌<◌, ◌≤◌, ◌^◌, All, unsigned_abs, length, None, sym, subst, arith, rules}
+use Rattle.dsd_bits.proofs.ExitLaws.{no_value}
 use Rattle.heard_core.specs.Residuals.{window_residuals}
 use Rattle.null_core.specs.Chunks.{IsLoudAround, IsPeak, ListsErrors, errors_around}
 use Rattle.null_core.specs.Parts.{asked_content}
@@ -68,3 +69,9 @@ returns c =
     let p = (goal.at.returns c).In_default in
     let q = (goal.at.returns c).After-peak_of-peak in
     chunk_stretch (asked_content c.args.asked) c.requires.asked c.args.bits.now c.args.chunk c.requires.chunk c.requires.quiet c.list_errors_around.new.errors.items c.peak_of-peak.result (listed p) (quiet p) (peak q)
+
+pub returns-in_err-loud : goal.returns-in_err-loud
+returns-in_err-loud c = no_value _ _ c.from_residual.result c.from_residual.ensures.1
+
+pub returns-in_err-resize : goal.returns-in_err-resize
+returns-in_err-resize c = no_value _ _ c.from_residual-in_err-resize.result c.from_residual-in_err-resize.ensures.1

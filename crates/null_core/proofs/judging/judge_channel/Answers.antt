@@ -1,4 +1,5 @@
 use Rattle.std.proofs.Common.{length, subst}
+use Rattle.dsd_bits.proofs.ExitLaws.{no_value}
 use Rattle.null_core.specs.Judging.{JudgesSpan}
 use Rattle.null_core.specs.Parts.{asked_content}
 use Rattle.null_core.specs.Walks.{FindsSpan}
@@ -19,3 +20,6 @@ returns g c =
     let a = asked_content c.args.asked in
     let bits = c.args.bits.now in
     judged_all a bits c.loop-span.stretches.items (judged_over a bits c.loop-span.stretches.items c.loop-span.from (length bits) c.loop-span.invariant.so_far c.loop-span.invariant.inside (subst (FindsSpan a bits c.loop-span.from) c.in_default.is c.next_span.ensures))
+
+pub returns-in_err-loud : goal.returns-in_err-loud
+returns-in_err-loud g c = no_value _ _ c.from_residual.result c.from_residual.ensures.1

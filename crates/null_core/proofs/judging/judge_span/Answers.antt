@@ -1,5 +1,6 @@
 use Rattle.std.proofs.Common.{◌-◌, ◌%◌, min, sym, subst, arith}
 use Rattle.std.proofs.lemmas.Nat.{mod_below}
+use Rattle.dsd_bits.proofs.ExitLaws.{no_value}
 use Rattle.null_core.specs.Chunks.{JudgesChunk}
 use Rattle.null_core.specs.Judging.{IsJudgedTo}
 use Rattle.null_core.specs.Parts.{asked_content}
@@ -60,3 +61,9 @@ judge_chunk-requires-clause-chunk g c =
       edited = λ n from to. c.requires.edited n (omega (arith, from, c.loop-first.invariant.after)) (omega (arith, to, last.before));
       reached = λ more. omega (arith, last.reached more, c.len-tap_number.ensures.value);
     }
+
+pub returns-in_err-place : goal.returns-in_err-place
+returns-in_err-place g c = no_value _ _ c.from_residual.result c.from_residual.ensures.1
+
+pub returns-in_err-join_stretch-in-Ok : goal.returns-in_err-join_stretch-in-Ok
+returns-in_err-join_stretch-in-Ok g c = no_value _ _ c.from_residual-in_err-join_stretch-in-Ok.result c.from_residual-in_err-join_stretch-in-Ok.ensures.1

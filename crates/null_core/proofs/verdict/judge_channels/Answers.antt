@@ -1,5 +1,6 @@
-use Rattle.std.proofs.Common.{◌≡◌, ◌∙◌, ◌+◌, ◌∷◌, [], Bool, Global, List, Ok, Err, Vec, ap, get_or, length, map, refl, subst, sym}
+use Rattle.std.proofs.Common.{◌≡◌, ◌∙◌, ◌+◌, ◌∷◌, [], Bool, Global, List, Ok, Err, Vec, ap, arith, get_or, length, map, refl, subst, sym}
 use Rattle.std.proofs.lemmas.List.{get_or_read_under, map-append}
+use Rattle.dsd_bits.proofs.ExitLaws.{no_value}
 use Rattle.null_core.specs.declared.stretch.Stretch.{Stretch}
 use Rattle.null_core.specs.Judging.{judged_items}
 use Rattle.null_core.specs.Reading.{JudgesChannelOf}
@@ -37,3 +38,14 @@ returns-in-Err g c =
       before = map items c.loop-channel.stretches.items;
       judged = c.loop-channel.invariant;
     }
+
+pub returns-in_err-found : goal.returns-in_err-found
+returns-in_err-found g c = no_value _ _ c.from_residual.result c.from_residual.ensures.1
+
+pub returns-in_err-push-in-Ok : goal.returns-in_err-push-in-Ok
+returns-in_err-push-in-Ok g c = no_value _ _ c.from_residual-in_err-push-in-Ok.result c.from_residual-in_err-push-in-Ok.ensures.1
+
+pub returns : goal.returns
+returns g c =
+    let end : c.loop-channel.channel ≡ length c.args.channels.now = omega (arith, c.loop-channel-test.false, c.loop-channel.auto.channel-end) in
+    subst (λ n. AreJudgedTo c.args.mixed.now c.args.channels.now n (map items c.loop-channel.stretches.items)) end c.loop-channel.invariant

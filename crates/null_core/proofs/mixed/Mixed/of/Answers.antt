@@ -1,5 +1,6 @@
 use Rattle.std.proofs.Common.{◌∙◌, Global, List, Vec, ℤ, ap, length, map, subst, sym}
 use Rattle.std.proofs.lemmas.Result.{err_from_is_err_and}
+use Rattle.dsd_bits.proofs.ExitLaws.{no_value}
 use Rattle.clip_core.specs.Contents.{mix_content}
 use Rattle.cut_core.specs.Excerpts.{excerpts_content}
 use Rattle.cut_core.specs.declared.excerpts.Excerpts.{Excerpts}
@@ -15,11 +16,33 @@ fits-requires c =
     let mix = mix_content c.args.mix in
     ap length c.deref.ensures.value ∙ sym (length-map c.args.takes.items excerpts_content) ∙ read_long (mixed_of mix c.args.takes.items) c.requires.whole (is_read mix c.requires.whole c.args.takes.items c.requires.excerpts) ∙ c.requires.as_many
 
-pub returns-in_err-fits-clause-fault : goal.returns-in_err-fits-clause-fault
-returns-in_err-fits-clause-fault c =
+pub returns-in_err-fits : goal.returns-in_err-fits
+returns-in_err-fits c =
     let p = err_from_is_err_and c.from_residual.result c.from_residual.ensures.1 in
-    rw (p.1, p.2) (fault_of_takes (mix_content c.args.mix) c.args.takes.items c.in_err-fits.field-0.0
-    (subst (λ (hs : List Excerpts). IsFaultOf (mix_content c.args.mix) (read_shapes (map excerpts_content hs)) c.in_err-fits.field-0.0) c.deref.ensures.value c.in_err-fits.ensures.fault))
+    record {
+      made = no_value _ _ c.from_residual.result c.from_residual.ensures.1;
+      fit = no_value _ _ c.from_residual.result c.from_residual.ensures.1;
+      fault = rw (p.1, p.2) (fault_of_takes (mix_content c.args.mix) c.args.takes.items c.in_err-fits.field-0.0
+          (subst (λ (hs : List Excerpts). IsFaultOf (mix_content c.args.mix) (read_shapes (map excerpts_content hs)) c.in_err-fits.field-0.0) c.deref.ensures.value c.in_err-fits.ensures.fault));
+    }
+
+pub returns-in_err-decoders : goal.returns-in_err-decoders
+returns-in_err-decoders c =
+    let p = err_from_is_err_and c.from_residual-in_err-decoders.result c.from_residual-in_err-decoders.ensures.1 in
+    record {
+      made = no_value _ _ c.from_residual-in_err-decoders.result c.from_residual-in_err-decoders.ensures.1;
+      fit = no_value _ _ c.from_residual-in_err-decoders.result c.from_residual-in_err-decoders.ensures.1;
+      fault = rw (p.1, p.2) tt;
+    }
+
+pub returns-in_err-audible : goal.returns-in_err-audible
+returns-in_err-audible c =
+    let p = err_from_is_err_and c.from_residual-in_err-audible.result c.from_residual-in_err-audible.ensures.1 in
+    record {
+      made = no_value _ _ c.from_residual-in_err-audible.result c.from_residual-in_err-audible.ensures.1;
+      fit = no_value _ _ c.from_residual-in_err-audible.result c.from_residual-in_err-audible.ensures.1;
+      fault = rw (p.1, p.2) tt;
+    }
 
 fit : (c : In_ok-fits) → TakesFit (mix_content c.args.mix) c.args.takes.items
 fit c = takes_fit (mix_content c.args.mix) c.args.takes.items (subst (λ (hs : List Excerpts). ShapesFit (mix_content c.args.mix) (read_shapes (map excerpts_content hs))) c.deref.ensures.value c.in_ok-fits.ensures.fit)

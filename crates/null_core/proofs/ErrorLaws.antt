@@ -1,5 +1,5 @@
 -- Laws of errors that are appended one by one.
-use Rattle.std.proofs.Common.{◌≡◌, ℕ, ◌+◌, ◌^◌, ◌<◌, ◌≤◌, ◌++◌, ◌∷◌, [], ℤ, pos, Bool, List, map, get_or, unsigned_abs, refl, sym, inl, inr, ◌∙◌, ap, subst, arith, to_z, of_z, w32, w64}
+use Rattle.std.proofs.Common.{◌≡◌, ℕ, ◌+◌, ◌^◌, ◌<◌, ◌≤◌, ◌++◌, ◌∷◌, [], ℤ, Bool, List, map, get_or, unsigned_abs, refl, sym, inl, inr, ◌∙◌, ap, subst, arith, to_z, of_z, w32, w64}
 use Rattle.std.proofs.lemmas.List.{append-nil, append_assoc}
 use Rattle.std.proofs.lemmas.List.FromFn.{get_or-map-range_with_len, map-range_with_len_more}
 use Rattle.std.specs.List.{range_with_len}

@@ -23,3 +23,12 @@ returns-clause-all c none i less = c.loop-clip.invariant i (omega (arith, less, 
 
 pub does_clip_fit-requires : goal.does_clip_fit-requires
 does_clip_fit-requires c = record { as_many = c.requires; there = omega (arith, c.loop-clip-test.true, c.len-clip-end.ensures, length-map c.args.mix.now.clips.items clip_content) }
+
+pub returns-then-not-does_clip_fit : goal.returns-then-not-does_clip_fit
+returns-then-not-does_clip_fit c = record {
+  all = λ none. absurd (cc none);
+  first = record {
+    here = record { there = omega (arith, c.loop-clip-test.true, c.len-clip-end.ensures, length-map c.args.mix.now.clips.items clip_content); misfit = c.if-not-does_clip_fit.ensures.no refl };
+    before = λ earlier lt is. is.misfit (c.loop-clip.invariant earlier lt);
+  };
+}

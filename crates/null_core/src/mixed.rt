@@ -1,9 +1,9 @@
 //! A mix with what it reads of its takes.
 
-ghost use Rattle.std.specs.Prelude.{◌≡◌, ◌-◌, ◌^◌, ◌<◌, ◌≤◌, ◌<ℤ◌, All, IfErr, IfOk, map, pos, sum_by, unsigned_abs};
+ghost use Rattle.std.specs.Prelude.{◌≡◌, ◌-◌, ◌^◌, ◌<◌, ◌≤◌, ◌<ℤ◌, All, IfErr, IfOk, map, pos};
 ghost use Rattle.clip_core.specs.Contents.{mix_content};
 ghost use Rattle.clip_core.specs.Mixes as mixes;
-ghost use Rattle.clip_core.specs.Mixes.{AreTaps, total};
+ghost use Rattle.clip_core.specs.Mixes.{AreTaps};
 ghost use Rattle.cut_core.specs.Excerpts.{excerpts_at, excerpts_content};
 ghost use Rattle.null_core.specs.Asking.{IsFullScale};
 ghost use Rattle.null_core.specs.Holding.{excerpts_of};
@@ -21,7 +21,7 @@ use crate::part::Part;
 use crate::ranges::ranges_of;
 use crate::stretch::Stretch;
 use crate::watch::Watch;
-use clip_core::{Mix, mix_length};
+use clip_core::{Mix, mix_length, total};
 use cut_core::Excerpts;
 use dsd_bits::{Recording, stretches_of};
 use heard_core::{Audible, Decoder};
@@ -161,24 +161,12 @@ impl Mixed {
 // The sum of the taps of what can be heard.
 fn tap_sum(taps: &[i32]) -> u64
     requires fit { AreTaps (2 ^ 31 - 1) taps.now }
-    requires more { pos 0 <ℤ total taps.now }
-    ensures value { pos result ≡ total taps.now }
+    requires more { pos 0 <ℤ mixes.total taps.now }
+    ensures value { pos result ≡ mixes.total taps.now }
     ensures some { 1 ≤ result }
     ensures bound { result < 2 ^ 31 }
 {
     total(taps).unsigned_abs()
-}
-
-// The sum of taps.
-fn total(taps: &[i32]) -> i64
-    requires { sum_by unsigned_abs taps.now ≤ 2 ^ 31 - 1 }
-    ensures { result ≡ total taps.now }
-{
-    let mut sum = 0i64;
-    for tap in taps {
-        sum += i64::from(*tap);
-    }
-    sum
 }
 
 // The decoder of each list of taps.

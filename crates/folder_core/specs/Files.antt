@@ -24,6 +24,10 @@ unknown_view = record { is_known = false; given = λ time name. None; file = λ 
 abbrev pub OpensAs : View → List ℕ → List ℕ → Type 0
 OpensAs view name bytes = (time : ℕ) × (view.given time name ≡ Some bytes)
 
+-- a name could be opened: if the folder's bytes are known, there are some that an opening of the name gives
+abbrev pub Opens : View → List ℕ → Type 0
+Opens view name = IsTrue view.is_known → (bytes : List ℕ) × OpensAs view name bytes
+
 -- bytes were read of a name: if the folder's bytes are known, an opening of the name gives them
 abbrev pub IsReadOf : View → List ℕ → List ℕ → Type 0
 IsReadOf view name bytes = IsTrue view.is_known → OpensAs view name bytes

@@ -3,6 +3,7 @@
 ghost use Rattle.std.specs.Prelude.{◌≡◌, true};
 ghost use Rattle.std.specs.Io.KnownBytes.{IsAtEnd};
 ghost use Rattle.chunk_core.specs.Inlets.{inlet_reader};
+ghost use Rattle.folder_core.specs.Files.{Opens};
 
 use crate::folder::Folder;
 use chunk_core::{Inlet, MOST_READS};
@@ -27,9 +28,10 @@ pub fn reads_to_end<R: Read>(inlet: &mut Inlet<R>) -> bool
     false
 }
 
-/// Opens a file, reads it and keeps none of it. Returns whether it reached the end.
+/// Opens a file, reads it and keeps none of it. Returns whether it could be opened and reached the end.
 pub fn reads_through<F: Folder>(folder: &mut F, name: &str) -> bool
     ensures same { F.view folder.new ≡ F.view folder.old }
+    ensures opened { result ≡ true → Opens (F.view folder.old) name.now }
 {
     match folder.open(name) {
         Ok(file) => reads_to_end(&mut Inlet::new(file)),

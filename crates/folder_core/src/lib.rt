@@ -19,7 +19,7 @@
 //!   up leaves an old one as it was.
 //! - `IsReadOf view name bytes` says that bytes were read under a name: an opening of it gives them, if the folder's
 //!   bytes are known. `AreReadOf view names files` says the same of several names, and `IsPut view name bytes` that
-//!   bytes were put there.
+//!   bytes were put there. `Opens view name` says that the name could be opened.
 //! - `KeepsOthers name old new` says that only the file of this name may have changed. `IsPutInPart name old new bytes`
 //!   says that the file is as it was, or holds a prefix of these bytes, and this only if no old file had to be kept.
 //! - `watched_folder` and `watched_file` are what is watched (`specs/WatchedFolders.antt`), `gapped_file` is what is

@@ -1,5 +1,5 @@
 -- What is read of takes' and masters' files.
-use Rattle.std.proofs.Common.{ℕ, Err, IfOk, IfSome, List, Ok, Option, Result}
+use Rattle.std.proofs.Common.{◌≡◌, ℕ, Err, IfOk, IfSome, List, Ok, Option, Result, subst, sym}
 use Rattle.chunk_core.specs.declared.inlet.Inlet.{Inlet}
 use Rattle.form_core.specs.declared.fault.ReadFault.{ReadFault}
 use Rattle.clip_core.specs.Mixes.{MixContent}
@@ -8,11 +8,12 @@ use Rattle.folder_core.specs.Files.{IsGiven, IsReadOf, View}
 use Rattle.null_core.specs.declared.fault.NullFault.{NullFault}
 use Rattle.null_core.specs.declared.master_reading.Candidate.{Candidate}
 use Rattle.null_core.specs.Calling.{ReadsTake}
-use Rattle.null_core.specs.Candidates.{HoldsCandidate}
+use Rattle.null_core.specs.declared.verdict.Heard.{Heard}
+use Rattle.null_core.specs.Candidates.{HoldsCandidate, IsHeardOf}
 use Rattle.null_core.specs.Files.{IsReadGiven, IsReadIn}
 use Rattle.null_core.specs.Reading.{MixedContent}
 use Rattle.null_commands.specs.declared.fault.TestFault.{TestFault}
-use Rattle.null_commands.specs.Masters.{ReadsMaster, ReadsSome}
+use Rattle.null_commands.specs.Masters.{HearsMaster, ReadsMaster, ReadsSome}
 use Rattle.null_commands.specs.Sources.{ReadsNamed, ReadsSomeTake}
 use Rattle.null_commands.proofs.ReadLaws.{found_read}
 
@@ -21,6 +22,11 @@ use Rattle.null_commands.proofs.ReadLaws.{found_read}
 pub given_some : {X R : Type 0} (holds : List ℕ → X → Type 0) (left : R → Option (List ℕ)) (i j : Inlet R) (found : Result X ReadFault) → IsReadGiven holds left i j found → (file : List ℕ) × IsReadIn holds file found
 given_some holds left i j (Ok x) given = (given.0, given.2)
 given_some holds left i j (Err fault) given = (given.read, given.sure.now)
+
+-- what holds of what was read holds of what is kept of it
+pub kept : {X E : Type 0} (P : X → Type 0) (x : X) → P x → (r : Result X E) → IfOk r (λ y. y ≡ x) → IfOk r P
+kept P x holds (Ok y) is = subst P (sym is) holds
+kept P x holds (Err e) is = tt
 
 -- ---- takes
 named_of : (view : View) (mix : MixContent) (number : ℕ) (name : List ℕ) (r : Result (Result Excerpts NullFault) TestFault) → IfOk r (λ found. (file : List ℕ) × IsReadOf view name file × ReadsTake mix number file found) → IfOk r (ReadsNamed view mix number name)
@@ -38,3 +44,9 @@ master_of view mixed name (Err fault) is = tt
 
 pub master_named : (view : View) (mixed : MixedContent) (name : List ℕ) (left : Option (List ℕ)) → IsGiven view name left → (r : Result (Result Candidate ReadFault) TestFault) → IfOk r (λ found. IfSome left (λ file. IsReadIn (HoldsCandidate mixed) file found)) → IfOk r (ReadsSome mixed) → IfOk r (ReadsMaster view mixed name)
 master_named view mixed name left given r known some = master_of view mixed name r (found_read view name left (λ file found. IsReadIn (HoldsCandidate mixed) file found) given r known some)
+
+-- what was heard of what was read of a master's file
+pub heard_named : (view : View) (mixed : MixedContent) (name : List ℕ) (found : Result Candidate ReadFault) → ReadsMaster view mixed name found
+    → (r : Result (Result Heard ReadFault) TestFault) → ((file : List ℕ) → IsReadIn (HoldsCandidate mixed) file found → IfOk r (IsReadIn (IsHeardOf mixed) file)) → IfOk r (HearsMaster view mixed name)
+heard_named view mixed name found read (Ok heard) is = record { file = read.file; file_read = read.file_read; heard_in = is read.file read.found_in }
+heard_named view mixed name found read (Err fault) is = tt

@@ -3,6 +3,7 @@ use Rattle.std.specs.Prelude.{ℕ, List, Result}
 use Rattle.form_core.specs.declared.fault.ReadFault.{ReadFault}
 use Rattle.folder_core.specs.Files.{IsReadOf, View}
 use Rattle.null_core.specs.declared.master_reading.Candidate.{Candidate}
+use Rattle.null_core.specs.declared.verdict.Heard.{Heard}
 use Rattle.null_core.specs.Asking.{IsFullScale}
 use Rattle.null_core.specs.Candidates.{HoldsCandidate, IsHeardOf}
 use Rattle.null_core.specs.Files.{IsReadIn}
@@ -19,9 +20,13 @@ pub record ReadsMaster (old : View) (mixed : MixedContent) (name : List ℕ) (fo
   pub file_read : IsReadOf old name file
   pub found_in : IsReadIn (HoldsCandidate mixed) file found
 
--- this was heard of bytes of a name, a master's file, or they hold no recording; and this is full scale of residuals
-pub record TestsMaster (old : View) (mixed : MixedContent) (name : List ℕ) (tested : Tested) : Type 0 where
+-- this was heard of bytes of a name, a master's file, or is their first fault
+pub record HearsMaster (old : View) (mixed : MixedContent) (name : List ℕ) (heard : Result Heard ReadFault) : Type 0 where
   pub file : List ℕ
   pub file_read : IsReadOf old name file
-  pub heard_in : IsReadIn (IsHeardOf mixed) file tested.heard
+  pub heard_in : IsReadIn (IsHeardOf mixed) file heard
+
+-- the same, and this is full scale of residuals
+pub record TestsMaster (old : View) (mixed : MixedContent) (name : List ℕ) (tested : Tested) : Type 0 where
+  pub hears : HearsMaster old mixed name tested.heard
   pub scale : IsFullScale mixed.mix tested.full

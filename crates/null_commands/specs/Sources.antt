@@ -26,16 +26,6 @@ pub record AreMixSources (mix_name : List ℕ) (old : View) (text : List ℕ) (t
   pub says : IsMix text mix
   pub takes_read : AreReadOf old mix.takes takes
 
--- this is the first fault of a text that was read of the mix and of bytes of the takes that it names, if it names any
-pub record IsRefused (mix_name : List ℕ) (old : View) (fault : calls.Fault) : Type 0 where
-  pub text : List ℕ
-  pub takes : List (List ℕ)
-  pub text_read : IsReadOf old mix_name text
-  pub takes_read : (mix : MixContent) → IsMix text mix → AreReadOf old mix.takes takes
-  pub named : NullFault
-  pub name_is : fault ≡ fault_of_null named
-  pub first : IsNullFault text takes named
-
 -- ---- step by step
 -- a file was not read: it could not be, or memory ran out
 abbrev pub IsUnread : TestFault → Type 0
@@ -55,9 +45,21 @@ abbrev pub IsTextFault : List ℕ → TestFault → Type 0
 IsTextFault text (Call fault) = (fault ≡ Memory) ⊎ HasTextFault text fault
 IsTextFault text ReadFailed = ⊥
 
+-- a text was read of the mix, which it states
+pub record ReadsMix (old : View) (mix_name : List ℕ) (mix : MixContent) : Type 0 where
+  pub text : List ℕ
+  pub text_read : IsReadOf old mix_name text
+  pub says : IsMix text mix
+
+-- a text was read of the mix that states none, and this is its first fault
+pub record IsUnstated (old : View) (mix_name : List ℕ) (fault : calls.Fault) : Type 0 where
+  pub text : List ℕ
+  pub text_read : IsReadOf old mix_name text
+  pub refused : HasTextFault text fault
+
 -- the mix or a take was not read, or this is the first fault of a text that was read of the mix
 abbrev pub IsUnsourced : View → List ℕ → TestFault → Type 0
-IsUnsourced old mix_name (Call fault) = (fault ≡ Memory) ⊎ IsRefused mix_name old fault
+IsUnsourced old mix_name (Call fault) = (fault ≡ Memory) ⊎ IsUnstated old mix_name fault
 IsUnsourced old mix_name ReadFailed = ⊤
 
 -- the fault of the file of the take of a number

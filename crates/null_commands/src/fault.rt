@@ -2,11 +2,13 @@
 
 ghost use Rattle.std.specs.Prelude.{◌≡◌};
 ghost use Rattle.null_commands.specs.Faults as specs;
+ghost use Rattle.null_commands.specs.Sources.{IsUnread};
 
 use cut_core::CutFault;
 use null_core::NullFault;
 use project_core::{Key, ProjectFault, Table};
 use request_core::Fault;
+use sound_core::StreamFault;
 
 /// Why there is no null test of files: the first fault.
 #[derive(Clone, Copy, Debug, PartialEq, Eq)]
@@ -32,5 +34,15 @@ pub fn fault_of_null(fault: NullFault) -> Fault
             Fault::Mix(ProjectFault::OutOfLimit(Key::Gains, Table::Clip(clip)))
         }
         NullFault::Memory => Fault::Memory,
+    }
+}
+
+/// The fault of a file that was not read to its end.
+pub(crate) fn unread_by(fault: StreamFault) -> TestFault
+    ensures { IsUnread result }
+{
+    match fault {
+        StreamFault::Memory => TestFault::Call(Fault::Memory),
+        _ => TestFault::ReadFailed,
     }
 }

@@ -13,7 +13,8 @@
 //! - `fault_of_null` is a fault of the null test as a fault of a call (`specs/Faults.antt`).
 //!
 //! What it promises: a master is accepted exactly if the bytes that were read of the mix, the takes and the master say
-//! so. If the folder's bytes are known, these are those of the named files. No file changes.
+//! so. If the folder's bytes are known, these are those of the named files. A fault of the takes is returned only if the
+//! master could be opened. No file changes.
 //!
 //! ```text
 //! let tested = null_test_files(alloc, &mut folder, "fade.mix.toml", "master.dff")?;

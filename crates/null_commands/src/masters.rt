@@ -1,20 +1,19 @@
 //! Reads a master's file and compares it with a mix.
 
-ghost use Rattle.std.specs.Prelude.{◌≡◌, ℕ, List, IfErr, IfOk, IfSome};
+ghost use Rattle.std.specs.Prelude.{◌≡◌, ℕ, List, IfErr, IfOk};
 ghost use Rattle.null_core.specs.Candidates.{HoldsCandidate, IsHeardOf};
-ghost use Rattle.null_core.specs.Files.{IsReadIn};
-ghost use Rattle.null_commands.specs.Masters.{ReadsMaster, ReadsSome, TestsMaster};
+ghost use Rattle.null_core.specs.Files.{IsReadIn, IsReadLeft};
+ghost use Rattle.null_commands.specs.Masters.{HearsMaster, ReadsMaster, ReadsSome, TestsMaster};
 ghost use Rattle.null_commands.specs.Sources.{IsUnread};
 
-use crate::fault::TestFault;
+use crate::fault::{TestFault, unread_by};
 use crate::tested::Tested;
 use chunk_core::Inlet;
 use folder_core::{Folder, Work, reads_to_end};
 use form_core::ReadFault;
 use null_core::{Candidate, Heard, Mixed, Watch, judge_candidate, read_master};
 use request_core::Fault;
-use sound_core::StreamFault;
-use std::alloc::{AllocError, Global};
+use std::alloc::Global;
 use std::cell::Cell;
 use std::io::Read;
 
@@ -49,10 +48,24 @@ pub(crate) fn test_master<F: Folder>(
     ensures tested { IfOk result (TestsMaster (F.view folder.old) mixed.now name.now) }
     ensures fault { IfErr result IsUnread }
 {
-    let found = read_named(alloc, folder, mixed, name)?;
-    let heard = hear_found(alloc, folder, mixed, found)?;
+    let heard = hear_named(alloc, folder, mixed, name)?;
     let full = mixed.full_scale();
     Ok(Tested { heard, full })
+}
+
+// What is heard of the master's file of this name, or its first fault.
+fn hear_named<F: Folder>(
+    alloc: Global,
+    folder: &mut F,
+    mixed: &Mixed,
+    name: &str,
+) -> Result<Result<Heard, ReadFault>, TestFault>
+    ensures same { F.view folder.new ≡ F.view folder.old }
+    ensures heard { IfOk result (HearsMaster (F.view folder.old) mixed.now name.now) }
+    ensures fault { IfErr result IsUnread }
+{
+    let found = read_named(alloc, folder, mixed, name)?;
+    hear_found(alloc, folder, mixed, &found)
 }
 
 // What the master's file of this name holds, or its first fault.
@@ -67,32 +80,41 @@ fn read_named<'a, F: Folder>(
     ensures fault { IfErr result IsUnread }
 {
     match folder.open(name) {
-        Ok(file) => read_opened(alloc, mixed, file),
+        Ok(file) => read_opened(alloc, mixed, &mut Inlet::new(file)),
         Err(_) => Err(TestFault::ReadFailed),
     }
 }
 
-// The same for the file that a reader has.
-fn read_opened<'a, R: Read + Drop>(
+// The same for the file that an inlet has.
+fn read_opened<'a, R: Read>(
     alloc: Global,
     mixed: &'a Mixed,
-    file: R,
+    inlet: &mut Inlet<R>,
 ) -> Result<Result<Candidate<'a>, ReadFault>, TestFault>
-    ensures found { IfOk result (λ found. IfSome (R.remaining file) (λ left. IsReadIn (HoldsCandidate mixed.now) left found)) }
+    ensures found { IfOk result (IsReadLeft (HoldsCandidate mixed.now) R.remaining inlet.old) }
     // If the reader's bytes aren't known, it was read of some bytes.
     ensures any_reader { IfOk result (ReadsSome mixed.now) }
     ensures fault { IfErr result IsUnread }
 {
-    let mut inlet = Inlet::new(file);
-    let found = match read_master(alloc, mixed, &mut inlet) {
-        Ok(found) => found,
-        Err(StreamFault::Memory) => return Err(TestFault::Call(Fault::Memory)),
-        Err(_) => return Err(TestFault::ReadFailed),
-    };
-    if !reads_to_end(&mut inlet) {
-        return Err(TestFault::ReadFailed);
+    match read_master(alloc, mixed, inlet) {
+        Ok(found) => kept_if(reads_to_end(inlet), found),
+        Err(fault) => Err(unread_by(fault)),
     }
-    Ok(found)
+}
+
+// What was read of a file, if it was read to its end.
+fn kept_if<'a>(
+    is_at_end: bool,
+    found: Result<Candidate<'a>, ReadFault>,
+) -> Result<Result<Candidate<'a>, ReadFault>, TestFault>
+    ensures found { IfOk result (λ kept. kept ≡ found.entry) }
+    ensures fault { IfErr result IsUnread }
+{
+    if is_at_end {
+        Ok(found)
+    } else {
+        Err(TestFault::ReadFailed)
+    }
 }
 
 // What is heard of a master by what its file holds, or the file's first fault.
@@ -100,20 +122,16 @@ fn hear_found<F: Folder>(
     alloc: Global,
     folder: &mut F,
     mixed: &Mixed,
-    found: Result<Candidate<'_>, ReadFault>,
+    found: &Result<Candidate<'_>, ReadFault>,
 ) -> Result<Result<Heard, ReadFault>, TestFault>
     ensures same { F.view folder.new ≡ F.view folder.old }
-    ensures heard { (file : List ℕ) → IsReadIn (HoldsCandidate mixed.now) file found.entry
+    ensures heard { (file : List ℕ) → IsReadIn (HoldsCandidate mixed.now) file found.now
         → IfOk result (IsReadIn (IsHeardOf mixed.now) file) }
     ensures fault { IfErr result IsUnread }
 {
-    let candidate = match found {
-        Ok(candidate) => candidate,
-        Err(fault) => return Ok(Err(fault)),
-    };
-    match hear(alloc, folder, mixed, &candidate) {
-        Ok(heard) => Ok(Ok(heard)),
-        Err(_) => Err(TestFault::Call(Fault::Memory)),
+    match found {
+        Ok(candidate) => hear(alloc, folder, mixed, candidate),
+        Err(fault) => Ok(Err(*fault)),
     }
 }
 
@@ -123,13 +141,18 @@ fn hear<F: Folder>(
     folder: &mut F,
     mixed: &Mixed,
     candidate: &Candidate<'_>,
-) -> Result<Heard, AllocError>
+) -> Result<Result<Heard, ReadFault>, TestFault>
     ensures same { F.view folder.new ≡ F.view folder.old }
-    ensures heard { (file : List ℕ) → HoldsCandidate mixed.now file candidate.now → IfOk result (IsHeardOf mixed.now file) }
+    ensures heard { (file : List ℕ) → HoldsCandidate mixed.now file candidate.now
+        → IfOk result (IsReadIn (IsHeardOf mixed.now) file) }
+    ensures fault { IfErr result IsUnread }
 {
     folder.begin_work(Work::NullTest);
     let shown = Cell::new(0);
     let heard = judge_candidate(alloc, mixed, candidate, &WorkShown { folder, shown });
     folder.end_work();
-    heard
+    match heard {
+        Ok(heard) => Ok(Ok(heard)),
+        Err(_) => Err(TestFault::Call(Fault::Memory)),
+    }
 }

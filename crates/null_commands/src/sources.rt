@@ -1,12 +1,12 @@
 //! Reads a mix and the takes that it names.
 
-ghost use Rattle.std.specs.Prelude.{◌<◌, ◌≡◌, ℕ, [], ◌∷◌, ◌++◌, List, IfErr, IfOk, IfSome, length, slice_index_or};
+ghost use Rattle.std.specs.Prelude.{◌<◌, ◌≡◌, ℕ, [], ◌∷◌, ◌++◌, List, Ok, Err, IfErr, IfOk, IfSome, length, slice_index_or};
 ghost use Rattle.clip_core.specs.Contents.{mix_content};
 ghost use Rattle.clip_core.specs.Mixes.{MixContent};
 ghost use Rattle.folder_core.specs.Files.{IsReadOf};
 ghost use Rattle.mix_core.specs.Meaning.{IsMix};
 ghost use Rattle.null_core.specs.Calling.{IsMixedFrom, IsNullFault, ReadsTake};
-ghost use Rattle.null_commands.specs.Sources.{AreOfItsTakes, AreSourcesOf, IsTextFault, IsUnread, IsUnsourced, ReadsNamed, ReadsNames, ReadsSomeTake, ReadsSources, TakesIn, fault_of_take};
+ghost use Rattle.null_commands.specs.Sources.{AreOfItsTakes, AreSourcesOf, IsTextFault, IsUnread, IsUnsourced, ReadsMix, ReadsNamed, ReadsNames, ReadsSomeTake, ReadsSources, TakesIn, fault_of_take};
 
 use crate::fault::{TestFault, fault_of_null};
 use chunk_core::Inlet;
@@ -44,10 +44,23 @@ pub(crate) fn read_sources<F: Folder>(
     ensures sources { IfOk result (ReadsSources (F.view folder.old) name.now) }
     ensures fault { IfErr result (IsUnsourced (F.view folder.old) name.now) }
 {
-    let text = read_text(alloc, folder, name)?;
-    let mix = mix_of(alloc, &text)?;
-    let takes = read_takes(alloc, folder, &mix)?;
-    Ok(Sources { mix, takes })
+    let mix = read_mix(alloc, folder, name)?;
+    let takes = read_takes(alloc, folder, &mix);
+    with_takes(mix, takes)
+}
+
+// A mix with what it reads of its takes, if these were read.
+fn with_takes(
+    mix: Mix,
+    takes: Result<Result<Vec<Excerpts>, NullFault>, TestFault>,
+) -> Result<Sources, TestFault>
+    ensures sources { IfOk result (λ sources. (sources.mix ≡ mix) × (takes ≡ Ok sources.takes)) }
+    ensures fault { IfErr result (λ fault. takes ≡ Err fault) }
+{
+    match takes {
+        Ok(takes) => Ok(Sources { mix, takes }),
+        Err(fault) => Err(fault),
+    }
 }
 
 /// A mix with what it reads of its takes, or the first fault of these.
@@ -61,6 +74,16 @@ pub(crate) fn mixed_of(alloc: Global, sources: Sources) -> Result<Mixed, NullFau
 {
     let Sources { mix, takes } = sources;
     Ok(Mixed::of(alloc, mix, takes?)?)
+}
+
+// The mix of this name.
+fn read_mix<F: Folder>(alloc: Global, folder: &mut F, name: &str) -> Result<Mix, TestFault>
+    ensures same { F.view folder.new ≡ F.view folder.old }
+    ensures mix { IfOk result (λ mix. ReadsMix (F.view folder.old) name.now (mix_content mix)) }
+    ensures fault { IfErr result (IsUnsourced (F.view folder.old) name.now) }
+{
+    let text = read_text(alloc, folder, name)?;
+    mix_of(alloc, &text)
 }
 
 // The text of a mix.

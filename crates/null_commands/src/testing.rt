@@ -1,9 +1,10 @@
 //! The null test of files of a folder.
 
 ghost use Rattle.std.specs.Prelude.{◌≡◌, ◌⊎◌};
+ghost use Rattle.folder_core.specs.Files.{Opens};
 ghost use Rattle.null_commands.specs.declared.fault.TestFault.TheVariants as faults;
 ghost use Rattle.null_commands.specs.Faults.{fault_of_null};
-ghost use Rattle.null_commands.specs.Testing.{TestComesTo};
+ghost use Rattle.null_commands.specs.Testing.{TestComesTo, TestsMixed};
 
 use crate::fault::{TestFault, fault_of_null};
 use crate::masters::test_master;
@@ -11,7 +12,7 @@ use crate::sources::{mixed_of, read_sources};
 use crate::tested::Tested;
 use folder_core::{Folder, reads_through};
 use mix_core::one_mix;
-use null_core::NullFault;
+use null_core::{Mixed, NullFault};
 use std::alloc::Global;
 
 /// Compares a master with a mix: how large the residual is at most that can be heard of it.
@@ -36,9 +37,23 @@ pub fn null_test_files<F: Folder>(
 {
     one_mix();
     let sources = read_sources(alloc, folder, mix)?;
-    match mixed_of(alloc, sources) {
-        Ok(mixed) => test_master(alloc, folder, &mixed, master),
-        Err(fault) => Err(fault_after(folder, master, fault)),
+    let mixed = mixed_of(alloc, sources);
+    test_mixed(alloc, folder, &mixed, master)
+}
+
+// Compares a master with a mix. If the mix and its takes have a fault, the master is read and the fault returned.
+fn test_mixed<F: Folder>(
+    alloc: Global,
+    folder: &mut F,
+    mixed: &Result<Mixed, NullFault>,
+    master: &str,
+) -> Result<Tested, TestFault>
+    ensures same { F.view folder.new ≡ F.view folder.old }
+    ensures tested { TestsMixed (F.view folder.old) master.now mixed.now result }
+{
+    match mixed {
+        Ok(mixed) => test_master(alloc, folder, mixed, master),
+        Err(fault) => Err(fault_after(folder, master, *fault)),
     }
 }
 
@@ -46,8 +61,10 @@ pub fn null_test_files<F: Folder>(
 fn fault_after<F: Folder>(folder: &mut F, master: &str, fault: NullFault) -> TestFault
     ensures same { F.view folder.new ≡ F.view folder.old }
     ensures fault { (result ≡ faults.ReadFailed) ⊎ (result ≡ faults.Call (fault_of_null fault)) }
+    ensures opened { result ≡ faults.Call (fault_of_null fault) → Opens (F.view folder.old) master.now }
 {
-    if reads_through(folder, master) {
+    let is_read = reads_through(folder, master);
+    if is_read {
         TestFault::Call(fault_of_null(fault))
     } else {
         TestFault::ReadFailed

@@ -1,14 +1,14 @@
 //! The line that explains what a command came to.
 
+use crate::cutting::cutting_of;
 use crate::line::Line;
-use crate::line::Part::Named;
 use crate::opening::{File, input_of, project_of};
-use crate::recordings::{CERTIFICATE, RECORDING};
+use crate::recordings::{CERTIFICATE, RECORDING, kind_of};
 use cut_core::CutFault;
 use ended_core::{Ended, Explain, Explanation, Summed};
 use form_core::ReadFault;
 use project_core::ProjectFault;
-use request_core::Fault;
+use request_core::{Fault, SpanFault};
 use sound_core::StreamFault;
 use std::rt::{Env, Files};
 use words_core::{Task, WordsFault};
@@ -22,7 +22,7 @@ pub struct Explainer;
 
 impl Explain for Explainer {
     fn explain_words<A: AllocGlobal>(&self, rt: &A, fault: WordsFault) -> Option<Explanation> {
-        let mut line = Line::new(rt);
+        let mut line = Line::new(rt.alloc());
         line.explain_words(fault);
         line.end()
     }
@@ -33,8 +33,8 @@ impl Explain for Explainer {
         task: Task,
         ended: Ended,
     ) -> Option<Explanation> {
-        let mut line = Line::new(rt);
-        line.explain_task(task, ended);
+        let mut line = Line::new(rt.alloc());
+        line.explain_task(rt, task, ended);
         line.end()
     }
 
@@ -44,34 +44,39 @@ impl Explain for Explainer {
         file: Summed,
         ended: Ended,
     ) -> Option<Explanation> {
-        let mut line = Line::new(rt);
-        line.explain_summed(file, ended);
+        let mut line = Line::new(rt.alloc());
+        line.explain_summed(rt, file, ended);
         line.end()
     }
 }
 
-impl<R: Files + Env + AllocGlobal> Line<'_, R> {
-    fn explain_task(&mut self, task: Task, ended: Ended) {
-        match (ended, task) {
-            (Ended::Fault(fault), _) => self.explain_fault(task, fault),
-            (Ended::Nothing(fault), _) => self.explain_nothing(task, fault),
-            (Ended::NoPart(fault), Task::PlayPart { from, to, .. }) => {
-                if let (Some(project), Some((input, _))) = (project_of(task), input_of(task)) {
-                    self.explain_part((project, input), (from, to), fault);
+impl Line {
+    fn explain_task<R: Files + Env + AllocGlobal>(&mut self, rt: &R, task: Task, ended: Ended) {
+        match ended {
+            Ended::Fault(fault) => self.explain_fault(rt, task, fault),
+            Ended::Nothing(fault) => self.explain_nothing(rt, task, fault),
+            Ended::NoPart(fault) => self.explain_no_part(rt, task, fault),
+            Ended::ReadFailed => self.explain_unread(rt, task),
+            Ended::WriteFailed(Some(failure)) => self.explain_unwritten(rt, task, &failure),
+            Ended::Rejected(reason) => {
+                if let Task::Check {
+                    project,
+                    master,
+                    cert,
+                } = task
+                {
+                    if let Some(cutting) = cutting_of(rt, self.alloc, project) {
+                        self.explain_verdict(rt, &cutting, (master, cert), reason);
+                    }
                 }
             }
-            (Ended::ReadFailed, _) => self.explain_unread(task),
-            (Ended::WriteFailed(Some(failure)), _) => self.explain_unwritten(task, &failure),
-            (Ended::Rejected(reason), Task::Check { master, cert, .. }) => {
-                if let Some(cutting) = self.cutting_of(project_of(task).unwrap_or("")) {
-                    self.explain_verdict(&cutting, (master, cert), reason);
+            Ended::NotNull(reason) => {
+                if let Task::NullTest { mix, master } = task {
+                    self.explain_not_null(rt, mix, master, reason);
                 }
             }
-            (Ended::NotNull(reason), Task::NullTest { mix, master }) => {
-                self.explain_not_null(mix, master, reason);
-            }
-            (Ended::Played(front, bytes), _) => self.explain_played(task, &front, bytes),
-            (Ended::Unprinted(error), _) => {
+            Ended::Played(front, bytes) => self.explain_played(rt, task, &front, bytes),
+            Ended::Unprinted(error) => {
                 self.push("standard output did not take the answer: ");
                 self.say_error(&error);
             }
@@ -79,70 +84,96 @@ impl<R: Files + Env + AllocGlobal> Line<'_, R> {
         }
     }
 
+    fn explain_no_part<R: Files>(&mut self, rt: &R, task: Task, fault: SpanFault) {
+        if let Task::PlayPart {
+            project,
+            input,
+            from,
+            to,
+            ..
+        } = task
+        {
+            self.explain_part(rt, (project, input), (from, to), fault);
+        }
+    }
+
     // Adds that the input is empty, which can't be looked at again where it is a pipe.
-    fn explain_nothing(&mut self, task: Task, fault: Fault) {
+    fn explain_nothing<R: Files>(&mut self, rt: &R, task: Task, fault: Fault) {
         match (fault, input_of(task)) {
             (
                 Fault::FileUnread(ReadFault::UnknownForm)
                 | Fault::FileRefused(ReadFault::UnknownForm),
                 Some((name, word)),
-            ) => self.say("{0}: it is empty", &[Named(name, word)]),
-            _ => self.explain_fault(task, fault),
+            ) => self.named(name, word, ": it is empty"),
+            _ => self.explain_fault(rt, task, fault),
         }
     }
 
-    fn explain_fault(&mut self, task: Task, fault: Fault) {
+    fn explain_fault<R: Files>(&mut self, rt: &R, task: Task, fault: Fault) {
         if let Task::NullTest { mix, .. } = task {
-            return self.explain_in_mix(mix, fault);
+            return self.explain_in_mix(rt, mix, fault);
         }
-        match (fault, input_of(task), project_of(task)) {
-            (Fault::Memory, None, _) => self.push(CUT_MEMORY),
-            (Fault::Memory, Some(_), _) => self.push(MEMORY),
-            (Fault::FileUnread(why), Some(file), _) => self.explain_input(file, why),
-            (Fault::FileRefused(why), Some(file), _) => self.explain_input(file, why),
-            (Fault::NotWholeBytes, Some((name, _)), _) => self.explain_rest(name),
-            (Fault::Stream(fault), Some((input, word)), Some(project)) => match (task, fault) {
-                (Task::PlayPart { .. }, StreamFault::TooLarge) => {
-                    self.say(LARGE_PART, &[Named(input, word)])
-                }
-                _ => self.explain_play((project, input), fault),
-            },
-            (_, _, Some(project)) => self.explain_in_project(project, fault),
-            _ => {}
+        match (input_of(task), fault) {
+            (Some(file), _) => self.explain_in_file(rt, task, file, fault),
+            (None, Fault::Memory) => self.push(CUT_MEMORY),
+            _ => self.explain_in_project(rt, task, fault),
         }
     }
 
-    // Adds why an input is no recording, for this fault.
-    fn explain_input(&mut self, (name, word): File, why: ReadFault) {
-        self.say("{0}: ", &[Named(name, word)]);
-        self.explain_file(name, why);
-    }
-
-    fn explain_in_project(&mut self, project: &str, fault: Fault) {
+    // Adds why a command is refused that reads a recording that is no take.
+    fn explain_in_file<R: Files>(&mut self, rt: &R, task: Task, (name, word): File, fault: Fault) {
         match fault {
-            Fault::Project(fault) => self.explain_refused_text(project, fault),
-            Fault::NoDecimation | Fault::NoSplice => self.explain_table(project),
-            Fault::Cut(fault) => self.explain_cutting(project, fault),
-            Fault::NotWholeBytes => self.explain_cutting(project, CutFault::NotWholeBytes),
+            Fault::Memory => self.push(MEMORY),
+            Fault::FileUnread(why) | Fault::FileRefused(why) => {
+                self.named(name, word, ": ");
+                self.explain_file(rt, name, why);
+            }
+            Fault::NotWholeBytes => self.explain_rest(rt, name),
+            Fault::Stream(fault) => self.explain_stream(rt, task, fault),
+            _ => self.explain_in_project(rt, task, fault),
+        }
+    }
+
+    // Adds why a recording, or a part of it, is not played.
+    fn explain_stream<R: Files>(&mut self, rt: &R, task: Task, fault: StreamFault) {
+        match (task, fault) {
+            (Task::PlayPart { input, .. }, StreamFault::TooLarge) => {
+                self.push("the part of ");
+                self.named(input, "IN", LARGE_PART);
+            }
+            (Task::Play { project, input, .. } | Task::PlayPart { project, input, .. }, _) => {
+                self.explain_play(rt, (project, input), fault)
+            }
             _ => {}
+        }
+    }
+
+    fn explain_in_project<R: Files>(&mut self, rt: &R, task: Task, fault: Fault) {
+        if let Some(project) = project_of(task) {
+            match fault {
+                Fault::Project(fault) => self.explain_refused_text(rt, project, fault),
+                Fault::NoDecimation | Fault::NoSplice => self.explain_table(rt, project),
+                Fault::Cut(fault) => self.explain_cutting(rt, project, fault),
+                Fault::NotWholeBytes => self.explain_cutting(rt, project, CutFault::NotWholeBytes),
+                _ => {}
+            }
         }
     }
 
     // Adds why a project text is refused. A recording or a certificate in its place is named as such.
-    fn explain_refused_text(&mut self, project: &str, fault: ProjectFault) {
-        self.say("{0}: ", &[Named(project, "PROJECT")]);
-        match (self.kind_of(project), self.text_of(project)) {
-            (RECORDING, _) => self.push("it is a recording; PROJECT comes before the recordings"),
-            (CERTIFICATE, _) => self.push("it is a certificate; PROJECT comes first"),
-            (_, Some(source)) => self.explain_project(&source, fault),
-            _ => {}
+    fn explain_refused_text<R: Files>(&mut self, rt: &R, project: &str, fault: ProjectFault) {
+        self.named(project, "PROJECT", ": ");
+        match kind_of(rt, project) {
+            RECORDING => self.push("it is a recording; PROJECT comes before the recordings"),
+            CERTIFICATE => self.push("it is a certificate; PROJECT comes first"),
+            _ => self.explain_source(rt, project, fault),
         }
     }
 
-    fn explain_cutting(&mut self, project: &str, fault: CutFault) {
-        if let Some(cutting) = self.cutting_of(project) {
-            self.say("{0}: ", &[Named(project, "PROJECT")]);
-            self.explain_cut_of(&cutting, fault);
+    fn explain_cutting<R: Files>(&mut self, rt: &R, project: &str, fault: CutFault) {
+        if let Some(cutting) = cutting_of(rt, self.alloc, project) {
+            self.named(project, "PROJECT", ": ");
+            self.explain_cut_of(rt, &cutting, fault);
         }
     }
 }
@@ -154,5 +185,4 @@ const MEMORY: &str = "what surrounds the sound is held whole, and a pipe that is
 const CUT_MEMORY: &str = "what is cut of the takes is held, about as many bytes as the master has: \
                           free some memory, or use a larger machine";
 
-const LARGE_PART: &str =
-    "the part of {0} would make a WAVE file of more than 4,294 MB: name shorter parts";
+const LARGE_PART: &str = " would make a WAVE file of more than 4,294 MB: name shorter parts";

@@ -1,9 +1,9 @@
 //! Looks at files again after a fault, and says what the system says of them.
 
 use crate::line::Line;
-use crate::line::Part::Text;
 use chunk_core::MOST_READS;
 use folder_core::{STANDARD, read_whole};
+use std::alloc::Global;
 use std::fs;
 use std::io::{Error, ErrorKind, Read};
 use std::rt::Files;
@@ -28,59 +28,59 @@ impl From<Error> for Trouble {
     }
 }
 
-impl<R: Files> Line<'_, R> {
-    /// Opens a file, but nothing that isn't one: opening a pipe may take forever. Returns it and how many bytes it has.
-    pub(crate) fn reopen(&self, name: &str) -> Result<(R::File, u64), Trouble> {
-        if name == STANDARD {
-            return Err(Trouble::Stream);
-        }
-        let found = fs::metadata(self.rt, name)?;
-        if found.is_dir() {
-            return Err(Trouble::Folder);
-        }
-        if !found.is_file() {
-            return Err(Trouble::Stream);
-        }
-        Ok((fs::open(self.rt, name)?, found.len()))
+/// Opens a file, but nothing that isn't one: opening a pipe may take forever. Returns it and how many bytes it has.
+pub(crate) fn reopen<R: Files>(rt: &R, name: &str) -> Result<(R::File, u64), Trouble> {
+    if name == STANDARD {
+        return Err(Trouble::Stream);
     }
-
-    /// The bytes of a text's file.
-    pub(crate) fn text_of(&self, name: &str) -> Option<Vec<u8>> {
-        match self.reopen(name) {
-            Ok((file, 0..=MOST_TEXT)) => read_whole(self.alloc, file, MOST_READS).ok(),
-            _ => None,
-        }
+    let found = fs::metadata(rt, name)?;
+    if found.is_dir() {
+        return Err(Trouble::Folder);
     }
-
-    /// What is wrong with a file that is to be read.
-    pub(crate) fn trouble_of(&self, name: &str) -> Option<Trouble> {
-        match self.reopen(name) {
-            Ok((mut file, _)) => Some(Trouble::Refused(file.read(&mut [0]).err()?)),
-            Err(Trouble::Stream) => None,
-            Err(trouble) => Some(trouble),
-        }
+    if !found.is_file() {
+        return Err(Trouble::Stream);
     }
+    Ok((fs::open(rt, name)?, found.len()))
+}
 
+/// The bytes of a text's file.
+pub(crate) fn text_of<R: Files>(rt: &R, alloc: Global, name: &str) -> Option<Vec<u8>> {
+    match reopen(rt, name) {
+        Ok((file, 0..=MOST_TEXT)) => read_whole(alloc, file, MOST_READS).ok(),
+        _ => None,
+    }
+}
+
+/// What is wrong with a file that is to be read.
+pub(crate) fn trouble_of<R: Files>(rt: &R, name: &str) -> Option<Trouble> {
+    match reopen(rt, name) {
+        Ok((mut file, _)) => Some(Trouble::Refused(file.read(&mut [0]).err()?)),
+        Err(Trouble::Stream) => None,
+        Err(trouble) => Some(trouble),
+    }
+}
+
+impl Line {
     /// Adds why the file of a name can't be looked at.
-    pub(crate) fn explain_trouble(&mut self, name: &str, trouble: Trouble) {
+    pub(crate) fn explain_trouble<R: Files>(&mut self, rt: &R, name: &str, trouble: Trouble) {
         match trouble {
             Trouble::Folder => self.push("it is a folder"),
             Trouble::Stream => self.push(STREAM),
-            Trouble::Refused(error) => self.explain_error(name, &error),
+            Trouble::Refused(error) => self.explain_error(rt, name, &error),
         }
     }
 
     /// Adds what the system said of a file of this name, and whether its folder is missing.
-    pub(crate) fn explain_error(&mut self, name: &str, error: &Error) {
+    pub(crate) fn explain_error<R: Files>(&mut self, rt: &R, name: &str, error: &Error) {
         match (error.raw_os_error(), error.kind()) {
             (None, ErrorKind::WriteZero) => self.push("the system took no bytes"),
             (None, ErrorKind::ResourceBusy) => self.push(BUSY),
             _ => self.say_error(error),
         }
         let (folder, _) = name.rsplit_once('/').unwrap_or(("", name));
-        let is_missing = !folder.is_empty() && fs::metadata(self.rt, folder).is_err();
+        let is_missing = !folder.is_empty() && fs::metadata(rt, folder).is_err();
         if is_missing && error.kind() == ErrorKind::NotFound {
-            self.say("; there is no folder {0}", &[Text(folder)]);
+            self.quote("; there is no folder ", folder, "");
         }
     }
 }

@@ -1,8 +1,9 @@
 //! Why a recording is not played: the numbers, and what would fit. Or what was written, and what may surprise in it.
 
+use crate::files::text_of;
 use crate::line::Line;
-use crate::line::Part::{Bytes, Count, Named, Number, Several, Text, Time};
-use crate::opening::{input_of, output_of, project_of};
+use crate::opening::{output_of, project_of};
+use crate::recordings::{marks_of, sound_of};
 use chunk_core::{Order, u16_at, u32_at};
 use dsd_bits::Sound;
 use folder_core::{FRONT, Step};
@@ -62,194 +63,245 @@ fn found_in(project: &Project) -> Tables {
     }
 }
 
-impl<R: Files> Line<'_, R> {
-    /// What the project of a name has.
-    pub(crate) fn tables_of(&self, name: &str) -> Option<Tables> {
-        tables_in(self.alloc, &self.text_of(name)?)
-    }
+/// What the project of a name has.
+pub(crate) fn tables_of<R: Files>(rt: &R, alloc: Global, name: &str) -> Option<Tables> {
+    tables_in(alloc, &text_of(rt, alloc, name)?)
+}
 
+impl Line {
     /// Adds why a recording, the second, is not played by a project.
-    pub(crate) fn explain_play(&mut self, (project, input): Played, fault: StreamFault) {
+    pub(crate) fn explain_play<R: Files>(&mut self, rt: &R, played: Played, fault: StreamFault) {
+        let (project, input) = played;
         match fault {
-            StreamFault::TurnLimit => self.say(ENDLESS, &[Named(input, "IN")]),
+            StreamFault::TurnLimit => self.named(input, "IN", " has no end: name a file"),
             StreamFault::RateNotDivided | StreamFault::TooLarge => {
-                let sound = self.sound_of(input);
-                if let (Some(sound), Some(tables)) = (sound, self.tables_of(project)) {
-                    self.explain_unfit((project, input), sound, tables, fault);
+                let sound = sound_of(rt, self.alloc, input);
+                if let (Some(sound), Some(tables)) = (sound, tables_of(rt, self.alloc, project)) {
+                    self.named(input, "IN", "");
+                    match fault {
+                        StreamFault::TooLarge => self.say(LARGE, [size_of(sound, tables), 0, 0]),
+                        _ => self.explain_unfit(rt, project, sound.rate as u64, tables.factor),
+                    }
                 }
             }
             _ => {}
         }
     }
 
-    // Adds why the filter does not fit, and which one does, or how large the WAVE file would be.
-    fn explain_unfit(
-        &mut self,
-        (project, input): Played,
-        sound: Sound,
-        tables: Tables,
-        fault: StreamFault,
-    ) {
-        let input = Named(input, "IN");
-        if fault == StreamFault::TooLarge {
-            let samples = (sound.count as u64).checked_div(tables.factor).unwrap_or(0);
-            let frame = (sound.channels as u64).saturating_mul(tables.width / 8);
-            return self.say(LARGE, &[input, Bytes(samples.saturating_mul(frame))]);
-        }
-        let (rate, factor) = (Count(sound.rate.into()), Number(tables.factor));
-        self.say(RATE, &[input, rate, factor, Text(project)]);
-        match self.filter_for(project, sound.rate.into()) {
-            Some(path) => self.say("{0} fits", &[Text(path.as_str())]),
-            None => self.say("{0} prints the filter that fits a file", &[Text(PICK)]),
+    // Adds why the filter does not fit a rate, and which one does.
+    fn explain_unfit<R: Files>(&mut self, rt: &R, project: &str, rate: u64, factor: u64) {
+        self.say(" has {c0} Hz, which the factor {n1} of ", [rate, factor, 0]);
+        self.quote("", project, " does not divide: ");
+        match filter_for(rt, self.alloc, project, rate) {
+            Some(path) => self.quote("", path.as_str(), " fits"),
+            None => self.quote("", PICK, " prints the filter that fits a file"),
         }
     }
 
     /// Adds why a part of a recording, the second, is not played by a project.
-    pub(crate) fn explain_part(&mut self, (project, input): Played, ends: Ends, fault: SpanFault) {
+    pub(crate) fn explain_part<R: Files>(
+        &mut self,
+        rt: &R,
+        (project, input): Played,
+        ends: Ends,
+        fault: SpanFault,
+    ) {
         match fault {
-            SpanFault::NoMark => self.explain_marks(input),
+            SpanFault::NoMark => self.explain_marks(input, marks_of(rt, self.alloc, input)),
             SpanFault::PartReversed => self.push("what --to names is before what --from names"),
             SpanFault::PartOutside => {
-                let sound = self.sound_of(input);
-                if let (Some(sound), Some(tables)) = (sound, self.tables_of(project)) {
-                    self.explain_end(input, ends, sound, tables.factor);
+                let sound = sound_of(rt, self.alloc, input);
+                if let (Some(sound), Some(tables)) = (sound, tables_of(rt, self.alloc, project)) {
+                    let factor = tables.factor.max(1);
+                    let frames = (sound.count as u64).div_ceil(factor);
+                    self.explain_end(input, ends, frames, sound.rate as u64 / factor);
                 }
             }
         }
     }
 
-    fn explain_marks(&mut self, input: &str) {
-        let marks = self.marks_of(input);
+    fn explain_marks(&mut self, input: &str, marks: u64) {
         let template = match marks {
-            0 => "{0} has no marks: name a time or a frame",
-            1 => "{0} has one mark, #0",
-            _ => "{0} has {1} marks, #0 to #{2}, which dsdarc info prints",
+            0 => " has no marks: name a time or a frame",
+            1 => " has one mark, #0",
+            _ => " has {c0} marks, #0 to #{n1}, which dsdarc info prints",
         };
-        let last = Number(marks.saturating_sub(1));
-        self.say(template, &[Named(input, "IN"), Count(marks), last]);
+        self.named(input, "IN", "");
+        self.say(template, [marks, marks.saturating_sub(1), 0]);
     }
 
     // Adds which end of a part is after the end of a recording, and how long this is.
-    fn explain_end(&mut self, input: &str, (from, to): Ends, sound: Sound, factor: u64) {
-        let factor = factor.max(1);
-        let (frames, rate) = (
-            (sound.count as u64).div_ceil(factor),
-            u64::from(sound.rate) / factor,
-        );
-        self.push(
-            match (is_after(from, frames, rate), is_after(to, frames, rate)) {
-                (true, _) => "what --from names",
-                (_, true) => "what --to names",
-                _ => "a mark of the part",
-            },
-        );
-        self.say(" is after the end of {0}, ", &[Named(input, "IN")]);
-        let lasts = [Time(frames, rate), Several(frames, "frame"), Count(rate)];
-        self.say("which lasts {0} ({1} at {2} Hz)", &lasts);
+    fn explain_end(&mut self, input: &str, (from, to): Ends, frames: u64, rate: u64) {
+        let text = match (is_after(from, frames, rate), is_after(to, frames, rate)) {
+            (true, _) => "what --from names is after the end of ",
+            (_, true) => "what --to names is after the end of ",
+            _ => "a mark of the part is after the end of ",
+        };
+        self.push(text);
+        self.named(input, "IN", ", which lasts ");
+        self.time(frames, rate);
+        self.say(" ({c0} frame{s0} at {c1} Hz)", [frames, rate, 0]);
     }
 
     /// Adds by how much the channels of a file are not whole bytes.
-    pub(crate) fn explain_rest(&mut self, input: &str) {
-        if let Some(sound) = self.sound_of(input) {
+    pub(crate) fn explain_rest<R: Files>(&mut self, rt: &R, input: &str) {
+        if let Some(sound) = sound_of(rt, self.alloc, input) {
             let bits = sound.count as u64;
-            self.say(REST, &[Named(input, "IN"), Count(bits), Number(bits % 8)])
+            self.named(input, "IN", "");
+            self.say(REST, [bits, bits % 8, 0]);
         }
         self.push("convert it to dsf or dsf8");
     }
 
     /// Adds what a WAVE file of so many bytes holds, by the first of them: its rate, width, channels and duration. Then
     /// comes what may surprise: a filter for another rate, a name that is that of another kind of file, no frames.
-    pub(crate) fn explain_played(&mut self, task: Task, front: &[u8; FRONT], bytes: u64) {
-        let order = Order::Little;
-        let (rate, format) = (u32_at(order, front, 24), u32_at(order, front, 16));
-        let (frame, width) = (u16_at(order, front, 32), u16_at(order, front, 34));
-        let sound = bytes.saturating_sub(u64::from(format).saturating_add(28));
-        let (rate, frames) = (u64::from(rate), sound / u64::from(frame).max(1));
-        let channels = Several(u16_at(order, front, 22).into(), "channel");
-        self.say("{0} Hz, {1} bits, ", &[Number(rate), Number(width.into())]);
-        self.say("{0}, {1}", &[channels, Time(frames, rate)]);
+    pub(crate) fn explain_played<R: Files>(
+        &mut self,
+        rt: &R,
+        task: Task,
+        front: &[u8; FRONT],
+        bytes: u64,
+    ) {
+        let (rate, frames) = self.say_wave(front, bytes);
         if let Some(project) = project_of(task) {
-            self.explain_filter(project, rate);
+            self.explain_filter(rt, project, rate);
         }
         if let Some((output, _)) = output_of(task, Step::First) {
             self.explain_name(output);
         }
-        match (task, input_of(task)) {
-            (Task::Play { .. }, Some((input, word))) if frames == 0 => {
-                self.say("; {0} has no sound", &[Named(input, word)])
+        if frames == 0 {
+            self.explain_silence(task);
+        }
+    }
+
+    // Adds what a WAVE file holds. Returns its rate, and how many frames it has.
+    fn say_wave(&mut self, front: &[u8; FRONT], bytes: u64) -> (u64, u64) {
+        let order = Order::Little;
+        let (rate, format) = (u32_at(order, front, 24), u32_at(order, front, 16));
+        let (frame, width) = (u16_at(order, front, 32), u16_at(order, front, 34));
+        let sound = bytes.saturating_sub(u64::from(format).saturating_add(28));
+        let (rate, frames) = (rate as u64, sound / u64::from(frame).max(1));
+        let channels = u16_at(order, front, 22) as u64;
+        let text = "{n0} Hz, {n1} bits, {c2} channel{s2}, ";
+        self.say(text, [rate, width as u64, channels]);
+        self.time(frames, rate);
+        (rate, frames)
+    }
+
+    // Adds why a WAVE file has no frames.
+    fn explain_silence(&mut self, task: Task) {
+        match task {
+            Task::Play { input, .. } => {
+                self.push("; ");
+                self.named(input, "IN", " has no sound");
             }
-            (Task::PlayPart { .. }, _) if frames == 0 => {
-                self.push("; the part is empty: it begins where it ends")
-            }
+            Task::PlayPart { .. } => self.push("; the part is empty: it begins where it ends"),
             _ => {}
         }
     }
 
     // Adds for which rates a ready filter is, where a file that it played to this rate has another.
-    fn explain_filter(&mut self, project: &str, rate: u64) {
+    fn explain_filter<R: Files>(&mut self, rt: &R, project: &str, rate: u64) {
         let (folder, filter) = folder_and_name(project);
-        if let (Some(index), Some(tables)) = (self.index_in(folder), self.tables_of(project)) {
+        let index = index_in(rt, self.alloc, folder);
+        if let (Some(index), Some(tables)) = (index, tables_of(rt, self.alloc, project)) {
             let rate = rate.saturating_mul(tables.factor);
-            for row in text_in(&index).lines() {
-                let (name, rates) = row_of(row);
-                if name == filter && !rates.is_empty() && !has_rate(rates, rate) {
-                    return self.say_rates(name, rates, rate);
-                }
+            self.explain_other(text_in(&index), filter, rate);
+        }
+    }
+
+    // Adds for which rates a filter is by a list of them, if not for this one.
+    fn explain_other(&mut self, index: &str, filter: &str, rate: u64) {
+        for row in index.lines() {
+            let (name, rates) = row_of(row);
+            if name == filter && !rates.is_empty() && !has_rate(rates, rate) {
+                return self.say_rates(name, rates, rate);
             }
         }
     }
 
     fn say_rates(&mut self, name: &str, rates: &str, rate: u64) {
-        self.say("; the filter {0} is for ", &[Text(name)]);
+        self.quote("; the filter ", name, " is for ");
         for (number, each) in rates.split(',').enumerate() {
-            self.say(if number > 0 { " or {0}" } else { "{0}" }, &[Text(each)]);
+            self.quote(if number > 0 { " or " } else { "" }, each, "");
         }
-        self.say(OTHER, &[Number(rate), Text(PICK)]);
-    }
-
-    // The ready filter for a rate that is beside another and makes the same of its recordings.
-    fn filter_for(&self, project: &str, rate: u64) -> Option<String> {
-        let (folder, filter) = folder_and_name(project);
-        let index = self.index_in(folder)?;
-        let (_, made) = filter.split_once("-to-")?;
-        for row in text_in(&index).lines() {
-            let (name, rates) = row_of(row);
-            if has_rate(rates, rate) && name.split_once("-to-").unwrap_or(("", "")).1 == made {
-                return format!(in self.alloc; "{folder}/{name}").ok();
-            }
-        }
-        None
-    }
-
-    // The list of the filters of a folder.
-    fn index_in(&self, folder: &str) -> Option<Vec<u8>> {
-        match format!(in self.alloc; "{folder}/{INDEX}") {
-            Ok(path) => self.text_of(path.as_str()),
-            Err(_) => None,
-        }
+        self.say(" Hz, and the file has {n0} Hz: ", [rate, 0, 0]);
+        self.quote("", PICK, " finds the right one");
     }
 
     // Adds that a file is a WAVE file, where its name says otherwise.
     fn explain_name(&mut self, output: &str) {
         let (_, name) = folder_and_name(output);
         let (_, ending) = name.rsplit_once('.').unwrap_or(("", ""));
-        for known in ENDINGS {
-            if ending.eq_ignore_ascii_case(known) {
-                self.say(NAMED, &[Named(output, "OUT")]);
-            }
+        if is_other(ending) {
+            self.push("; ");
+            self.named(output, "OUT", NAMED);
         }
     }
 
     /// Adds what a project has in place of the table that is asked for.
-    pub(crate) fn explain_table(&mut self, project: &str) {
-        let kind = match self.tables_of(project) {
-            Some(tables) if tables.has_splice => CUE_LIST,
-            Some(tables) if tables.factor > 0 => FILTER,
-            Some(_) => "it has no table at all",
-            None => return,
-        };
-        self.say("{0}: {1}", &[Named(project, "PROJECT"), Text(kind)]);
+    pub(crate) fn explain_table<R: Files>(&mut self, rt: &R, project: &str) {
+        if let Some(tables) = tables_of(rt, self.alloc, project) {
+            self.named(project, "PROJECT", ": ");
+            self.push(kind_by(tables));
+        }
     }
+}
+
+// What a project is.
+fn kind_by(tables: Tables) -> &'static str {
+    if tables.has_splice {
+        CUE_LIST
+    } else if tables.factor > 0 {
+        FILTER
+    } else {
+        "it has no table at all"
+    }
+}
+
+// How many bytes the sound of a WAVE file would have.
+fn size_of(sound: Sound, tables: Tables) -> u64 {
+    let samples = (sound.count as u64).checked_div(tables.factor).unwrap_or(0);
+    let frame = (sound.channels as u64).saturating_mul(tables.width / 8);
+    samples.saturating_mul(frame)
+}
+
+// The ready filter for a rate that is beside another and makes the same of its recordings.
+fn filter_for<R: Files>(rt: &R, alloc: Global, project: &str, rate: u64) -> Option<String> {
+    let (folder, filter) = folder_and_name(project);
+    let index = index_in(rt, alloc, folder)?;
+    let name = filter_in(text_in(&index), filter, rate)?;
+    format!(in alloc; "{folder}/{name}").ok()
+}
+
+// The filter of a list that does this.
+fn filter_in<'a>(index: &'a str, filter: &str, rate: u64) -> Option<&'a str> {
+    let (_, made) = filter.split_once("-to-")?;
+    for row in index.lines() {
+        let (name, rates) = row_of(row);
+        if has_rate(rates, rate) && name.split_once("-to-").unwrap_or(("", "")).1 == made {
+            return Some(name);
+        }
+    }
+    None
+}
+
+// The list of the filters of a folder.
+fn index_in<R: Files>(rt: &R, alloc: Global, folder: &str) -> Option<Vec<u8>> {
+    match format!(in alloc; "{folder}/{INDEX}") {
+        Ok(path) => text_of(rt, alloc, path.as_str()),
+        Err(_) => None,
+    }
+}
+
+// Whether a name ends as that of another kind of file.
+fn is_other(ending: &str) -> bool {
+    for known in &ENDINGS {
+        if ending.eq_ignore_ascii_case(known) {
+            return true;
+        }
+    }
+    false
 }
 
 // Whether a place is after the end of so many frames, of which this number make a second. Of a mark this isn't known.
@@ -289,22 +341,16 @@ fn has_rate(rates: &str, rate: u64) -> bool {
     false
 }
 
-const ENDLESS: &str = "{0} has no end: name a file";
-
-const RATE: &str = "{0} has {1} Hz, which the factor {2} of {3} does not divide: ";
-
 const LARGE: &str =
-    "{0} would make a WAVE file of {1}, and 4,294 MB are the most: choose a filter for a lower rate or \
+    " would make a WAVE file of {b0}, and 4,294 MB are the most: choose a filter for a lower rate or \
      16 bits, or play it in parts";
 
-const REST: &str = "{0} has {1} bits per channel, {2} more than whole bytes: ";
+const REST: &str = " has {c0} bits per channel, {n1} more than whole bytes: ";
 
 const CUE_LIST: &str = "it is a cue list, for edit and check; the ready filters are in filters/";
 
 const FILTER: &str = "it is a filter, for play; edit and check want a table \"splice\"";
 
-const OTHER: &str = " Hz, and the file has {0} Hz: {1} finds the right one";
-
 const NAMED: &str =
-    "; {0} is a WAVE file, whatever its name: play writes no other, but a pipe from OUT - to another program \
+    " is a WAVE file, whatever its name: play writes no other, but a pipe from OUT - to another program \
      makes them";

@@ -1,7 +1,7 @@
 //! Why a project text or a mix text is not read: which key of it, and where.
 
-use crate::line::Line;
-use crate::line::Part::{Count, Number, Signed, Text};
+use crate::files::text_of;
+use crate::line::{Line, NONE};
 use crate::words::is_near;
 use fir_core::{MAX_FACTOR, MAX_SHIFT, MAX_TAP_SUM, MAX_TAPS};
 use mix_core::{
@@ -12,9 +12,11 @@ use project_core::{
     CUE_KEYS, DECIMATE_KEYS, DOCUMENT_KEYS, Key, MAX_BRIDGE, MAX_CUES, MAX_END, MAX_PLACE,
     MAX_TAKES, MAX_TITLE, MAX_WEIGHT_SUM, MAX_WEIGHTS, ProjectFault, SPLICE_KEYS, Table,
 };
+use std::alloc::Global;
+use std::rt::Files;
 use toml::Value;
 
-impl<R> Line<'_, R> {
+impl Line {
     /// Adds why a project text or a mix text is refused.
     pub(crate) fn explain_project(&mut self, source: &[u8], fault: ProjectFault) {
         let Ok(lines) = std::str::from_utf8(source) else {
@@ -26,24 +28,23 @@ impl<R> Line<'_, R> {
         }
     }
 
+    /// The same of the text of this name.
+    pub(crate) fn explain_source<R: Files>(&mut self, rt: &R, name: &str, fault: ProjectFault) {
+        if let Some(source) = text_of(rt, self.alloc, name) {
+            self.explain_project(&source, fault);
+        }
+    }
+
     fn explain_text(&mut self, lines: &str, document: &toml::Table, fault: ProjectFault) {
         match fault {
             ProjectFault::UnknownKey(table) => self.explain_unknown_key(lines, document, table),
             ProjectFault::MissingKey(key, table) => {
                 self.say_table(lines, table);
-                self.say(" has no \"{0}\": ", &[Text(key.name())]);
+                self.quote(" has no \"", key.name(), "\": ");
                 self.say_wanted(key, table);
             }
             ProjectFault::WrongKind(key, table) | ProjectFault::OutOfLimit(key, table) => {
-                let table = holder_of(key, table);
-                self.say_key(lines, table, key.name());
-                if let Some(value) = value_at(content_of(document, table), key) {
-                    self.push(" is ");
-                    self.say_value(value);
-                    self.push(", and");
-                }
-                self.push(" has to be ");
-                self.say_wanted(key, table);
+                self.explain_value(lines, document, (key, holder_of(key, table)));
             }
             ProjectFault::NoTake {
                 number,
@@ -55,12 +56,25 @@ impl<R> Line<'_, R> {
                     None => Table::Cue(number),
                 };
                 self.say_name(table);
-                self.say(" names take {0}", &[Signed(take)]);
+                self.push(" names take ");
+                self.signed(take);
                 self.say_line(key_line(lines, table, Key::Take.name()));
-                self.say("; there are {0}, counted from 0", &[Number(takes as u64)]);
+                self.say("; there are {n0}, counted from 0", [takes as u64, 0, 0]);
             }
             _ => self.explain_numbers(lines, fault),
         }
+    }
+
+    // Adds what is at a key of a table, and what has to be there.
+    fn explain_value(&mut self, lines: &str, document: &toml::Table, (key, table): (Key, Table)) {
+        self.say_key(lines, table, key.name());
+        if let Some(value) = value_at(content_of(document, table), key) {
+            self.push(" is ");
+            self.say_value(value);
+            self.push(", and");
+        }
+        self.push(" has to be ");
+        self.say_wanted(key, table);
     }
 
     fn explain_numbers(&mut self, lines: &str, fault: ProjectFault) {
@@ -73,12 +87,12 @@ impl<R> Line<'_, R> {
             } => {
                 let (bits, least) = (stop.saturating_sub(start), weights.saturating_sub(1));
                 self.say_cue_in(lines, cue);
-                let numbers = [start, stop, bits, weights, least];
-                self.say(SHORT, &numbers.map(|number| Number(number as u64)));
+                self.say(SHORT, [start as u64, stop as u64, bits as u64]);
+                self.say(WEIGHED, [weights as u64, least as u64, 0]);
             }
             ProjectFault::LastBridge { cue, bridge } => {
                 self.say_key(lines, Table::Cue(cue), Key::Bridge.name());
-                self.say(LAST, &[Number(bridge as u64), Number(cue as u64)]);
+                self.say(LAST, [bridge as u64, cue as u64, 0]);
             }
             _ => {}
         }
@@ -86,31 +100,34 @@ impl<R> Line<'_, R> {
 
     fn explain_toml(&mut self, source: &[u8], error: &toml::de::Error) {
         if let Some(span) = error.span() {
-            let number = Number(line_at(source, span.start) as u64);
-            self.say("line {0}: {1}", &[number, Text(error.message())]);
-            if is_in_texts(source, span.start) {
-                self.push(QUOTES);
-            }
+            self.say("line {n0}: ", [line_at(source, span.start) as u64, 0, 0]);
+            let after = match is_in_texts(source, span.start) {
+                true => QUOTES,
+                false => "",
+            };
+            self.quote("", error.message(), after);
         }
     }
 
     // Adds what the first key of a table that isn't known may have meant.
     fn explain_unknown_key(&mut self, lines: &str, document: &toml::Table, table: Table) {
         let (keys, _, table_name) = facts_of(table);
-        let Some(name) = unknown_in(content_of(document, table), keys) else {
-            return;
-        };
-        self.say_key(lines, table, name);
-        self.say(" is no key of {0}", &[Text(table_name)]);
-        for key in keys {
-            if is_near(self.alloc, name, key.name()) {
-                return self.say("; did you mean \"{0}\"?", &[Text(key.name())]);
-            }
+        if let Some(name) = unknown_in(content_of(document, table), keys) {
+            self.say_key(lines, table, name);
+            self.quote(" is no key of ", table_name, "");
+            self.explain_key(name, keys, table);
+        }
+    }
+
+    // Adds what a name may have meant that is no key of a table.
+    fn explain_key(&mut self, name: &str, keys: &[Key], table: Table) {
+        if let Some(meant) = near_in(self.alloc, keys, name) {
+            return self.quote("; did you mean \"", meant, "\"?");
         }
         for home in homes_of(table) {
             let (others, _, home_name) = facts_of(home);
             if is_among(others, name) {
-                return self.say("; it belongs to {0}", &[Text(home_name)]);
+                return self.quote("; it belongs to ", home_name, "");
             }
         }
         self.push("; its keys are ");
@@ -121,7 +138,7 @@ impl<R> Line<'_, R> {
 
     fn say_line(&mut self, number: Option<usize>) {
         if let Some(number) = number {
-            self.say(" in line {0}", &[Number(number as u64)]);
+            self.say(" in line {n0}", [number as u64, 0, 0]);
         }
     }
 
@@ -144,74 +161,76 @@ impl<R> Line<'_, R> {
         let (_, _, name) = facts_of(table);
         match number_in(table) {
             Some(number) => {
-                let kind = name.trim_start_matches("a ");
-                self.say("{0} {1}", &[Text(kind), Number(number as u64)]);
+                self.push(name.trim_start_matches("a "));
+                self.say(" {n0}", [number as u64, 0, 0]);
             }
             None => self.push(name),
         }
     }
 
     fn say_key(&mut self, lines: &str, table: Table, key: &str) {
-        self.say("\"{0}\"", &[Text(key)]);
+        self.quote("\"", key, "\"");
         self.say_line(key_line(lines, table, key));
     }
 
     fn say_value(&mut self, value: &Value) {
         match value {
-            Value::Integer(number) => self.say("{0}", &[Signed(*number)]),
-            Value::String(words) if words.len() <= 80 => self.say("\"{0}\"", &[Text(words)]),
-            Value::String(words) => self.say("a text of {0} bytes", &[Count(words.len() as u64)]),
-            Value::Array(values) => self.say("an array of {0}", &[Number(values.len() as u64)]),
-            _ => self.say("of the kind {0}", &[Text(value.type_str())]),
+            Value::Integer(number) => self.signed(*number),
+            Value::String(words) if words.len() <= 80 => self.quote("\"", words, "\""),
+            Value::String(words) => self.say("a text of {c0} bytes", [words.len() as u64, 0, 0]),
+            Value::Array(values) => self.say("an array of {n0}", [values.len() as u64, 0, 0]),
+            _ => self.quote("of the kind ", value.type_str(), ""),
         }
     }
 
     fn say_wanted(&mut self, key: Key, table: Table) {
-        let (template, most) = wanted_at(key, table);
-        let parts = [
-            Number(most),
-            Count(most),
-            Count(MAX_TAP_SUM),
-            Number(MAX_WEIGHT_SUM),
-            Count(mix_core::MAX_TAPS as u64),
-            Count(MAX_PLACE as u64),
-            Count(MAX_GAIN.into()),
-            Number(MAX_OVERLAPPING as u64),
-        ];
-        self.say(template, &parts);
+        let (text, numbers) = wanted_at(key, table);
+        self.say(text, numbers);
     }
 }
 
-// What has to be at a key of a table, and the greatest number in it.
-fn wanted_at(key: Key, table: Table) -> (&'static str, u64) {
+// What has to be at a key of a table, and the numbers in it.
+type Wanted = (&'static str, [u64; 3]);
+
+fn wanted_at(key: Key, table: Table) -> Wanted {
     match key {
-        Key::Decimate | Key::Splice | Key::Mix => ("a table", 0),
-        Key::Taps if is_of_mix(table) => (DECODER_TAPS, MAX_DECODER_SUM),
-        Key::Taps => (TAPS, MAX_TAPS as u64),
-        Key::Factor => ("a multiple of 8, from 8 to {0}", MAX_FACTOR.into()),
-        Key::Delay => (DELAY, 0),
-        Key::Shift => ("a whole number from 0 to {0}", MAX_SHIFT.into()),
-        Key::Width => ("16 or 24", 0),
-        Key::Weights => (WEIGHTS, MAX_WEIGHTS as u64),
-        Key::Takes => (TAKES, MAX_TAKES as u64),
-        Key::Cue => ("1 to {0} tables [[splice.cue]]", MAX_CUES as u64),
-        Key::Take => ("the number of a take, counted from 0", 0),
-        Key::Start | Key::Stop | Key::At => (UP_TO, MAX_PLACE as u64),
-        Key::Bridge => ("a whole number from 0 to {0}", MAX_BRIDGE as u64),
-        Key::Target => ("\"fade\" or \"line\"", 0),
-        Key::Line => (LINE, MAX_END.into()),
-        Key::Title => ("a text of at most {0} bytes", MAX_TITLE as u64),
-        Key::Unit => ("a whole number from 1 to {1}", MAX_UNIT as u64),
-        Key::Audible => (AUDIBLE, MAX_AUDIBLE_SUM),
-        Key::Limit => (UP_TO, MAX_LIMIT as u64),
-        Key::Every => ("a whole number from 1 to {0}", MAX_EVERY as u64),
-        Key::Decoder if number_in(table).is_some() => (DECODER, 0),
-        Key::Decoder => ("1 to {0} tables [[mix.decoder]]", MAX_DECODERS as u64),
-        Key::Clip => (CLIPS, MAX_CLIPS as u64),
-        Key::Length => (LENGTH, MAX_PLACE as u64),
-        Key::Gain => (GAIN, MAX_POINTS as u64),
-        Key::Gains => (GAINS, MAX_POINTS as u64),
+        Key::Decimate | Key::Splice | Key::Mix => ("a table", NONE),
+        Key::Taps if is_of_mix(table) => DECODER_TAPS,
+        Key::Taps => TAPS,
+        Key::Factor => FACTOR,
+        Key::Delay => DELAY,
+        Key::Shift => SHIFT,
+        Key::Width => ("16 or 24", NONE),
+        Key::Weights => WEIGHTS,
+        Key::Takes => TAKES,
+        Key::Cue => CUES,
+        Key::Take => ("the number of a take, counted from 0", NONE),
+        Key::Start | Key::Stop | Key::At => PLACE,
+        Key::Bridge => BRIDGE,
+        Key::Target => ("\"fade\" or \"line\"", NONE),
+        Key::Line => LINE,
+        Key::Title => TITLE,
+        Key::Unit => UNIT,
+        Key::Audible => AUDIBLE,
+        Key::Limit => LIMIT,
+        Key::Every => EVERY,
+        Key::Decoder if number_in(table).is_some() => DECODER,
+        Key::Decoder => DECODERS,
+        Key::Clip => CLIPS,
+        Key::Length => LENGTH,
+        Key::Gain => GAIN,
+        Key::Gains => GAINS,
     }
+}
+
+// The first of some keys that a name may mean.
+fn near_in(alloc: Global, keys: &[Key], name: &str) -> Option<&'static str> {
+    for key in keys {
+        if is_near(alloc, name, key.name()) {
+            return Some(key.name());
+        }
+    }
+    None
 }
 
 // Whether the value that has a byte is one of texts, by the last key before it.
@@ -405,38 +424,91 @@ fn bare(key: &str) -> &str {
     key.trim().trim_matches('"')
 }
 
-const SHORT: &str = " is from {0} to {1}, {2} bits long; with {3} weights it needs {4} or more";
+const SHORT: &str = " is from {n0} to {n1}, {n2} bits long; ";
 
-const LAST: &str = " is {0}, but cue {1} is the last: take it out";
+const WEIGHED: &str = "with {n0} weights it needs {n1} or more";
 
-const TAPS: &str = "1 to {0} whole numbers, with an absolute sum of at most {2}";
+const LAST: &str = " is {n0}, but cue {n1} is the last: take it out";
 
-const DELAY: &str = "a whole number, 0 or more and below the number of taps";
+const TAPS: Wanted = (
+    "1 to {n0} whole numbers, with an absolute sum of at most {c1}",
+    [MAX_TAPS as u64, MAX_TAP_SUM, 0],
+);
 
-const UP_TO: &str = "a whole number from 0 to {1}";
+const FACTOR: Wanted = ("a multiple of 8, from 8 to {n0}", [MAX_FACTOR as u64, 0, 0]);
 
-const DECODER_TAPS: &str =
-    "an odd number of whole numbers, at most {4}, with an absolute sum of at most {1}";
+const DELAY: Wanted = (
+    "a whole number, 0 or more and below the number of taps",
+    NONE,
+);
 
-const AUDIBLE: &str =
-    "an odd number of whole numbers, at most {4}, with an absolute sum of at most {1} \
-                       and a sum above 0";
+const SHIFT: Wanted = ("a whole number from 0 to {n0}", [MAX_SHIFT as u64, 0, 0]);
 
-const DECODER: &str = "the number of a decoder, counted from 0";
+const CUES: Wanted = ("1 to {n0} tables [[splice.cue]]", [MAX_CUES as u64, 0, 0]);
 
-const CLIPS: &str = "1 to {1} tables [[mix.clip]], and at most {7} of them at one place";
+const BRIDGE: Wanted = ("a whole number from 0 to {n0}", [MAX_BRIDGE as u64, 0, 0]);
 
-const LENGTH: &str = "a whole number, 1 or more, and the clip may end at most at {1}";
+const PLACE: Wanted = ("a whole number from 0 to {c0}", [MAX_PLACE as u64, 0, 0]);
 
-const GAIN: &str = "1 to {1} points [place, gain], with rising places from 0 to {5} and gains from \
-                    -{6} to {6}";
+const LIMIT: Wanted = ("a whole number from 0 to {c0}", [MAX_LIMIT as u64, 0, 0]);
 
-const GAINS: &str = "for each channel 1 to {1} points as gain has them, and may not be beside gain";
+const TITLE: Wanted = ("a text of at most {n0} bytes", [MAX_TITLE as u64, 0, 0]);
 
-const WEIGHTS: &str = "2 to {0} whole numbers, with an absolute sum of at most {3}";
+const UNIT: Wanted = ("a whole number from 1 to {c0}", [MAX_UNIT as u64, 0, 0]);
 
-const TAKES: &str = "1 to {0} names, each in quotation marks";
+const EVERY: Wanted = ("a whole number from 1 to {n0}", [MAX_EVERY as u64, 0, 0]);
 
-const LINE: &str = "two whole numbers from -{0} to {0}, and only with target = \"line\"";
+const DECODER_TAPS: Wanted = (
+    "an odd number of whole numbers, at most {c0}, with an absolute sum of at most {c1}",
+    [mix_core::MAX_TAPS as u64, MAX_DECODER_SUM, 0],
+);
+
+const AUDIBLE: Wanted = (
+    "an odd number of whole numbers, at most {c0}, with an absolute sum of at most {c1} \
+     and a sum above 0",
+    [mix_core::MAX_TAPS as u64, MAX_AUDIBLE_SUM, 0],
+);
+
+const DECODER: Wanted = ("the number of a decoder, counted from 0", NONE);
+
+const DECODERS: Wanted = (
+    "1 to {n0} tables [[mix.decoder]]",
+    [MAX_DECODERS as u64, 0, 0],
+);
+
+const CLIPS: Wanted = (
+    "1 to {c0} tables [[mix.clip]], and at most {n1} of them at one place",
+    [MAX_CLIPS as u64, MAX_OVERLAPPING as u64, 0],
+);
+
+const LENGTH: Wanted = (
+    "a whole number, 1 or more, and the clip may end at most at {c0}",
+    [MAX_PLACE as u64, 0, 0],
+);
+
+const GAIN: Wanted = (
+    "1 to {c0} points [place, gain], with rising places from 0 to {c1} and gains from -{c2} to {c2}",
+    [MAX_POINTS as u64, MAX_PLACE as u64, MAX_GAIN as u64],
+);
+
+const GAINS: Wanted = (
+    "for each channel 1 to {c0} points as gain has them, and may not be beside gain",
+    [MAX_POINTS as u64, 0, 0],
+);
+
+const WEIGHTS: Wanted = (
+    "2 to {n0} whole numbers, with an absolute sum of at most {n1}",
+    [MAX_WEIGHTS as u64, MAX_WEIGHT_SUM, 0],
+);
+
+const TAKES: Wanted = (
+    "1 to {n0} names, each in quotation marks",
+    [MAX_TAKES as u64, 0, 0],
+);
+
+const LINE: Wanted = (
+    "two whole numbers from -{n0} to {n0}, and only with target = \"line\"",
+    [MAX_END as u64, 0, 0],
+);
 
 const QUOTES: &str = "; a text is in quotation marks, as in takes = [\"one.dff\", \"two.dff\"]";

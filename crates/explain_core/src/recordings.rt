@@ -1,12 +1,12 @@
 //! What a file is that is read as a recording, and why it is refused.
 
-use crate::files::Trouble;
-use crate::line::Line;
-use crate::line::Part::{Bytes, Id, Text};
+use crate::files::{Trouble, reopen};
+use crate::line::{Line, NONE};
 use chunk_core::{Inlet, id_at};
 use dsd_bits::Sound;
 use form_core::ReadFault;
 use sound_core::{read_outline, read_prefix};
+use std::alloc::Global;
 use std::io::{Read, Seek, SeekFrom};
 use std::rt::Files;
 
@@ -40,32 +40,64 @@ const KINDS: [(usize, &[u8], &str); 14] = [
     (0, b"7z\xbc\xaf", "a 7z file: unpack it first"),
 ];
 
-impl<R: Files> Line<'_, R> {
-    /// The sound of the file of a name, if it says what it is.
-    pub(crate) fn sound_of(&self, name: &str) -> Option<Sound> {
-        let (file, _) = self.reopen(name).ok()?;
-        match read_prefix(self.alloc, &mut Inlet::new(file)) {
-            Ok(prefix) => Some(prefix.sound),
-            Err(_) => None,
+/// The sound of the file of a name, if it says what it is.
+pub(crate) fn sound_of<R: Files>(rt: &R, alloc: Global, name: &str) -> Option<Sound> {
+    let (file, _) = reopen(rt, name).ok()?;
+    match read_prefix(alloc, &mut Inlet::new(file)) {
+        Ok(prefix) => Some(prefix.sound),
+        Err(_) => None,
+    }
+}
+
+/// How many marks the file of a name has.
+pub(crate) fn marks_of<R: Files>(rt: &R, alloc: Global, name: &str) -> u64 {
+    let Ok((file, _)) = reopen(rt, name) else {
+        return 0;
+    };
+    match read_outline(alloc, &mut Inlet::new(file)) {
+        Ok(outline) => outline.recording.marks().len() as u64,
+        Err(_) => 0,
+    }
+}
+
+/// The kind of the file of a name, by its first bytes.
+pub(crate) fn kind_of<R: Files>(rt: &R, name: &str) -> &'static str {
+    let mut bytes = [0u8; FRONT];
+    match read_front(rt, name, &mut bytes) {
+        Ok(_) => kind_in(&bytes),
+        Err(_) => "",
+    }
+}
+
+// Reads the beginning of a file. Returns how many bytes the file has.
+fn read_front<R: Files>(rt: &R, name: &str, front: &mut [u8; FRONT]) -> Result<u64, Trouble> {
+    let (mut file, length) = reopen(rt, name)?;
+    file.read(front)?;
+    Ok(length)
+}
+
+// Whether a file is the image of an SACD.
+fn is_sacd<R: Files>(rt: &R, name: &str) -> bool {
+    let Ok((mut file, _)) = reopen(rt, name) else {
+        return false;
+    };
+    let (places, wanted) = SACD;
+    for place in places {
+        let mut found = [0u8; 8];
+        let is_read = file.seek(SeekFrom::Start(place)).is_ok() && file.read(&mut found).is_ok();
+        if is_read && found == wanted {
+            return true;
         }
     }
+    false
+}
 
-    /// How many marks the file of a name has.
-    pub(crate) fn marks_of(&self, name: &str) -> u64 {
-        let Ok((file, _)) = self.reopen(name) else {
-            return 0;
-        };
-        match read_outline(self.alloc, &mut Inlet::new(file)) {
-            Ok(outline) => outline.recording.marks().len() as u64,
-            Err(_) => 0,
-        }
-    }
-
+impl Line {
     /// Adds why the file of a name is no recording, for this fault.
-    pub(crate) fn explain_file(&mut self, name: &str, fault: ReadFault) {
+    pub(crate) fn explain_file<R: Files>(&mut self, rt: &R, name: &str, fault: ReadFault) {
         match fault {
-            ReadFault::UnknownForm if self.is_sacd(name) => self.push(IS_SACD),
-            ReadFault::UnknownForm => self.explain_kind(name, "DSDIFF or DSF file"),
+            ReadFault::UnknownForm if is_sacd(rt, name) => self.push(IS_SACD),
+            ReadFault::UnknownForm => self.explain_kind(rt, name, "DSDIFF or DSF file"),
             ReadFault::Dsdiff(fault) => self.explain_dsdiff(fault),
             ReadFault::Dsf(fault) => self.explain_dsf(fault),
             ReadFault::Memory => {}
@@ -73,59 +105,33 @@ impl<R: Files> Line<'_, R> {
     }
 
     /// Adds what a file is in place of one that was wanted, by its first bytes.
-    pub(crate) fn explain_kind(&mut self, name: &str, wanted: &str) {
+    pub(crate) fn explain_kind<R: Files>(&mut self, rt: &R, name: &str, wanted: &str) {
         let mut bytes = [0u8; FRONT];
-        let length = match self.read_front(name, &mut bytes) {
-            Ok(length) => length,
-            Err(trouble) => return self.explain_trouble(name, trouble),
-        };
-        let (id, form) = (id_at(&bytes, 0), id_at(&bytes, 12));
-        let kind = kind_in(&bytes);
-        let template = match kind {
-            _ if length == 0 => "it is empty",
-            _ if length < FRONT as u64 => "it has only {0}",
-            _ if id == *b"FRM8" => OTHER_FORM,
-            "" => "it begins with {1}, which no {4} does",
-            _ => "it begins with {1}: {3}, not a {4}",
-        };
-        let (id, form) = (Id(id), Id(form));
-        self.say(
-            template,
-            &[Bytes(length), id, form, Text(kind), Text(wanted)],
-        );
-    }
-
-    /// The kind of the file of a name, by its first bytes.
-    pub(crate) fn kind_of(&self, name: &str) -> &'static str {
-        let mut bytes = [0u8; FRONT];
-        match self.read_front(name, &mut bytes) {
-            Ok(_) => kind_in(&bytes),
-            Err(_) => "",
+        match read_front(rt, name, &mut bytes) {
+            Ok(length) => self.explain_front(&bytes, length, wanted),
+            Err(trouble) => self.explain_trouble(rt, name, trouble),
         }
     }
 
-    // Reads the beginning of a file. Returns how many bytes the file has.
-    fn read_front(&self, name: &str, front: &mut [u8; FRONT]) -> Result<u64, Trouble> {
-        let (mut file, length) = self.reopen(name)?;
-        file.read(front)?;
-        Ok(length)
-    }
-
-    // Whether a file is the image of an SACD.
-    fn is_sacd(&self, name: &str) -> bool {
-        let Ok((mut file, _)) = self.reopen(name) else {
-            return false;
-        };
-        let (places, wanted) = SACD;
-        for place in places {
-            let mut found = [0u8; 8];
-            let is_read = file.seek(SeekFrom::Start(place)).is_ok()
-                && file.read(&mut found).is_ok();
-            if is_read && found == wanted {
-                return true;
+    // The same, by these bytes of a file of so many.
+    fn explain_front(&mut self, bytes: &[u8; FRONT], length: u64, wanted: &str) {
+        if length < FRONT as u64 {
+            let text = match length {
+                0 => "it is empty",
+                _ => "it has only {b0}",
+            };
+            return self.say(text, [length, 0, 0]);
+        }
+        let id = id_at(bytes, 0);
+        self.say_id("it begins with {i0}", id, NONE);
+        match kind_in(bytes) {
+            _ if id == *b"FRM8" => self.say_id(OTHER_FORM, id_at(bytes, 12), NONE),
+            "" => self.quote(", which no ", wanted, " does"),
+            kind => {
+                self.quote(": ", kind, ", not a ");
+                self.push(wanted);
             }
         }
-        false
     }
 }
 
@@ -147,7 +153,7 @@ fn kind_in(front: &[u8; FRONT]) -> &'static str {
     "a text"
 }
 
-const OTHER_FORM: &str = "it begins with {1}, but as a form of the type {2}, not \"DSD \"";
+const OTHER_FORM: &str = ", but as a form of the type {i0}, not \"DSD \"";
 
 const IS_SACD: &str =
     "it is the image of an SACD: write its tracks as DSDIFF or DSF files first, as sacd_extract does";

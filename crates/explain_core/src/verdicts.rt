@@ -2,70 +2,72 @@
 
 use crate::cutting::{Cutting, span_of};
 use crate::line::Line;
-use crate::line::Part::{Count, Named, Number, Several};
-use crate::recordings::{CERTIFICATE, RECORDING};
+use crate::recordings::{CERTIFICATE, RECORDING, kind_of, sound_of};
 use cert_core::CertReason;
 use form_core::ReadFault;
 use request_core::Reason;
+use std::alloc::Global;
 use std::rt::Files;
 
-impl<R: Files> Line<'_, R> {
+impl Line {
     /// Adds why a master with its certificate is rejected.
-    pub(crate) fn explain_verdict(
+    pub(crate) fn explain_verdict<R: Files>(
         &mut self,
+        rt: &R,
         cutting: &Cutting,
         (master, cert): (&str, &str),
         reason: Reason,
     ) {
         match reason {
-            Reason::CertHead(_) | Reason::Cert(_, _) | Reason::CertExtra => {
-                self.say("{0}: ", &[Named(cert, "CERT")]);
-                let channels = match self.sound_of(cutting.take(0)) {
-                    Some(sound) => sound.channels as u64,
-                    None => 1,
-                };
-                self.explain_cert(cutting, cert, channels, reason);
+            Reason::CertHead(why) => {
+                self.named(cert, "CERT", ": ");
+                self.explain_head(rt, cutting, cert, why);
+            }
+            Reason::Cert(entry, why) => {
+                self.named(cert, "CERT", ": ");
+                let channels = channels_of(rt, self.alloc, cutting);
+                self.explain_entry(cutting, entry as u64, channels);
+                self.push(hint(why));
+            }
+            Reason::CertExtra => {
+                self.named(cert, "CERT", ": ");
+                self.push("something was added after its last entry");
             }
             Reason::MasterUnread(fault) => {
-                self.say("{0}: ", &[Named(master, "MASTER")]);
-                match fault {
-                    ReadFault::UnknownForm if self.kind_of(master) == CERTIFICATE => {
-                        self.push("it is a certificate; MASTER comes before CERT")
-                    }
-                    _ => self.explain_file(master, fault),
-                }
+                self.named(master, "MASTER", ": ");
+                self.explain_unread_master(rt, master, fault);
             }
-            _ => self.explain_master(cutting, master, reason),
+            _ => {
+                self.named(master, "MASTER", "");
+                self.explain_master(cutting, reason);
+            }
+        }
+    }
+
+    fn explain_unread_master<R: Files>(&mut self, rt: &R, master: &str, fault: ReadFault) {
+        match fault {
+            ReadFault::UnknownForm if kind_of(rt, master) == CERTIFICATE => {
+                self.push("it is a certificate; MASTER comes before CERT")
+            }
+            _ => self.explain_file(rt, master, fault),
         }
     }
 
     // Adds in what a master isn't that of the project.
-    fn explain_master(&mut self, cutting: &Cutting, name: &str, reason: Reason) {
-        let master = Named(name, "MASTER");
+    fn explain_master(&mut self, cutting: &Cutting, reason: Reason) {
         match reason {
             Reason::MasterShape { found, wanted } => {
-                self.say("{0}", &[master]);
                 self.say_shape(" has ", found);
                 self.push(", and ");
                 self.say_take(cutting, 0);
                 self.say_shape(" ", wanted);
             }
             Reason::MasterLength { found, wanted } => {
-                self.say(LENGTH, &[master, Count(found as u64), Count(wanted as u64)]);
+                self.say(LENGTH, [found as u64, wanted as u64, 0]);
             }
-            Reason::MasterMarks => {
-                let mut titles = 0u64;
-                for cue in &cutting.splice.cues {
-                    titles = titles.saturating_add(cue.title.is_some().into());
-                }
-                self.say(MARKS, &[master, Several(titles, "title")]);
-            }
+            Reason::MasterMarks => self.say(MARKS, [cutting.titles(), 0, 0]),
             Reason::CuedBit(channel, place) => {
-                let (bit, channel) = (Count(place as u64), Number(channel as u64));
-                self.say(
-                    "{0}: bit {1} of channel {2} has to be ",
-                    &[master, bit, channel],
-                );
+                self.say(BIT, [place as u64, channel as u64, 0]);
                 self.explain_bit(cutting, place as u64);
             }
             _ => {}
@@ -76,57 +78,54 @@ impl<R: Files> Line<'_, R> {
     fn explain_bit(&mut self, cutting: &Cutting, place: u64) {
         let mut rest = place;
         for (number, cue) in cutting.splice.cues.iter().enumerate() {
-            if rest < span_of(cue) {
+            let span = span_of(cue);
+            if rest < span {
                 let there = (cue.start as u64).saturating_add(rest);
-                self.say("bit {0} of ", &[Count(there)]);
+                self.say("bit {c0} of ", [there, 0, 0]);
                 self.say_take(cutting, cue.take);
                 self.push(", by ");
                 return self.say_cue(cutting, number);
             }
-            rest = rest.saturating_sub(span_of(cue));
+            rest = rest.saturating_sub(span);
         }
     }
 
-    fn explain_cert(&mut self, cutting: &Cutting, cert: &str, channels: u64, reason: Reason) {
-        match (reason, self.kind_of(cert)) {
-            (Reason::CertHead(CertReason::Cut), CERTIFICATE) => self.push(CUT),
-            (Reason::CertHead(_), CERTIFICATE) => {
-                let mut bridges = 0u64;
-                for cue in &cutting.splice.cues {
-                    bridges = bridges.saturating_add((cue.bridge > 0).into());
-                }
-                let weights = Several(cutting.splice.weights.len() as u64, "weight");
-                self.say(
-                    HEAD,
-                    &[
-                        weights,
-                        Several(bridges, "bridge"),
-                        Several(channels, "channel"),
-                    ],
-                )
+    // Adds why the head of a certificate is not that of the project.
+    fn explain_head<R: Files>(&mut self, rt: &R, cutting: &Cutting, cert: &str, why: CertReason) {
+        match (kind_of(rt, cert), why) {
+            (CERTIFICATE, CertReason::Cut) => self.push(CUT),
+            (CERTIFICATE, _) => {
+                let channels = channels_of(rt, self.alloc, cutting);
+                let weights = cutting.splice.weights.len() as u64;
+                self.say(HEAD, [weights, cutting.bridges(), channels]);
             }
-            (Reason::CertHead(_), RECORDING) => self.push("it is a recording; CERT comes last"),
-            (Reason::CertHead(_), _) => self.explain_kind(cert, "certificate"),
-            (Reason::Cert(entry, why), _) => {
-                self.explain_entry(cutting, entry as u64, channels);
-                self.push(hint(why));
-            }
-            _ => self.push("something was added after its last entry"),
+            (RECORDING, _) => self.push("it is a recording; CERT comes last"),
+            _ => self.explain_kind(rt, cert, "certificate"),
         }
     }
 
     // Adds for which bridge an entry is.
     fn explain_entry(&mut self, cutting: &Cutting, entry: u64, channels: u64) {
-        self.say("entry {0} is ", &[Number(entry)]);
+        self.say("entry {n0} is ", [entry, 0, 0]);
         let mut before = entry.checked_div(channels).unwrap_or(0);
         for (number, cue) in cutting.splice.cues.iter().enumerate() {
-            if cue.bridge > 0 && before == 0 {
-                let channel = Number(entry.checked_rem(channels).unwrap_or(0));
-                self.say("for channel {0} of the bridge after ", &[channel]);
-                return self.say_cue(cutting, number);
+            if cue.bridge > 0 {
+                if before == 0 {
+                    let channel = entry.checked_rem(channels).unwrap_or(0);
+                    self.say("for channel {n0} of the bridge after ", [channel, 0, 0]);
+                    return self.say_cue(cutting, number);
+                }
+                before -= 1;
             }
-            before = before.saturating_sub((cue.bridge > 0).into());
         }
+    }
+}
+
+// How many channels the first take of a project has.
+fn channels_of<R: Files>(rt: &R, alloc: Global, cutting: &Cutting) -> u64 {
+    match sound_of(rt, alloc, cutting.take(0)) {
+        Some(sound) => sound.channels as u64,
+        None => 1,
     }
 }
 
@@ -142,11 +141,15 @@ fn hint(why: CertReason) -> &'static str {
     }
 }
 
-const LENGTH: &str = "{0} has {1} bits per channel; the cues and bridges have {2} together";
+const LENGTH: &str = " has {c0} bits per channel; the cues and bridges have {c1} together";
 
-const MARKS: &str = "{0}: its marks are not those of the {1} of the project; info prints its marks";
+const MARKS: &str =
+    ": its marks are not those of the {c0} title{s0} of the project; info prints its marks";
+
+const BIT: &str = ": bit {c0} of channel {n1} has to be ";
 
 const CUT: &str = "it ends inside its head: fetch it again, or edit again";
 
 const HEAD: &str =
-    "it is not for {0} and {1} in {2}, which the project has, or of an unknown version: edit again";
+    "it is not for {c0} weight{s0} and {c1} bridge{s1} in {c2} channel{s2}, which the project has, or of an \
+     unknown version: edit again";

@@ -3,6 +3,8 @@
 A ramp of a crossfade is such a line. Its middle may lie between two bits, so there are points at the bits around both
 of its ends: 0 before it, the gains at its first and at its last bit, and 1 after it. A curve that keeps the sum of
 powers has many points."""
+from bisect import bisect_right
+
 import numpy as np
 
 from cuts.crossfades import shares
@@ -45,10 +47,10 @@ def one_after_other(rising: Points, falling: Points) -> Points:
 
 def gain_at(points: Points, place: int) -> int:
     """The gain at a place, as docs/NULL_TEST.md defines it."""
-    before, after = ([it for it in points if (it[0] <= place) == is_before] for is_before in (True, False))
-    if not before or not after:
-        return before[-1][1] if before else after[0][1]
-    (one, low), (other, high) = before[-1], after[0]
+    number = bisect_right(points, place, key=lambda it: it[0])
+    if number in (0, len(points)):
+        return points[max(number - 1, 0)][1]
+    (one, low), (other, high) = points[number - 1 : number + 1]
     return low + (high - low) * (place - one) // (other - one)
 
 
@@ -66,5 +68,6 @@ def counted_from(points: Points, first: int, stop: int) -> Points:
         return []
     inside = moved([it for it in points if it[0] > first], -first)
     found = [(0, gain_at(points, first)), *inside] if points[0][0] <= first else inside
-    is_full = all(gain == FULL for place, gain in found if place < stop - first)
-    return [] if is_full else found
+    inside = [gain for place, gain in found if place < stop - first]
+    ends = [gain_at(found, it) for it in (0, stop - first - 1)]
+    return [] if {*inside, *ends} == {FULL} else found

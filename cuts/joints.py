@@ -5,10 +5,12 @@ several of each are tried, and all places near the middle, and where a few newly
 cut to the other."""
 from collections.abc import Callable
 from dataclasses import dataclass
+from functools import lru_cache
 
 import numpy as np
 
-from cuts.continuing import LINK, Field, Modulated
+from cuts import continuing
+from cuts.continuing import LINK, WEIGHT, Field, Modulated, ends_of
 from modulator import modulators
 
 TRIED = 8  # modulators of each direction, twice as many where there are few places
@@ -42,19 +44,82 @@ class Joint:
     moment: float
 
 
+@lru_cache(maxsize=4)
+def waves_to_end(rate: int, count: int) -> np.ndarray:
+    """The lines at that many places, as seen from after the last one."""
+    return np.exp(1j * np.outer(continuing.turns(rate), count - np.arange(count)))
+
+
+@lru_cache(maxsize=16)
+def ways_of(kind: modulators.Modulator, rate: int) -> tuple[np.ndarray, np.ndarray]:
+    """What a modulator answers to the second half of its past, and the equations that choose the first half."""
+    answer, order = continuing.answers(kind, rate), kind.order
+    ways = np.concatenate([answer[:, :order].real, answer[:, :order].imag, WEIGHT * np.eye(order)])
+    return answer[:, order:], ways
+
+
+def past_of(kind: modulators.Modulator, rate: int, errors: np.ndarray) -> np.ndarray:
+    """The numbers with which a modulator goes on after these errors, which were let in: those of `continuing`, found
+    faster."""
+    answer, ways = ways_of(kind, rate)
+    shaped = errors[: -kind.order - 1 : -1]
+    wanted = -(waves_to_end(rate, len(errors)) @ errors + answer @ shaped)
+    chosen = np.linalg.lstsq(ways, np.concatenate([wanted.real, wanted.imag, np.zeros(kind.order)]), rcond=None)[0]
+    return np.concatenate([chosen, shaped])
+
+
+@dataclass(frozen=True)
+class Search:
+    """How many modulators of each direction there are, at how many places around the middle both may meet, and how many
+    meetings are looked at closely."""
+
+    tried: int = TRIED
+    places: int = PLACES
+    kept: int = continuing.KEPT
+
+
+@dataclass(frozen=True)
+class Brief(Field):
+    """Places at which both may meet, of whose meetings `kept` are looked at closely."""
+
+    kept: int = continuing.KEPT
+
+    def suited(self, fronts: np.ndarray, rears: np.ndarray) -> tuple[np.ndarray, float]:
+        ends, found = ends_of(self.rate), []
+        for number, front in enumerate(fronts):
+            squares, moments = ends.left(front + rears)
+            best = least(squares, self.kept)
+            places = np.unravel_index(best, squares.shape)
+            found.append(np.stack([squares.flat[best], moments.flat[best], np.full(len(best), number), *places]))
+        every = np.concatenate(found, axis=1)
+        kept = every[:, least(every[0], self.kept)]
+        return kept[2:].T.astype(int), float(np.median(kept[1]))
+
+
+def least(numbers: np.ndarray, count: int) -> np.ndarray:
+    """Where that many of the least numbers are."""
+    every = np.arange(numbers.size)
+    return every if numbers.size <= count else np.sort(np.argpartition(numbers, count, axis=None)[:count])
+
+
 class Meetings:
     """Some modulators that go on from the errors before and some that lead up to the errors after. `pasts` are those of
-    the modulator at both ends, and `tried` is how many there are of each direction."""
+    the modulator at both ends."""
 
     def __init__(
-        self, by: Modulated, pasts: tuple[np.ndarray, np.ndarray], known: tuple, seed: int, tried: int = TRIED
+        self,
+        by: Modulated,
+        pasts: tuple[np.ndarray, np.ndarray],
+        known: tuple,
+        seed: int,
+        search: Search = Search(),
     ) -> None:
         before, sound, after = known
         length = len(sound)
-        self.first = max(length // 2 - PLACES // 2, length // 8)
-        self.field = Field(by.rate, self.first, length - self.first)
+        self.first = max(length // 2 - search.places // 2, length // 8)
+        self.field = Brief(by.rate, self.first, length - self.first, search.kept)
         parts = sound[: self.field.stop], sound[self.first :][::-1]
-        times = tried if self.field.stop - self.first > PLACES // 2 else 2 * tried
+        times = search.tried if self.field.stop - self.first > search.places // 2 else 2 * search.tried
         self.fronts, rears = (
             by.continued(*it, seed + 1 + number, times) for number, it in enumerate(zip(pasts, parts))
         )

@@ -10,16 +10,16 @@ and so at least the peak of the bump; it gets quieter only over more places. So 
 where there are too few of them."""
 from collections.abc import Iterator
 from dataclasses import dataclass
+from functools import cached_property
 from pathlib import Path
 
 import numpy as np
 
-from cuts import hearing
 from cuts.continuing import Modulated
 from cuts.crossfades import wrapped
 from cuts.hearing import hearing_of, let_in
-from cuts.joints import Meetings, bumps, kinds_for, moments, settled
-from cuts.sounding import Sounding, signs_of
+from cuts.joints import Meetings, Search, bumps, kinds_for, moments, past_of, settled
+from cuts.sounding import Filter, Sounding, signs_of
 from cuts.stretches import Gap, Kept, pattern
 from modulator import modulators
 
@@ -28,7 +28,7 @@ SECTION = 1 << 20  # places at the end over which a bump goes at most
 TAIL = 10e-3  # seconds at the end in which there are several modulators
 SHORTEST = 0.5e-3  # seconds: in less, what leads up to an end doesn't come apart from what goes on
 SLOPE = 5e-3  # seconds in which a bump comes and goes
-MANY, FEW = 4, 2  # modulators of each direction, and those for a first try
+FEW, MANY = Search(2, 4000, 512), Search(4, 4000, 512)  # where both directions meet: a first try, and the others
 ENOUGH = 2e-6  # of full scale: what is heard where both directions meet
 SPREAD = 0x9E3779B97F4A7C15  # by which seeds are spread
 
@@ -68,7 +68,7 @@ class Heard:
     """What is left of the errors of a channel, as the null test finds it: the greatest of all places that are judged,
     and where that is. Errors follow each other from place `first` on."""
 
-    taps: np.ndarray
+    by: Filter
     every: int
     first: int
     greatest: float = 0.0
@@ -80,14 +80,14 @@ class Heard:
     def add(self, errors: np.ndarray) -> None:
         """Takes the next errors."""
         row = np.concatenate([self.waiting, errors])
-        if len(row) >= max(len(self.taps), BLOCK // 2):
+        if len(row) >= max(len(self.by.taps), BLOCK // 2):
             row = self.judged(row)
         self.waiting = row
 
     def judged(self, row: np.ndarray) -> np.ndarray:
         """Judges what can be judged; returns the errors that the next places hear too."""
-        left = np.abs(hearing.convolved(row, self.taps)) if len(self.taps) > 1 else np.abs(row * self.taps[0])
-        start = self.first + len(self.taps) // 2
+        left = np.abs(self.by.of(row))
+        start = self.first + self.by.reach
         part = left[-start % self.every :: self.every]
         if part.size and part.max() > self.greatest:
             self.greatest = float(part.max())
@@ -97,7 +97,7 @@ class Heard:
 
     def end(self) -> None:
         """Judges what is left."""
-        if len(self.waiting) >= len(self.taps):
+        if len(self.waiting) >= len(self.by.taps):
             self.waiting = self.judged(self.waiting)
 
 
@@ -115,7 +115,7 @@ class Front:
         """With what a modulator goes on."""
         if kind == self.kind:
             return self.state
-        return Modulated(self.program, kind, self.rate).past_of(let_in(self.errors, self.rate))
+        return past_of(kind, self.rate, self.known())
 
     def known(self) -> np.ndarray:
         """The errors before the next place, let in from afar."""
@@ -148,14 +148,18 @@ class Made:
 
 
 class Rendering:
-    """The new bits of a mix."""
+    """The new bits of a mix. The modulator's program is made in a folder once it is needed."""
 
-    def __init__(self, sounding: Sounding, program: Path) -> None:
-        self.sounding, self.program, self.rate = sounding, program, sounding.rate
+    def __init__(self, sounding: Sounding, folder: Path) -> None:
+        self.sounding, self.folder, self.rate = sounding, folder, sounding.rate
         self.reach = hearing_of(self.rate).size // 2
         audible = np.array(sounding.mix.audible, np.float64)
-        self.audible = audible / audible.sum()
+        self.audible = Filter(audible / audible.sum())
         self.made: Made | None = None
+
+    @cached_property
+    def program(self) -> Path:
+        return modulators.compiled(self.folder)
 
     # What is kept before and after.
 
@@ -247,13 +251,13 @@ class Rendering:
 
         pasts = dict[modulators.Modulator, tuple[np.ndarray, np.ndarray]]()
 
-        def meetings(row: np.ndarray, number: int, tried: int) -> Meetings:
+        def meetings(row: np.ndarray, number: int, search: Search) -> Meetings:
             for kind in kinds_for(self.rate):
                 by = Modulated(self.program, kind, self.rate)
                 if kind not in pasts:
-                    pasts[kind] = front.past(kind), by.past_of(after[::-1])
+                    pasts[kind] = front.past(kind), past_of(kind, self.rate, after[::-1])
                 try:
-                    return Meetings(by, pasts[kind], (before, row, after), number, tried)
+                    return Meetings(by, pasts[kind], (before, row, after), number, search)
                 except modulators.Unstable:
                     continue
             raise TooLoud(channel, stop - len(sound), stop)
@@ -266,14 +270,14 @@ class Rendering:
 
     def heard_before(self, gap: Gap, channel: int) -> Heard:
         """What hears the errors of new places, and those before them that their residual needs."""
-        reach = len(self.audible) - 1
+        reach = 2 * self.audible.reach
         found = Heard(self.audible, self.sounding.mix.every, gap.first - reach)
         found.add(self.around(gap.before, channel, gap.first - reach, gap.first))
         return found
 
     def end(self, heard: Heard, gap: Gap, channel: int) -> None:
         """Hears the errors after new places."""
-        heard.add(self.around(gap.after, channel, gap.stop, gap.stop + len(self.audible) - 1))
+        heard.add(self.around(gap.after, channel, gap.stop, gap.stop + 2 * self.audible.reach))
         heard.end()
 
     def around(self, kept: Kept | None, channel: int, first: int, stop: int) -> np.ndarray:

@@ -34,6 +34,8 @@ PIECE = 1 << 20  # bits that are copied at a time
 def spread(rendering: Rendering, channel: int, kept: list[Kept], least: int, room: int) -> list[Kept]:
     """The same, less what gives way so that bumps get quieter: so many bits on each side at most."""
     rate, length, found = rendering.rate, rendering.sounding.length, list(kept)
+    if room <= 0:
+        return found
     gaps, numbers = gaps_of(kept, length), {it: number for number, it in enumerate(kept)}
     for gap in gaps:
         wanted = round(USUAL * rate) - gap.length
@@ -75,7 +77,7 @@ def planned(rendering: Rendering, number: int, room: int) -> Channel:
     """The plan of a channel."""
     rate, length = rendering.rate, rendering.sounding.length
     parts = parts_of(rendering.sounding, number)
-    least = max(rendering.reach, len(rendering.audible))
+    least = max(rendering.reach, len(rendering.audible.taps))
     still = silences(parts, round(PAUSE * rate), max(round(QUIET * rate), least))
     kept = sorted([*takes_own(parts), *still], key=lambda it: it.first)
     kept = shrunk(kept, 2 * hearing_of(rate).half, least, length)

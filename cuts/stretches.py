@@ -7,7 +7,7 @@ from dataclasses import dataclass
 
 import numpy as np
 
-from cuts import gains
+from cuts.curves import gains_at
 from cuts.gains import FULL, Points
 from cuts.sounding import Sounding, Way, way_of
 from tools.null_testing.mixes import Clip
@@ -38,9 +38,12 @@ def pieces(points: Points, length: int) -> Iterator[tuple[int, int, int | None]]
         return
     rows: list[tuple[int, int, int | None]] = [(0, points[0][0], points[0][1])]
     for (first, one), (stop, other) in itertools.pairwise(points):
-        # At the first of its points a line has the gain of that point.
-        level = one if one == other or stop == first + 1 else None
-        rows += [(first, stop, level)] if level is not None else [(first, first + 1, one), (first + 1, stop, None)]
+        if one == other or stop == first + 1:
+            rows.append((first, stop, one))
+        elif one in (0, FULL):  # at the first of its points a line has the gain of that point
+            rows += [(first, first + 1, one), (first + 1, stop, None)]
+        else:
+            rows.append((first, stop, None))
     rows.append((points[-1][0], length, points[-1][1]))
     for first, stop, gain in rows:
         if first < min(stop, length) and gain != 0:
@@ -48,7 +51,7 @@ def pieces(points: Points, length: int) -> Iterator[tuple[int, int, int | None]]
 
 
 def joined_pieces(points: Points, length: int) -> list[tuple[int, int, int | None]]:
-    """The same, those that are alike and follow each other as one."""
+    """The same, those that are alike and follow each other as one: all lines of a curve are."""
     found: list[tuple[int, int, int | None]] = []
     for first, stop, gain in pieces(points, length):
         if found and found[-1][1] == first and found[-1][2] == gain:
@@ -58,31 +61,37 @@ def joined_pieces(points: Points, length: int) -> list[tuple[int, int, int | Non
     return found
 
 
-def is_whole(sounding: Sounding, channel: int, clips: list[Clip], first: int, stop: int) -> bool:
-    """Whether the gains of clips add up to 1 at all places: they are straight lines between their points."""
-    places = {first, stop - 1}
-    for clip in clips:
-        places |= {it + clip.at for it, _ in clip.points(channel) if first <= it + clip.at < stop}
-    for place in places:
-        parts = (gains.gain_at(it.points(channel), place - it.at) if it.points(channel) else FULL for it in clips)
-        total = sum(gain / FULL * sounding.total(it) for gain, it in zip(parts, clips))
-        if abs(total - 1) > ALIKE:
-            return False
-    return True
+def whole_spans(sounding: Sounding, channel: int, clips: list[Clip], first: int, stop: int) -> list[tuple[int, int]]:
+    """Where the gains of clips add up to 1, from place to place: they are straight lines between their points."""
+    own = [it.points(channel) for it in clips]
+    inside = {place + it.at for it, points in zip(clips, own) for place, _ in points if first <= place + it.at < stop}
+    places = np.array(sorted({first, stop - 1, *inside}))
+    total = sum(gains_at(it, places - clip.at) / FULL * sounding.total(clip) for it, clip in zip(own, clips))
+    is_one = np.abs(total - 1) < ALIKE
+    if is_one.all():
+        return [(first, stop)]
+    runs = np.flatnonzero(np.diff(np.pad(is_one, 1).astype(np.int8))).reshape(-1, 2)
+    return [(int(places[low]), int(places[high - 1]) + 1) for low, high in runs if high - low > 1]
 
 
-def part_of(sounding: Sounding, channel: int, first: int, stop: int, heard: dict[int, int | None]) -> Part:
-    """What is heard between two places at which something changes."""
+def parts_between(sounding: Sounding, channel: int, first: int, stop: int, heard: dict[int, int | None]) -> list[Part]:
+    """What is heard between two places at which something begins to change, or ends to."""
     clips, changes = [sounding.mix.clips[it] for it in heard], None in heard.values()
     ways = {way_of(it) for it in clips}
     if not clips:
-        return Part(first, stop, None, SILENCE)
+        return [Part(first, stop, None, SILENCE)]
     if len(ways) > 1:
-        return Part(first, stop, None, "crossfade" if changes else "overlap")
-    is_full = set(heard.values()) == {FULL} and abs(sum(map(sounding.total, clips)) - 1) < NEARLY
-    if is_full or is_whole(sounding, channel, clips, first, stop):
-        return Part(first, stop, ways.pop(), "", any(len(sounding.decoders[it.decoder]) == 1 for it in clips))
-    return Part(first, stop, None, "fade" if changes else "level")
+        return [Part(first, stop, None, "crossfade" if changes else "overlap")]
+    way, is_raw = ways.pop(), any(map(sounding.is_raw, clips))
+    if set(heard.values()) == {FULL} and abs(sum(map(sounding.total, clips)) - 1) < NEARLY:
+        return [Part(first, stop, way, "", is_raw)]
+    is_one = len(clips) == 1 and changes
+    found, place = list[Part](), first
+    for low, high in [] if is_one else whole_spans(sounding, channel, clips, first, stop):
+        found += [Part(place, low, None, "fade" if changes else "level")] if place < low else []
+        found.append(Part(low, high, way, "", is_raw))
+        place = high
+    return found + ([Part(place, stop, None, "fade" if changes else "level")] if place < stop else [])
 
 
 def parts_of(sounding: Sounding, channel: int) -> list[Part]:
@@ -95,7 +104,7 @@ def parts_of(sounding: Sounding, channel: int) -> list[Part]:
     found, heard, place = list[Part](), dict[int, int | None](), 0
     for at, is_begun, number, gain in [*changes, (sounding.length, 0, -1, None)]:
         if at > place:
-            found.append(part_of(sounding, channel, place, at, heard))
+            found += parts_between(sounding, channel, place, at, heard)
             place = at
         if is_begun:
             heard[number] = gain

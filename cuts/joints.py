@@ -139,11 +139,17 @@ class Meetings:
         return Joint(signs, found.heard, found.moment)
 
 
+# Greatest gains of noise transfers for louder sounds, by the order of the usual modulator. At DSD64 1.4 holds a sound up
+# to 0.68 of full scale, 1.35 to 0.72, 1.3 to 0.77, 1.27 to 0.8 and 1.22 to 0.85, with a noise of -118, -112, -104, -99
+# and -89 dB.
+GAINS = {7: (1.35, 1.3, 1.27, 1.22), 5: (1.4, 1.3, 1.25)}
+
+
 def kinds_for(rate: int) -> list[modulators.Modulator]:
-    """Modulators to be tried, the quietest first, and such that stay stable for louder sounds, to 0.8 of full scale."""
+    """Modulators to be tried, the quietest first, and such that stay stable for louder sounds."""
     usual = modulators.modulator_for(rate)
-    louder = ((usual.order, 1.3), (5, 1.3), (4, 1.3))
-    return [usual, *(modulators.Modulator(order, gain, usual.dither) for order, gain in dict.fromkeys(louder))]
+    louder = [(usual.order, it) for it in GAINS[usual.order]] + [(4, 1.3)]
+    return [usual, *(modulators.Modulator(order, gain, usual.dither) for order, gain in louder)]
 
 
 def settled(

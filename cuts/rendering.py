@@ -57,7 +57,7 @@ def slope_of(rate: int) -> int:
 
 def level_bump(rate: int, length: int) -> np.ndarray:
     """A bump with the sum 1 that comes and goes slowly, and stays at its level in between."""
-    slope = min(slope_of(rate), length // 2)
+    slope = min(slope_of(rate), length // 4)
     rising = (1 - np.cos(np.pi * (np.arange(slope) + 0.5) / max(slope, 1))) / 2
     bump = np.concatenate([rising, np.ones(length - 2 * slope), rising[::-1]])
     return bump / bump.sum()

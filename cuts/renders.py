@@ -27,6 +27,7 @@ QUIET = 0.1  # seconds of such a pattern at least
 USUAL = 10e-3  # seconds of new bits at least, if there is room
 QUIETEST = 1.25e-6  # of full scale: new bits are as many as make a bump quieter than this, if there is room
 LITTLE = 1e-7  # of full scale: a quieter bump isn't told
+GOOD = -110.0  # dB: what is louder because of a bump is told
 CUE = 1e-3  # seconds: shorter cues of takes are copied
 PIECE = 1 << 20  # bits that are copied at a time
 
@@ -186,6 +187,15 @@ class Report:
     place: int
 
 
+def bump_of(report: Report) -> str:
+    """What is said of a bump, and if it is what makes the residual loud, how much that costs."""
+    if report.bump <= LITTLE:
+        return ""
+    found, more = f", bump {decibels(report.bump):.1f} dB", decibels(report.residual) - GOOD
+    is_short = more > 0 and report.bump > report.residual / 2
+    return f"{found} (too short for {GOOD:g} dB, which costs {more:.1f} dB)" if is_short else found
+
+
 class Render:
     """A mix as a project. So many of a take's own bits may give way to new ones on each side."""
 
@@ -254,8 +264,7 @@ class Render:
             if report is None:
                 parts.append(f"channel {number} the take's own bits")
                 continue
-            bump = f", bump {decibels(report.bump):.1f} dB" if report.bump > LITTLE else ""
-            parts.append(f"channel {number} residual {decibels(report.residual):.1f} dB{bump}")
+            parts.append(f"channel {number} residual {decibels(report.residual):.1f} dB{bump_of(report)}")
         return "; ".join(parts)
 
     def share(self) -> float:

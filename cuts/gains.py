@@ -68,6 +68,6 @@ def counted_from(points: Points, first: int, stop: int) -> Points:
         return []
     inside = moved([it for it in points if it[0] > first], -first)
     found = [(0, gain_at(points, first)), *inside] if points[0][0] <= first else inside
-    inside = [gain for place, gain in found if place < stop - first]
-    ends = [gain_at(found, it) for it in (0, stop - first - 1)]
-    return [] if {*inside, *ends} == {FULL} else found
+    values = {gain for place, gain in found if place < stop - first}
+    values |= {gain_at(found, it) for it in (0, stop - first - 1)}
+    return [] if values == {FULL} else found

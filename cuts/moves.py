@@ -241,7 +241,13 @@ def tables_of(mix: Mix, before: Mix, rate: int, titles: list[tuple[int, str]]) -
         where = f"{shown_name(mix.takes[clip.take])} from {clock(clip.at, rate)} to {clock(clip.stop, rate)}"
         title = left.pop(old.at, None)
         note = "" if title is None else f"# title = {quoted(title)}\n"
-        numbers = {"take": clip.take, "decoder": clip.decoder, "start": clip.start, "at": clip.at, "length": clip.length}
+        numbers = {
+            "take": clip.take,
+            "decoder": clip.decoder,
+            "start": clip.start,
+            "at": clip.at,
+            "length": clip.length,
+        }
         text = "".join(f"{key} = {it}\n" for key, it in numbers.items())
         rows = [clip.gain] if clip.gains is None else clip.gains
         yield f"\n# {where}\n[[mix.clip]]\n{note}{text}{gains_of(rows)}"
@@ -249,7 +255,9 @@ def tables_of(mix: Mix, before: Mix, rate: int, titles: list[tuple[int, str]]) -
 
 def text_of(mix: Mix, sounding: Sounding, titles: list[tuple[int, str]], name: str) -> str:
     """The text of a mix whose ramps were moved, which was made of that of a sounding, whose text has a name."""
-    head = f"# Made by cuts/render of {shown_name(name)}: the same mix, with ramps that come a little earlier or later\n"
+    head = (
+        f"# Made by cuts/render of {shown_name(name)}: the same mix, with ramps that come a little earlier or later\n"
+    )
     numbers = {"unit": mix.unit, "limit": mix.limit, "every": mix.every}
     text = f"{head}\n[mix]\n{tomlkit.dumps({'takes': mix.takes})}"
     text += "".join(f"{key} = {it}\n" for key, it in numbers.items()) + f"audible = {array_of(np.array(mix.audible))}\n"

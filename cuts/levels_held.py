@@ -10,12 +10,13 @@ from modulator import modulators
 
 STEP = 0.5  # dB
 MOST = 60.0  # dB
+HOLDING = 2  # modulators that hold the loudest sounds: the last ones that are tried
 
 
 def is_held(rendering: Rendering, sound: np.ndarray) -> bool:
     """Whether some modulator is stable for a sound."""
     padded = np.pad(sound, (0, -len(sound) % 8), mode="edge")
-    for kind in kinds_for(rendering.rate):
+    for kind in kinds_for(rendering.rate)[-HOLDING:]:
         try:
             modulators.modulated(rendering.program, kind, rendering.rate, padded, seeded(len(padded)))
         except modulators.Unstable:
@@ -26,7 +27,14 @@ def is_held(rendering: Rendering, sound: np.ndarray) -> bool:
 
 def less(rendering: Rendering, sound: np.ndarray) -> float:
     """How many dB less would do for a sound."""
-    return next((it for it in np.arange(STEP, MOST, STEP) if is_held(rendering, sound * 10 ** (-it / 20))), MOST)
+    low, high = 0, round(MOST / STEP)
+    while low < high:
+        middle = (low + high) // 2
+        if is_held(rendering, sound * 10 ** (-middle * STEP / 20)):
+            high = middle
+        else:
+            low = middle + 1
+    return high * STEP
 
 
 def loudest(render: Render) -> tuple[float, int, int]:

@@ -28,6 +28,7 @@ from tools.null_testing.mixes import MOST_POINTS, Clip, Mix
 LONGEST = 0.5  # seconds of a stretch: in longer ones a bump is too quiet to be heard at all
 QUIETEST = 1.25e-6  # of full scale: a quieter bump stays
 SPARE = 8  # points that a clip may have more once its ramps were moved
+BENT = 64  # of a gain of 2^24: a point that is no further off a straight line may be left out
 
 
 @dataclass(frozen=True)
@@ -89,13 +90,29 @@ def ramps_of(mix: Mix, channel: int, low: int, high: int) -> list[Ramp]:
 
 
 def can_move(mix: Mix, ramp: Ramp) -> bool:
-    """Whether a ramp lies in its clips, whose points are few enough that some more may be needed."""
+    """Whether a ramp lies in its clips, which have room for some more points, or some that aren't needed."""
     for run in ramp.runs:
         clip = mix.clips[run.clip]
         points = clip.points(ramp.channel)
-        if points[run.last][0] > clip.length or len(points) + 2 * len(ramp.runs) + SPARE > MOST_POINTS:
+        is_full = len(points) + SPARE > MOST_POINTS
+        if points[run.last][0] > clip.length or is_full and np.sort(bends_of(points))[SPARE] > BENT:
             return False
     return True
+
+
+def bends_of(points: Points) -> np.ndarray:
+    """How far each point but the first and the last is off a straight line between its neighbours."""
+    places, values = np.array(points, np.float64).T
+    part = (places[1:-1] - places[:-2]) / (places[2:] - places[:-2])
+    return np.abs(values[1:-1] - values[:-2] - part * (values[2:] - values[:-2]))
+
+
+def thinned(points: Points) -> Points:
+    """No more points than a clip may have: those are left out that are needed least."""
+    points = list(points)
+    while len(points) > MOST_POINTS:
+        del points[int(bends_of(points).argmin()) + 1]
+    return points
 
 
 def rooms_of(sounding: Sounding, clip: Clip) -> tuple[int, int]:
@@ -217,7 +234,7 @@ def moved_clip(clip: Clip, count: int, moves: list[tuple[int, Run, float]]) -> C
         early = max(early, -(ends[0] + int(np.floor(bits))))
         late = max(late, ends[1] + int(np.ceil(bits)) - clip.length)
         rows[channel] = moved_points(rows[channel], run, bits)
-    rows = [gains.moved(it, early) for it in rows]
+    rows = [thinned(gains.moved(it, early)) for it in rows]
     length = clip.length + early + late
     return replace(clip, start=clip.start - early, at=clip.at - early, length=length, gain=[], gains=rows)
 

@@ -5,6 +5,7 @@ Each channel is planned by itself. Where all channels keep bits of one take at o
 a channel that keeps a take's bits, while others don't, has a copy of them in the new take."""
 import os
 from bisect import bisect_right
+from collections import Counter
 from collections.abc import Iterator
 from dataclasses import dataclass, replace
 from typing import BinaryIO
@@ -38,6 +39,7 @@ def spread(rendering: Rendering, channel: int, kept: list[Kept], least: int, roo
     if room <= 0:
         return found
     gaps, numbers = gaps_of(kept, length), {it: number for number, it in enumerate(kept)}
+    sides = Counter(it for gap in gaps for it in (gap.before, gap.after))
     for gap in gaps:
         wanted = round(USUAL * rate) - gap.length
         if gap.length < 1 / QUIETEST + slope_of(rate):
@@ -45,7 +47,7 @@ def spread(rendering: Rendering, channel: int, kept: list[Kept], least: int, roo
             wanted = max(wanted, int(bits) - gap.length)
         if wanted <= 0:
             continue
-        rooms = [room_of(it, gaps, least, room) for it in (gap.before, gap.after)]
+        rooms = [room_of(it, sides[it], least, room) for it in (gap.before, gap.after)]
         early = min(rooms[0], max(wanted // 2, wanted - rooms[1]))
         late = min(rooms[1], wanted - early)
         if gap.before is not None and early > 0:
@@ -57,12 +59,11 @@ def spread(rendering: Rendering, channel: int, kept: list[Kept], least: int, roo
     return found
 
 
-def room_of(kept: Kept | None, gaps: list[Gap], least: int, most: int) -> int:
-    """How many bits of what is kept may give way on one side."""
+def room_of(kept: Kept | None, sides: int, least: int, most: int) -> int:
+    """How many bits of what is kept may give way on one side, if there are new bits on so many sides of it."""
     if kept is None or kept.raw:
         return 0
-    sides = sum(kept in (it.before, it.after) for it in gaps)
-    return max(min((kept.length - least) // max(sides, 1), most), 0)
+    return max(min((kept.length - least) // sides, most), 0)
 
 
 @dataclass(frozen=True)

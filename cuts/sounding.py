@@ -25,7 +25,10 @@ def signs_of(take: Signals, channel: int, first: int, stop: int) -> np.ndarray:
     found = np.zeros(stop - first)
     low, high = max(first, 0), min(stop, take.bits)
     if low < high:
-        found[low - first : high - first] = take.stored(low, high)[channel] * 2.0 - 1.0
+        part = found[low - first : high - first]
+        part[:] = take.stored(low, high)[channel]
+        part *= 2
+        part -= 1
     return found
 
 

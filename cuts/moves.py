@@ -10,6 +10,7 @@ from dataclasses import dataclass, replace
 
 import numpy as np
 import tomlkit
+from scipy import fft
 
 from cuts import gains
 from cuts.albums import quoted
@@ -19,7 +20,7 @@ from cuts.gains import FULL, Points
 from cuts.hearing import decibels
 from cuts.mixes import array_of, gains_of
 from cuts.rendering import Rendering, level_bump
-from cuts.sounding import Sounding
+from cuts.sounding import Sounding, way_of
 from cuts.stretches import Gap
 from cuts.times import clock
 from dsdarc_scripts.explained import shown_name
@@ -150,19 +151,20 @@ def sums_of(sounding: Sounding, ramp: Ramp, early: int, late: int) -> np.ndarray
     """By how much the sum of the sound is more for each number of bits by which a ramp comes later, from `-early` to
     `late`."""
     found = np.zeros(early + late)
-    for run in ramp.runs:
+    for run in ramp.runs if early + late else ():
         clip = sounding.mix.clips[run.clip]
         points = clip.points(ramp.channel)
         rises, place = rises_of(points, run), clip.at + points[run.first][0] + 1
         sound = sounding.decoded(clip, ramp.channel, place - early, place + len(rises) + late - 1)
-        found -= np.correlate(sound, rises, "valid") if len(rises) < 64 else correlated(sound, rises)
+        found -= correlated(sound, rises)
     sums = np.concatenate([[0.0], np.cumsum(found)])
     return sums - sums[early]
 
 
 def correlated(row: np.ndarray, part: np.ndarray) -> np.ndarray:
-    size = 1 << int(np.ceil(np.log2(len(row))))
-    made = np.fft.irfft(np.fft.rfft(row, size) * np.fft.rfft(part, size).conj(), size)
+    """The sums of a row times a part that begins at each of its places, as far as all of that is inside."""
+    size = fft.next_fast_len(len(row), True)
+    made = fft.irfft(fft.rfft(row, size) * fft.rfft(part, size).conj(), size)
     return made[: len(row) - len(part) + 1]
 
 
@@ -198,10 +200,10 @@ def moves_of(rendering: Rendering, channel: int, gaps: list[Gap], most: int) -> 
     return found
 
 
-def line(move: Move, rate: int) -> str:
+def line(move: Move, mix: Mix, rate: int) -> str:
     """How far a ramp moved, and what it spares."""
     ramp, away = move.ramp, f"{abs(move.bits) / rate * 1e6:.3f} us {'later' if move.bits >= 0 else 'earlier'}"
-    kind = "crossfade" if len({it.clip for it in ramp.runs}) > 1 else "fade"
+    kind = "crossfade" if len({way_of(mix.clips[it.clip]) for it in ramp.runs}) > 1 else "fade"
     where = f"from {clock(ramp.first, rate)} to {clock(ramp.stop, rate)} (bits {ramp.first} to {ramp.stop})"
     spared = f"which spares a bump of {decibels(move.bump):.1f} dB"
     return f"channel {ramp.channel}: the {kind} {where} comes {away}, {spared}"

@@ -139,9 +139,9 @@ class Meetings:
         return Joint(signs, found.heard, found.moment)
 
 
-# Greatest gains of noise transfers for louder sounds, by the order of the usual modulator. At DSD64 1.4 holds a sound up
-# to 0.68 of full scale, 1.35 to 0.72, 1.3 to 0.77, 1.27 to 0.8 and 1.22 to 0.85, with a noise of -118, -112, -104, -99
-# and -89 dB.
+# Greatest gains of noise transfers for louder sounds, by the order of the usual modulator. At DSD64 1.4 holds sines up to
+# 0.6 of full scale, 1.35 to 0.65, 1.3 to 0.7, 1.27 to 0.75 and 1.22 to 0.8, with a noise of -118, -112, -104, -99 and
+# -89 dB.
 GAINS = {7: (1.35, 1.3, 1.27, 1.22), 5: (1.4, 1.3, 1.25)}
 
 

@@ -3,7 +3,9 @@
 The sum of some bits is odd or even, whatever they are, and what the sound needs of it is missing by up to 1. If a ramp
 comes some bits earlier or later, the sum of the sound changes: by the difference of what goes and what comes for each
 bit that a crossfade moves, and by the sound itself for a fade. So with a ramp at the right place nothing is missing.
-That is another mix than was asked for, if only by some microseconds."""
+That is another mix than was asked for, if only by some microseconds.
+
+A clip that begins or ends at once has a ramp of one bit there (`with_edges`)."""
 import itertools
 from collections.abc import Iterator
 from dataclasses import dataclass, replace
@@ -28,8 +30,41 @@ from tools.null_testing.mixes import MOST_POINTS, Clip, Mix
 
 LONGEST = 0.5  # seconds of a stretch: in longer ones a bump is too quiet to be heard at all
 QUIETEST = 1.25e-6  # of full scale: a quieter bump stays
+KINDS = {(False, False): "crossfade", (False, True): "fade", (True, False): "cut", (True, True): "change"}
 SPARE = 8  # points that a clip may have more once its ramps were moved
 BENT = 64  # of a gain of 2^24: a point that is no further off a straight line may be left out
+
+
+def begun(points: Points) -> Points:
+    """The points of a clip that begins one bit earlier, with a gain of 0."""
+    gain = gains.gain_at(points, 0)
+    return [(0, 0), (1, gain), *(it for it in gains.moved(points, 1) if it[0] > 1)]
+
+
+def ended(points: Points, length: int) -> Points:
+    """The points of a clip whose gain is 0 where it has ended."""
+    gain = gains.gain_at(points, length - 1)
+    return [*(it for it in points if it[0] < length - 1), (length - 1, gain), (length, 0)]
+
+
+def edged(sounding: Sounding, clip: Clip) -> Clip:
+    """The same clip, if it begins or ends at once with points that say so: ramps of one bit. At the ends of its take and
+    of the mix there are none."""
+    rows = [clip.points(it) or [(0, FULL)] for it in range(sounding.count)]
+    if clip.stop < sounding.length and clip.start + clip.length < sounding.takes[clip.take].bits:
+        if any(gains.gain_at(it, clip.length - 1) for it in rows):
+            rows = [ended(it, clip.length) for it in rows]
+            clip = replace(clip, gain=[], gains=rows)
+    if clip.at > 0 and clip.start > 0 and any(gains.gain_at(it, 0) for it in rows):
+        rows = [begun(it) for it in rows]
+        clip = replace(clip, start=clip.start - 1, at=clip.at - 1, length=clip.length + 1, gain=[], gains=rows)
+    return clip
+
+
+def with_edges(sounding: Sounding) -> Sounding:
+    """The same sound, whose clips have points at their ends."""
+    clips = [edged(sounding, it) for it in sounding.mix.clips]
+    return Sounding(replace(sounding.mix, clips=clips), sounding.takes)
 
 
 @dataclass(frozen=True)
@@ -180,10 +215,10 @@ def nearest(sums: np.ndarray, early: int, missing: float) -> float | None:
     return float(moved[np.abs(moved).argmin()])
 
 
-def moves_of(rendering: Rendering, channel: int, gaps: list[Gap], most: int) -> list[Move]:
+def moves_of(rendering: Rendering, sounding: Sounding, channel: int, gaps: list[Gap], most: int) -> list[Move]:
     """The ramps of a channel that move by at most so many bits: in each stretch whose bump would be loud the one that
-    has to move least."""
-    sounding, rate, found = rendering.sounding, rendering.rate, list[Move]()
+    has to move least. The sounding has edges."""
+    rate, found = rendering.rate, list[Move]()
     for gap in gaps:
         if gap.length > LONGEST * rate:
             continue
@@ -203,7 +238,8 @@ def moves_of(rendering: Rendering, channel: int, gaps: list[Gap], most: int) -> 
 def line(move: Move, mix: Mix, rate: int) -> str:
     """How far a ramp moved, and what it spares."""
     ramp, away = move.ramp, f"{abs(move.bits) / rate * 1e6:.3f} us {'later' if move.bits >= 0 else 'earlier'}"
-    kind = "crossfade" if len({way_of(mix.clips[it.clip]) for it in ramp.runs}) > 1 else "fade"
+    is_one = len({way_of(mix.clips[it.clip]) for it in ramp.runs}) == 1
+    kind = KINDS[ramp.stop - ramp.first == 1, is_one]
     where = f"from {clock(ramp.first, rate)} to {clock(ramp.stop, rate)} (bits {ramp.first} to {ramp.stop})"
     spared = f"which spares a bump of {decibels(move.bump):.1f} dB"
     return f"channel {ramp.channel}: the {kind} {where} comes {away}, {spared}"
@@ -241,12 +277,12 @@ def moved_clip(clip: Clip, count: int, moves: list[tuple[int, Run, float]]) -> C
     return replace(clip, start=clip.start - early, at=clip.at - early, length=length, gain=[], gains=rows)
 
 
-def moved_mix(mix: Mix, count: int, moves: list[Move]) -> Mix:
-    """The mix whose ramps were moved."""
+def moved_mix(mix: Mix, edges: Mix, count: int, moves: list[Move]) -> Mix:
+    """The mix whose ramps were moved; they are those of the same mix with edges."""
     clips = list(mix.clips)
-    for number, clip in enumerate(mix.clips):
+    for number, clip in enumerate(edges.clips):
         own = [(it.ramp.channel, run, it.bits) for it in moves for run in it.ramp.runs if run.clip == number]
-        clips[number] = moved_clip(clip, count, own) if own else clip
+        clips[number] = moved_clip(clip, count, own) if own else clips[number]
     return replace(mix, clips=clips)
 
 

@@ -199,11 +199,11 @@ def gaps_of(kept: list[Kept], length: int) -> list[Gap]:
 def reasons(parts: list[Part], first: int, stop: int) -> list[str]:
     """Why places are new: what is said of those that aren't a take's own, and whether a take follows another at once."""
     new = [it for it in parts if it.way is None and it.first < stop and first < it.stop]
-    found = dict.fromkeys(it.why for it in new if it.stop - it.first >= LITTLE or len(new) == 1)
-    for one, other in itertools.pairwise(parts):
+    found = dict.fromkeys(it.why for it in new if it.stop - it.first >= LITTLE)
+    for one, other in itertools.pairwise(it for it in parts if it.way or it.stop - it.first >= LITTLE):
         if one.way and other.way and one.way != other.way and first < other.first < stop:
             found["cut"] = None
-    return list(found)
+    return list(found or dict.fromkeys(it.why for it in new))
 
 
 def pattern(first: int, stop: int, start: int) -> np.ndarray:

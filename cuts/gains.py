@@ -59,7 +59,11 @@ def gain_row(points: Points, first: int, stop: int) -> np.ndarray:
     if not points:
         return np.ones(stop - first)
     places, values = zip(*points)
-    return np.floor(np.interp(np.arange(first, stop), places, values) + ROUNDED) / FULL
+    found = np.interp(np.arange(first, stop), places, values)
+    found += ROUNDED
+    np.floor(found, out=found)
+    found /= FULL
+    return found
 
 
 def counted_from(points: Points, first: int, stop: int) -> Points:

@@ -30,6 +30,7 @@ from tools.null_testing.mixes import MOST_POINTS, Clip, Mix
 
 LONGEST = 0.5  # seconds of a stretch: in longer ones a bump is too quiet to be heard at all
 QUIETEST = 1.25e-6  # of full scale: a quieter bump stays
+LESS = 0.7  # of what is missing: a ramp moves if at most that is left of it
 KINDS = {(False, False): "crossfade", (False, True): "fade", (True, False): "cut", (True, True): "change"}
 SPARE = 8  # points that a clip may have more once its ramps were moved
 BENT = 64  # of a gain of 2^24: a point that is no further off a straight line may be left out
@@ -203,21 +204,22 @@ def correlated(row: np.ndarray, part: np.ndarray) -> np.ndarray:
     return made[: len(row) - len(part) + 1]
 
 
-def nearest(sums: np.ndarray, early: int, missing: float) -> float | None:
-    """The nearest place, in bits from where a ramp is, at which a sum has what is missing or differs from it by an even
-    number; between two bits it changes in a straight line."""
+def nearest(sums: np.ndarray, early: int, missing: float) -> tuple[float, float]:
+    """What is missing of a sum at the nearest place at which nothing is but an even number, and the place in bits from
+    where a ramp is: between two bits the sum changes in a straight line. If there is none, where least is missing."""
     left = wrapped(missing - sums)
     rises = np.diff(left)
     crossings = np.nonzero((left[:-1] * left[1:] <= 0) & (np.abs(rises) < 1) & (rises != 0))[0]
     if not len(crossings):
-        return None
+        least = int(np.abs(left).argmin())
+        return abs(float(left[least])), float(least - early)
     moved = crossings - early - left[crossings] / rises[crossings]
-    return float(moved[np.abs(moved).argmin()])
+    return 0.0, float(moved[np.abs(moved).argmin()])
 
 
 def moves_of(rendering: Rendering, sounding: Sounding, channel: int, gaps: list[Gap], most: int) -> list[Move]:
     """The ramps of a channel that move by at most so many bits: in each stretch whose bump would be loud the one that
-    has to move least. The sounding has edges."""
+    has to move least for nothing to be missing, or that makes the bump quietest. The sounding has edges."""
     rate, found = rendering.rate, list[Move]()
     for gap in gaps:
         if gap.length > LONGEST * rate:
@@ -226,23 +228,22 @@ def moves_of(rendering: Rendering, sounding: Sounding, channel: int, gaps: list[
         bump = abs(missing) * float(level_bump(rate, gap.length).max())
         if bump <= QUIETEST:
             continue
-        near = list[Move]()
+        near = list[tuple[float, Move]]()
         for ramp in ramps_of(sounding.mix, channel, gap.first, gap.stop):
             early, late = allowed(sounding, ramp, most)
-            bits = nearest(sums_of(sounding, ramp, early, late), early, missing)
-            near += [] if bits is None else [Move(ramp, bits, bump)]
-        found += [min(near, key=lambda it: abs(it.bits))] if near else []
+            left, bits = nearest(sums_of(sounding, ramp, early, late), early, missing)
+            near += [(left, Move(ramp, bits, bump))] if left < LESS * abs(missing) else []
+        found += [min(near, key=lambda it: (it[0], abs(it[1].bits)))[1]] if near else []
     return found
 
 
 def line(move: Move, mix: Mix, rate: int) -> str:
-    """How far a ramp moved, and what it spares."""
+    """How far a ramp moved, and why."""
     ramp, away = move.ramp, f"{abs(move.bits) / rate * 1e6:.3f} us {'later' if move.bits >= 0 else 'earlier'}"
     is_one = len({way_of(mix.clips[it.clip]) for it in ramp.runs}) == 1
     kind = KINDS[ramp.stop - ramp.first == 1, is_one]
     where = f"from {clock(ramp.first, rate)} to {clock(ramp.stop, rate)} (bits {ramp.first} to {ramp.stop})"
-    spared = f"which spares a bump of {decibels(move.bump):.1f} dB"
-    return f"channel {ramp.channel}: the {kind} {where} comes {away}, {spared}"
+    return f"channel {ramp.channel}: the {kind} {where} comes {away}; without that the bump is {decibels(move.bump):.1f} dB"
 
 
 # The mix whose ramps were moved.

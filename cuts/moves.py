@@ -169,16 +169,18 @@ def rises_of(points: Points, run: Run) -> np.ndarray:
 
 
 def allowed(sounding: Sounding, ramp: Ramp, most: int) -> tuple[int, int]:
-    """How many bits earlier and later a ramp may come, so many at most: it stays between the points around it, and in
-    the clips, which may begin earlier and end later where they aren't heard."""
+    """How many bits earlier and later a ramp may come, so many at most: no further than half of the way to the points
+    around it, and in the clips, which may begin earlier and end later where they aren't heard."""
+    if any(sounding.is_raw(sounding.mix.clips[it.clip]) for it in ramp.runs):
+        return 0, 0
     early = late = most
     for run in ramp.runs:
         clip = sounding.mix.clips[run.clip]
         points, (before, after) = clip.points(ramp.channel), rooms_of(sounding, clip)
         start, stop = points[run.first][0], points[run.last][0]
-        flat = start - points[run.first - 1][0] - 2 if run.first else most
+        flat = (start - points[run.first - 1][0]) // 2 - 2 if run.first else most
         early = min(early, start + before, flat)
-        flat = points[run.last + 1][0] - stop - 2 if run.last + 1 < len(points) else most
+        flat = (points[run.last + 1][0] - stop) // 2 - 2 if run.last + 1 < len(points) else most
         late = min(late, clip.length - stop + after - 1, flat)
     return max(early, 0), max(late, 0)
 

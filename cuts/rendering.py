@@ -25,10 +25,10 @@ from modulator import modulators
 
 BLOCK = 1 << 19  # places that are modulated at a time; a multiple of 8
 SECTION = 1 << 20  # places at the end over which a bump goes at most
-TAIL = 10e-3  # seconds at the end in which there are several modulators
+TAIL = 6e-3  # seconds at the end in which there are several modulators
 SHORTEST = 0.5e-3  # seconds: in less, what leads up to an end doesn't come apart from what goes on
 SLOPE = 5e-3  # seconds in which a bump comes and goes
-FEW, MANY = Search(2, 4000, 512), Search(4, 4000, 512)  # where both directions meet: a first try, and the others
+FEW, MANY = Search(2, 2000, 1024), Search(4, 2000, 1024)  # where both directions meet: a first try, and the others
 ENOUGH = 2e-6  # of full scale: what is heard where both directions meet
 SPREAD = 0x9E3779B97F4A7C15  # by which seeds are spread
 

@@ -342,25 +342,19 @@ def plan_of(project: Project, cut: int, asked: FadeAsked) -> Plan:
 def fade(project: Project, program: Path, number: int, asked: FadeAsked) -> Fade:
     """Makes a seam of a cut, in the place of a bridge that fades, a link or a seam that it had. If it clicked louder then
     it is refused."""
-    spot = project.spots()[number]
-
-    def plain() -> None:
-        project.leave_out_between(spot)
-        project.leave_out_shift(spot.before + 1)
-
-    with project.undone(), masters.no_louder(project, number, plain):
-        project.leave_out_bridge(spot.before)
-        stop, start = project.cues[spot.before]["stop"], project.cues[spot.before + 1]["start"]
+    with masters.remade(project, number) as cut:
+        project.leave_out_bridge(cut)
+        stop, start = project.cues[cut]["stop"], project.cues[cut + 1]["start"]
         try:
-            made = made_by(program, plan_of(project, spot.before, asked), 1000 * number + 1)
+            made = made_by(program, plan_of(project, cut, asked), 1000 * number + 1)
         except NotStable as error:
             raise Refused(str(error)) from None
-        project.move(spot.before, made.stop, made.start)
+        project.move(cut, made.stop, made.start)
         kind, crossfade = "butt" if asked.is_butt else "fade", made.crossfade
         first, length = project.seams_as(asked.take).take.bits, made.signs.shape[1]
         places = stop - made.stop, made.start - start
         seam = Seam(
             first, length, kind, *places, crossfade.ramp, crossfade.power, crossfade.middles, slow=crossfade.slow
         )
-        project.insert_seam(spot.before, seam, made.signs)
+        project.insert_seam(cut, seam, made.signs)
     return made

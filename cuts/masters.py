@@ -1,7 +1,7 @@
 """The master of a project before it is cut: the bits that `edit` will put there, and what its cuts will click."""
 import contextlib
 import sys
-from collections.abc import Callable, Iterable, Iterator
+from collections.abc import Iterable, Iterator
 
 import numpy as np
 
@@ -77,18 +77,21 @@ def is_louder(new: float, old: float) -> bool:
 
 
 @contextlib.contextmanager
-def no_louder(project: Project, number: int, plain: Callable[[], None]) -> Iterator[None]:
-    """Refuses what a block makes of a cut if it clicks louder than before. `plain` leaves out the link or the seam that
-    the cut had: such a cut is compared with what is left then, as it was asked for at first."""
-    cuts, role = len(project.spots()), project.spots()[number].role
-    old = loudest(project, number, cuts)
-    plain()
-    if role in ("link", "seam"):
+def remade(project: Project, number: int) -> Iterator[int]:
+    """Leaves out the link or the seam that a cut has, so that a block can make it anew; yields the cue before it. If the
+    block refuses, all is as before. So it is if the cut clicks louder then: one that had a link or a seam louder than
+    what is left without it, as it was asked for at first."""
+    with project.undone():
+        cuts, spot = len(project.spots()), project.spots()[number]
         old = loudest(project, number, cuts)
-    yield
-    new = loudest(project, number, cuts)
-    if is_louder(new, old):
-        raise Refused(f"it would click louder, at {new:.1f} dB, and clicks at {old:.1f} dB where it is asked for")
+        project.leave_out_between(spot)
+        project.leave_out_shift(spot.before + 1)
+        if spot.role in ("link", "seam"):
+            old = loudest(project, number, cuts)
+        yield spot.before
+        new = loudest(project, number, cuts)
+        if is_louder(new, old):
+            raise Refused(f"it would click louder, at {new:.1f} dB, and clicks at {old:.1f} dB where it is asked for")
 
 
 def steps(project: Project, spot: Spot) -> list[float]:

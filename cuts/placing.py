@@ -376,16 +376,9 @@ def signs_of(project: Project, cut: int, ends: tuple[int, int], place: joining.P
 
 def place(project: Project, number: int, asked: PlaceAsked) -> None:
     """Moves a cut, whose link or seam is left out before. If it clicked louder then it is refused."""
-    spot = project.spots()[number]
-
-    def plain() -> None:
-        project.leave_out_between(spot)
-        project.leave_out_shift(spot.before + 1)
-
-    with project.undone():
-        is_apart = makes_transition(project, number, asked)
-        with masters.no_louder(project, number, plain):
-            if asked.plain:
-                project.leave_out_bridge(spot.before)
-            if not (is_apart and place_apart(project, spot.before, asked)):
-                place_together(project, spot.before, asked)
+    is_apart = makes_transition(project, number, asked)
+    with masters.remade(project, number) as cut:
+        if asked.plain:
+            project.leave_out_bridge(cut)
+        if not (is_apart and place_apart(project, cut, asked)):
+            place_together(project, cut, asked)

@@ -45,6 +45,26 @@ def add_outputs(files: Outputs, asked: argparse.Namespace) -> None:
         files.add("--mix", asked.mix)
 
 
+def changed(asked: argparse.Namespace, change: Callable[[Project, argparse.Namespace], int]) -> int:
+    """Changes a project, and writes it with the takes that were made and the mix. The status is 1 if `change` says that
+    cuts were refused."""
+    project = Project(asked.project)
+    with Outputs(project.inputs) as files:
+        add_outputs(files, asked)
+        refused = change(project, asked)
+        if project.seams:
+            files.put(asked.take, project.seam_file())
+        else:
+            files.drop(asked.take)
+        for take in project.made_shifted():
+            files.add("the take of shifted channels", take.name)
+            with files.open(take.name) as file:
+                take.write(file)
+        files.put(asked.output, project.text())
+        put_mix(files, asked, project)
+    return 1 if refused else 0
+
+
 def put_mix(files: Outputs, asked: argparse.Namespace, project: Project) -> None:
     """Writes the mix, and prints if its limit is another one than its kinds of cuts promise."""
     if asked.mix is None:

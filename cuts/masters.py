@@ -21,10 +21,10 @@ ALIKE = 0.3  # dB that a cut may be louder than before
 
 
 class Planned(Signals):
-    """The master as the project is now. The bits of a bridge that goes in a line aren't known: there is 0."""
+    """The master as the project is now, with the bits of bridges of these kinds, and 0 in place of those of others."""
 
-    def __init__(self, project: Project) -> None:
-        self.project = project
+    def __init__(self, project: Project, kinds: tuple[str, ...] = ("bridge",)) -> None:
+        self.project, self.kinds = project, kinds
         self.rate, self.count, self.bits = project.rate, project.count, project.length()
 
     def signs(self, first: int, stop: int) -> np.ndarray:
@@ -38,7 +38,7 @@ class Planned(Signals):
             place += length + self.project.bridge(number)
         for spot in self.project.spots():
             low, high = max(spot.place, first), min(spot.place + spot.length, stop)
-            if spot.role == "bridge" and low < high:
+            if spot.role in self.kinds and low < high:
                 found[:, low - first : high - first] = self.bridge(spot)[:, low - spot.place : high - spot.place]
         return found
 

@@ -15,24 +15,12 @@ from cuts.mixes import Mix
 from cuts.projects import Project, Spot
 
 
-class Cut(Planned):
-    """The planned master with the bits of bridges that go in a line."""
-
-    def signs(self, first: int, stop: int) -> np.ndarray:
-        found = super().signs(first, stop)
-        for spot in self.project.spots():
-            low, high = max(spot.place, first), min(spot.place + spot.length, stop)
-            if spot.role == "line" and low < high:
-                found[:, low - first : high - first] = self.bridge(spot)[:, low - spot.place : high - spot.place]
-        return found
-
-
 class Predicted:
     """The planned master of a project beside its mix."""
 
     def __init__(self, project: Project, mix: Mix) -> None:
         self.project, self.mix = project, mix
-        self.master = Cut(project)
+        self.master = Planned(project, ("bridge", "line"))
         self.audible = mix.audible / mix.audible.sum()
         self.decoders = {it: taps / mix.unit for it, taps in mix.taps.items()}
         self.ways = {it: number for number, it in enumerate(dict.fromkeys(map(way_of, mix.clips)))}

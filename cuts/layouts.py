@@ -16,7 +16,7 @@ from cuts.gains import FULL, Points
 from cuts.hearing import decibels
 from cuts.lists import Fading, Line, Spot, lasting_text
 from cuts.mixes import MOST_CLIPS
-from cuts.takes import Take, Unread, unlike
+from cuts.takes import Take, Unread, opened, unlike
 from cuts.times import clock, lasting
 from dsdarc_scripts.explained import shown_name
 from dsdarc_scripts.outputs import Refused
@@ -24,14 +24,6 @@ from dsdarc_scripts.project_texts import MOST_BITS, MOST_TAKES
 from tools.null_testing.mixes import MOST_OVERLAPPING
 
 MOST_GAIN = gain_of(lists.LOUDEST)
-
-
-def opened(name: str) -> Take:
-    """A take, which is found from the folder that the script runs in."""
-    try:
-        return Take(name)
-    except (Unread, OSError, ValueError) as error:
-        raise Refused(f"take {shown_name(name)}: {getattr(error, 'strerror', None) or error}") from None
 
 
 class Takes:
@@ -52,7 +44,7 @@ class Takes:
         return len(names)
 
     def add(self, name: str) -> None:
-        take = opened(name)
+        take = opened(name, f"take {shown_name(name)}")
         differing = unlike(take, self.takes[0]) if self.takes else None
         if differing:
             first = shown_name(self.takes[0].name)

@@ -3,13 +3,11 @@
 The text of a mix has as comments what only a list can say. Inside the table of a clip, `# title = ".."` is the title
 that begins with it, and each `# line = ".."` is a line of the list. So the list comes back letter by letter, if the clips
 are still those that it makes. Of other mixes a list is written anew, as far as lines can say their clips."""
-import re
-import tomllib
-from dataclasses import dataclass, field
+from dataclasses import dataclass
 
 import numpy as np
 
-from cuts import curves, layouts, lists, mixes
+from cuts import curves, layouts, lists, mix_texts, mixes
 from cuts.albums import MOST_TITLE, quoted, shortened
 from cuts.clips import SILENT
 from cuts.curves import Fade
@@ -17,60 +15,18 @@ from cuts.gains import FULL, Points
 from cuts.hearing import PASSED
 from cuts.layouts import Part, Takes
 from cuts.lists import Words, lasting_text, time_text
+from cuts.mix_texts import Notes
 from cuts.mixes import Mix
+from cuts.takes import Signals
 from dsdarc_scripts.explained import shown_name
 from dsdarc_scripts.outputs import Refused
-from tools.null_testing import mixes as mix_texts
 
 LIMIT = -100.0  # dB: what new bits of a mix leave at most
 USUAL = "linear"  # the curve of fades that name none
-NOTE = re.compile(r"\s*# (title|line|curve) = (.*)", re.DOTALL)
-TABLE = re.compile(r"\s*\[\[\s*mix\s*\.\s*clip\s*\]\]")
-OTHER = re.compile(r"\s*\[{1,2}\s*[A-Za-z_\"']")
-
-
-@dataclass
-class Notes:
-    """What comments say of a clip: the title that begins with it, and lines of the list."""
-
-    title: str | None = None
-    lines: list[str] = field(default_factory=list)
 
 
 def noted(key: str, value: str) -> str:
     return f"# {key} = {quoted(value)}\n"
-
-
-def notes_in(text: str, count: int) -> tuple[list[Notes], str]:
-    """The comments of that many clips, and the curve of fades that name none."""
-    found, number, is_clip, curve = [Notes() for _ in range(count)], -1, False, USUAL
-    for row in text.split("\n"):
-        if OTHER.match(row):
-            is_clip = TABLE.match(row) is not None
-            number += is_clip
-        elif note := NOTE.fullmatch(row.rstrip("\r")):
-            value = text_in(note[2])
-            if note[1] == "curve" and value in curves.RISING:
-                curve = value
-            elif value is not None and is_clip and number < count:
-                put_note(found[number], note[1], value)
-    return found, curve
-
-
-def text_in(value: str) -> str | None:
-    """A text as TOML has it, or nothing if it is none."""
-    try:
-        found = tomllib.loads(f"it = {value}")["it"]
-    except ValueError:
-        return None
-    return found if isinstance(found, str) else None
-
-
-def put_note(notes: Notes, key: str, value: str) -> None:
-    if key == "title":
-        notes.title = value
-    elif key == "line":
-        notes.lines.append(value)
 
 
 # From a list to a mix.
@@ -197,16 +153,16 @@ FLAT = 0.01  # how far a decoder may be off 1
 class Derived:
     """The list of a mix that no list made, or whose clips were changed."""
 
-    def __init__(self, name: str, mix: mix_texts.Mix, takes: Takes, notes: list[Notes]) -> None:
+    def __init__(self, name: str, mix: mix_texts.Mix, takes: list[Signals], notes: list[Notes]) -> None:
         self.name, self.mix, self.takes, self.notes = name, mix, takes, notes
-        self.numbers = [takes.number(it) for it in mix.takes]
+        self.rate, self.count = takes[0].rate, takes[0].count
 
     def refused(self, clip: int, why: str) -> Refused:
         return Refused(f"{self.name}: clip {clip}, counted from 0: {why}: no line of a list can say this")
 
     def demand_decoders(self) -> None:
         """Each clip is decoded as it is."""
-        flat = [response_of(it, self.mix.unit, self.takes.rate) <= FLAT for it in self.mix.decoders]
+        flat = [response_of(it, self.mix.unit, self.rate) <= FLAT for it in self.mix.decoders]
         for number, clip in enumerate(self.mix.clips):
             if not flat[clip.decoder]:
                 why = f"its decoder, {clip.decoder}, changes the sound below {PASSED // 1000} kHz"
@@ -215,7 +171,7 @@ class Derived:
     def channels(self, group: list[int]) -> tuple[list[int], dict[str, Fade]]:
         """The gain of each channel of some clips that are one line, and their fades."""
         first, rows = group[0], list[tuple[int, dict[str, Fade]]]()
-        for channel in range(self.takes.count):
+        for channel in range(self.count):
             points = [self.mix.clips[it].points(channel) for it in group]
             heard = [it for it in points if any(gain for _, gain in it or WHOLE)]
             found = fitted(heard[0] if heard else SILENT, self.mix.clips[first].length)
@@ -232,7 +188,7 @@ class Derived:
 
     def rows(self, is_untitled: bool) -> list[Words]:
         """The columns of each line."""
-        rate, groups, rows = self.takes.rate, grouped(self.mix, self.takes.count), list[Words]()
+        rate, groups, rows = self.rate, grouped(self.mix, self.count), list[Words]()
         known = [self.channels(it) for it in groups]
         for here, (group, (gains, fades)) in enumerate(zip(groups, known)):
             clip, before = self.mix.clips[group[0]], self.mix.clips[groups[here - 1][0]] if here else None
@@ -246,7 +202,7 @@ class Derived:
             words += [lists.fade_text(kind, it, rate) for kind, it in sorted(fades.items())]
             title = self.notes[group[0]].title
             words += [f"title {quoted(title)}"] if title is not None else ["no title"] if is_untitled else []
-            take = self.takes.takes[self.numbers[clip.take]]
+            take = self.takes[clip.take]
             stop = clip.start + clip.length
             ends = time_text(clip.start, rate), "end" if stop == take.bits else time_text(stop, rate)
             place = place_text(clip.at, before.stop if before else None, rate)
@@ -272,31 +228,6 @@ def place_text(at: int, before: int | None, rate: int) -> str:
     if before is None:
         return time_text(at, rate)
     return f"{'-' if at < before else '+'}{lasting_text(abs(at - before), rate)}"
-
-
-def takes_of(name: str, mix: mix_texts.Mix) -> Takes:
-    """The takes of a mix, which have the bits and the channels of its clips."""
-    takes = Takes()
-    try:
-        numbers = [takes.number(it) for it in mix.takes]
-    except Refused as error:
-        raise Refused(f"{name}: {error}") from None
-    for number, clip in enumerate(mix.clips):
-        take = takes.takes[numbers[clip.take]]
-        if clip.start + clip.length > take.bits:
-            raise Refused(f"{name}: clip {number}, counted from 0, ends after the end of {shown_name(take.name)}")
-        if clip.gains is not None and len(clip.gains) != takes.count:
-            channels = f"{len(clip.gains)} channels, and the takes have {takes.count}"
-            raise Refused(f"{name}: clip {number}, counted from 0, has gains for {channels}")
-    return takes
-
-
-def read(name: str, data: bytes) -> mix_texts.Mix:
-    """The mix of a text, or its fault in a line."""
-    try:
-        return mix_texts.read_mix(data)
-    except mix_texts.MixFault as fault:
-        raise Refused(f"{name}: {str(fault).removeprefix('Mix ')}: it is no mix as docs/NULL_TEST.md says") from None
 
 
 @dataclass(frozen=True)
@@ -335,9 +266,10 @@ def limit_of(mix: mix_texts.Mix) -> float | None:
     return next((it for it in rounded if int(mix.full * 10 ** (it / 20)) == mix.limit), float(level))
 
 
-def listed(name: str, text: str, mix: mix_texts.Mix, takes: Takes) -> Listed:
+def listed(name: str, text: str, mix: mix_texts.Mix, takes: list[Signals]) -> Listed:
     """The list of a mix, and of its text."""
-    notes, curve = notes_in(text, len(mix.clips))
+    notes, said_curve = mix_texts.notes_in(text, len(mix.clips), name)
+    curve = said_curve if said_curve in curves.RISING else USUAL
     rows = [line for it in notes for line in it.lines]
     if rows:
         try:

@@ -12,8 +12,7 @@ from scipy import fft
 from cuts import curves, mixes
 from cuts.gains import FULL, Points
 from cuts.hearing import USUAL, decibels
-from cuts.layouts import Takes
-from cuts.takes import Take
+from cuts.takes import Signals
 from tools.null_testing.mixes import Clip, Mix
 
 EVERY = 352_800  # places a second at least at which the sound is decoded: peaks between them are 0.2 dB louder at most
@@ -38,10 +37,11 @@ class Decoding:
         phases = row.reshape(rows, step)[::-1].T.astype(np.float32)
         self.spectra = fft.rfft(phases, self.size)[:, None]
 
-    def decoded(self, take: Take, first: int, count: int, channels: list[int]) -> dict[int, np.ndarray]:
+    def decoded(self, take: Signals, first: int, count: int, channels: list[int]) -> dict[int, np.ndarray]:
         """The sound of some channels at that many places from one on."""
         blocks = -(-count // self.hop)
-        signs = signs_of(take, first - self.reach, (blocks * self.hop + self.over) * self.step)
+        zeros = np.zeros((take.count, (blocks * self.hop + self.over) * self.step), np.float32)
+        signs = take.put_signs(zeros, first - self.reach)
         return {it: self.sound(signs[it])[:count] for it in channels}
 
     def sound(self, signs: np.ndarray) -> np.ndarray:
@@ -51,18 +51,6 @@ class Decoding:
         spectra = fft.rfft(pieces)
         spectra *= self.spectra
         return fft.irfft(spectra.sum(axis=0), self.size)[:, self.over :].ravel()
-
-
-def signs_of(take: Take, first: int, count: int) -> np.ndarray:
-    """The signals of all channels, as `Take.signs` has them, in less memory."""
-    found = np.zeros((take.count, count), np.float32)
-    low, high = max(first, 0), min(first + count, take.bits)
-    if low < high:
-        part = found[:, low - first : high - first]
-        part[:] = take.stored(low, high)
-        part *= 2
-        part -= 1
-    return found
 
 
 @dataclass
@@ -118,9 +106,8 @@ class Levels:
 class Metering:
     """A mix and its takes."""
 
-    def __init__(self, mix: Mix, takes: Takes) -> None:
-        self.mix, self.rate, self.count = mix, takes.rate, takes.count
-        self.takes = [takes.takes[takes.number(it)] for it in mix.takes]
+    def __init__(self, mix: Mix, takes: list[Signals]) -> None:
+        self.mix, self.takes, self.rate, self.count = mix, takes, takes[0].rate, takes[0].count
         self.step = max(self.rate // EVERY, 1)
         self.decodings = [self.decoding(it) for it in mix.decoders]
         self.ways = [(it.take, it.offset) for it in mix.clips]

@@ -17,6 +17,7 @@ import tomlkit
 from cuts import hearing
 from dsdarc_scripts import channels, dsdiffs
 from dsdarc_scripts.explained import shown_name
+from dsdarc_scripts.outputs import Refused
 
 
 Unread = channels.Unread
@@ -58,11 +59,17 @@ class Signals:
 
     def signs(self, first: int, stop: int) -> np.ndarray:
         """The signals of all channels from `first` to `stop` - 1, which may lie outside."""
-        found = np.zeros((self.count, stop - first))
-        low, high = max(first, 0), min(stop, self.bits)
+        return self.put_signs(np.zeros((self.count, stop - first)), first)
+
+    def put_signs(self, zeros: np.ndarray, first: int) -> np.ndarray:
+        """The same from `first` on, in an array of zeros with a row for each channel."""
+        low, high = max(first, 0), min(first + zeros.shape[1], self.bits)
         if low < high:
-            found[:, low - first : high - first] = self.stored(low, high) * 2.0 - 1.0
-        return found
+            part = zeros[:, low - first : high - first]
+            part[:] = self.stored(low, high)
+            part *= 2
+            part -= 1
+        return zeros
 
 
 class Take(Signals):
@@ -98,6 +105,14 @@ class Take(Signals):
                 return dsdiffs.comment_texts(self.file.read(size))
             self.file.seek(size + size % 2, os.SEEK_CUR)
         return []
+
+
+def opened(name: str, what: str) -> Take:
+    """A take, which is found from the folder that the script runs in; a fault says what it is."""
+    try:
+        return Take(name)
+    except (Unread, OSError, ValueError) as error:
+        raise Refused(f"{what}: {getattr(error, 'strerror', None) or error}") from None
 
 
 def unlike(one: Signals, other: Signals) -> tuple[str, str] | None:

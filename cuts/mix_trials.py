@@ -1,0 +1,117 @@
+"""Mixes of takes whose true signals are known (`trials`): rendered, cut and checked, for the figures of
+cuts/FIGURES.md. What is left of each stretch of new bits is found by the null test, and against the true signals."""
+import re
+import sys
+from dataclasses import dataclass
+from pathlib import Path
+
+import numpy as np
+
+from cuts import gains, hearing, mix_texts, null_tests, trials
+from cuts.hearing import decibels, hearing_of
+from cuts.list_mixes import LIMIT, USUAL, Made
+from cuts.takes import Take
+from dsdarc_scripts.outputs import Refused
+from dsdarc_scripts.program import finished
+
+RENDER = Path(__file__).resolve().with_name("render")
+NEW = re.compile(r"new bits from .* \(bits (\d+) to (\d+)\): .*")
+RESIDUAL = re.compile(r"residual (-\d+\.\d+) dB")
+AROUND = 1e-3  # seconds before and after new bits in which they are judged, as cuts are
+
+
+def fades(curve: str) -> str:
+    """Two clips with a short pause between them."""
+    first = f"0 {{0}} 5ms 195ms in 40ms {curve}, out 60ms {curve}"
+    return f"{first}\n+20ms {{1}} 5ms 195ms in 40ms {curve}, out 60ms {curve}\n"
+
+
+def crossfade(time: str, curve: str) -> str:
+    """Two clips, the one faded into the other."""
+    return f"0 {{0}} 5ms 200ms in 40ms s\n-{time} {{1}} 60ms 300ms crossfade {time} {curve}, out 40ms s\n"
+
+
+# Lists whose lines name two takes, by what they try.
+MIXES = {
+    **{f"fades in and out, {it}": fades(it) for it in ("linear", "power", "s", "exponential")},
+    **{f"crossfade of 50 ms, {it}": crossfade("50ms", it) for it in ("linear", "power", "s", "exponential")},
+    "crossfade of 5 ms, power": crossfade("5ms", "power"),
+    "a level of -3 dB": "0 {0} 5ms 145ms in 40ms s\n+0s {0} 145ms 250ms -3 dB\n+0s {0} 250ms 390ms out 40ms s\n",
+    "a pause of 0.7 s": "0 {0} 5ms 195ms in 40ms s, out 40ms s\n+700ms {1} 5ms 195ms in 40ms s, out 40ms s\n",
+    "an overlap": "0 {0} 5ms 300ms in 40ms s, -6 dB\n-150ms {1} 20ms 350ms in 30ms s, -6 dB, out 40ms s\n",
+    "inside a byte": "0 {0} @20001 @500006 in 40ms s\n+@0 {1} @500001 @900017 in @80003 s, out 50ms s\n",
+}
+BALANCE = {
+    "channel 1 at -2.5 dB": "0 {0} 5ms 145ms in 40ms s\n+0s {0} 145ms 250ms channel 1 -2.5 dB\n"
+    "+0s {0} 250ms 390ms out 40ms s\n",
+    "channel 0 off, faded": "0 {0} 5ms 195ms in 40ms s, out 40ms s\n-40ms {1} 60ms 390ms in 40ms s, out 40ms s, "
+    "channel 0 off\n",
+}
+
+
+@dataclass(frozen=True)
+class Seen:
+    """What is left of a stretch of new bits in its loudest channel (dB to full scale): by the null test, and against the
+    true signals; and what `render` printed."""
+
+    null: float
+    true: float
+    printed: float
+
+
+def true_sound(mix: mix_texts.Mix, trues: list[np.ndarray]) -> np.ndarray:
+    """The mix of the true signals of its takes, a row for each channel."""
+    found = np.zeros((len(trues[0]), mix.length))
+    for clip in mix.clips:
+        for channel, row in enumerate(found):
+            sound = trues[clip.take][channel, clip.start : clip.start + clip.length]
+            row[clip.at : clip.stop] += gains.gain_row(clip.points(channel), 0, clip.length) * sound
+    return found
+
+
+def left(master: Take, wanted: np.ndarray) -> np.ndarray:
+    """How loud what is heard of a master less its true sound is at each place, in its loudest channel."""
+    taps = hearing_of(master.rate).taps
+    errors = np.pad(master.signs(0, master.bits) - wanted, ((0, 0), (len(taps) // 2,) * 2))
+    return np.abs(hearing.convolved(errors, taps)).max(axis=0)
+
+
+def rendered(mix: Path, project: Path) -> list[tuple[int, int, float]]:
+    """Renders a mix: from where to where each stretch of new bits is, and its loudest residual as it is printed."""
+    status, out, err = finished([sys.executable, RENDER, mix, "-o", project, "--keep-going"])
+    rows = [(found, RESIDUAL.findall(found[0])) for found in map(NEW.fullmatch, out.decode().splitlines()) if found]
+    if status == 2 or not rows:
+        raise Refused(f"{mix}: {err.decode(errors='replace').strip() or 'nothing of it is new'}")
+    return [(int(it[1]), int(it[2]), max(map(float, levels))) for it, levels in rows]
+
+
+def tried(folder: Path, made: list[trials.Made], text: str) -> list[Seen]:
+    """Renders a list of two takes that were made, cuts and checks its master, and measures each stretch of new bits."""
+    name, project = folder / "mix.toml", folder / "project.toml"
+    names = [f'"{it.path}"' for it in made]
+    name.write_text(Made.of("list", text.format(*names), USUAL).mix_text(LIMIT, "list", "mix"), encoding="utf-8")
+    mix, _ = mix_texts.read(name)
+    stretches = rendered(name, project)
+    path = trials.cut_and_checked(project, "dsf" if mix.length % 8 else "dsdiff")
+    master, answer = Take(path), null_tests.answer(name, path)
+    trues = {str(it.path): it.true for it in made}
+    heard, around = left(master, true_sound(mix, [trues[it] for it in mix.takes])), round(AROUND * master.rate)
+    found = []
+    for first, stop, printed in stretches:
+        near = [it.level for it in answer.stretches if it.first < stop + around and first - around <= it.last]
+        peak = heard[max(first - around, 0) : stop + around].max()
+        found.append(Seen(max(near, default=-np.inf), decibels(float(peak)), printed))
+    return found
+
+
+def over_seeds(folder: Path, program: Path, count: int, rate: int, seeds: list[int]) -> dict[str, list[Seen]]:
+    """All mixes of takes of different music in so many channels, which are made by several seeds."""
+    lists = MIXES | (BALANCE if count > 1 else {})
+    found: dict[str, list[Seen]] = {it: [] for it in lists}
+    for seed in seeds:
+        made = trials.make(folder, program, trials.TakesAsked("music", rate, count, trials.SECONDS, seed))
+        for what, text in lists.items():
+            found[what] += tried(folder, made, text)
+        for it in made:
+            it.path.unlink()
+    return found

@@ -6,6 +6,7 @@ of a clip: the title of its first place, and the lines of the list, so that it b
 import itertools
 import struct
 from dataclasses import dataclass, replace
+from functools import lru_cache
 
 import numpy as np
 
@@ -220,8 +221,10 @@ def part_of(takes: Takes, line: Line, before: Part | None) -> Part:
 
 
 def titled(takes: Takes, parts: list[Part]) -> list[Part]:
-    """The parts with their titles. Each that comes over from a take does so once, with the first clip that plays it."""
+    """The parts with their titles. Each that comes over from a take does so once, with the first clip that plays it, and
+    not where another one begins."""
     found, used = [], set[tuple[int, int]]()
+    begun = {it.at for it in parts if it.line.title is not None}
     for part in parts:
         titles = [] if part.line.title is None else [(0, part.line.title)]
         if part.line.title is None and not part.line.is_untitled:
@@ -233,9 +236,18 @@ def titled(takes: Takes, parts: list[Part]) -> list[Part]:
                 if is_played and title is not None:
                     used.add((part.take, it))
                     played[max(first - part.start, 0)] = title
-            titles = sorted(played.items())
+            titles = sorted(it for it in played.items() if part.at + it[0] not in begun)
+            begun |= {part.at + it for it, _ in titles}
         found.append(replace(part, titles=titles))
     return found
+
+
+def demand_titles(parts: list[Part]) -> None:
+    """The last part begins with no other title than those that begin there."""
+    here = parts[-1]
+    for it in parts[:-1] if here.line.title is not None else ():
+        if it.at == here.at and it.line.title not in (None, here.line.title):
+            raise Refused(f"line {it.line.number} begins at the same place with another title: leave one of them out")
 
 
 def parts_of(name: str, found: list[Line], takes: Takes) -> list[Part]:
@@ -248,11 +260,10 @@ def parts_of(name: str, found: list[Line], takes: Takes) -> list[Part]:
             if "crossfade" in line.fades:
                 parts[-1:] = [crossed(takes, line, part.at, before)]
             parts.append(part)
+            demand_titles(parts)
         except Refused as error:
             raise lists.numbered(name, line.number, error) from None
-    parts = titled(takes, parts)
-    demand_clips(name, takes, parts)
-    return parts
+    return titled(takes, parts)
 
 
 def most_at_once(clips: list[Clip]) -> int:
@@ -262,15 +273,15 @@ def most_at_once(clips: list[Clip]) -> int:
     return max(itertools.accumulate(change for _, change in changes))
 
 
-def demand_clips(name: str, takes: Takes, parts: list[Part]) -> None:
-    """A mix has room for the clips, and for those that overlap."""
-    rows = [[it for it, _ in clips_of(takes, part)] for part in parts]
-    every, sofar = [it for row in rows for it in row], list[Clip]()
-    if len(every) > MOST_CLIPS:
-        raise Refused(f"{name}: the mix would have {len(every)} clips, and there is room for {MOST_CLIPS}")
-    for part, row in zip(parts, rows) if most_at_once(every) > MOST_OVERLAPPING else ():
+def demand_clips(name: str, parts: list[Part], rows: list[list[Clip]]) -> None:
+    """A mix has room for the clips of its parts, and for those that overlap."""
+    sofar, is_crowded = list[Clip](), most_at_once([it for row in rows for it in row]) > MOST_OVERLAPPING
+    for part, row in zip(parts, rows):
         sofar += row
-        if most_at_once(sofar) > MOST_OVERLAPPING:
+        if len(sofar) > MOST_CLIPS:
+            why = f"with it the mix has {len(sofar)} clips, and there is room for {MOST_CLIPS}"
+            raise lists.numbered(name, part.line.number, why)
+        if is_crowded and most_at_once(sofar) > MOST_OVERLAPPING:
             why = f"its clip is one more than the {MOST_OVERLAPPING} that may overlap"
             raise lists.numbered(name, part.line.number, why)
 
@@ -288,7 +299,10 @@ def counted(points: Points, first: int, stop: int) -> Points:
     return [] if all(gain == FULL for _, gain in found) else found
 
 
-def clips_of(takes: Takes, part: Part) -> list[tuple[Clip, str | None]]:
+Titled = tuple[Clip, str | None]  # a clip, and the title that begins with it
+
+
+def clips_of(takes: Takes, part: Part) -> list[Titled]:
     """The clips of a part, each with the title that begins with it."""
     groups = dict[tuple[int, int], list[int]]()
     for channel, band in enumerate(takes.takes[part.take].bands):
@@ -315,23 +329,34 @@ TRIED = 8  # places near an end of a take, each some bits from the next
 APART = 64
 
 
+@lru_cache
+def missed(take: Take, is_end: bool) -> list[np.ndarray]:
+    """What the sound misses from an end of a take on, going away from it: of each channel a row for each place that is
+    tried."""
+    found = []
+    for channel, band in enumerate(take.bands):
+        taps, rows = mixes.passing(take.rate, band), []
+        reach = len(taps) // 2
+        for number in range(TRIED):
+            cut = APART * (number + 2 * reach // APART + 1)
+            first = take.bits - cut if is_end else cut - 2 * reach
+            signs = take.signs(first, first + 2 * reach)[channel]
+            rows.append(np.pad(signs[::-1] if is_end else signs, (0, 2 * reach)))
+        found.append(hearing.convolved(np.stack(rows), taps)[:, reach:])
+    return found
+
+
 def click_of(takes: Takes, part: Part, is_end: bool) -> float:
     """How loudly a part clicks (dB) at an end of its take."""
     take, peaks = takes.takes[part.take], [0.0]
     heard = mixes.passing(take.rate, (hearing.PASSED, hearing.STOPPED))
     away = take.bits - part.start - part.length if is_end else part.start
-    for channel, band in enumerate(take.bands):
-        taps = mixes.passing(take.rate, band)
-        reach = len(taps) // 2
-        places = np.arange(min(max(reach - away, 0), part.length))
-        gain = gains_at(part.points(channel), part.length - 1 - places if is_end else places) / FULL
-        for number in range(TRIED if len(places) else 0):
-            cut = APART * (number + 2 * reach // APART + 1)
-            first = take.bits - cut if is_end else cut - 2 * reach
-            signs = take.signs(first, first + 2 * reach)[channel]
-            missed = hearing.convolved(np.pad(signs[::-1] if is_end else signs, (0, 2 * reach)), taps)
-            click = missed[reach + away :][: len(places)] * gain
-            peaks.append(float(np.abs(hearing.convolved(np.pad(click, len(heard)), heard)).max()))
+    for channel, rows in enumerate(missed(take, is_end)):
+        places = np.arange(min(max(rows.shape[1] - away, 0), part.length))
+        if len(places):
+            gain = gains_at(part.points(channel), part.length - 1 - places if is_end else places) / FULL
+            clicks = np.pad(rows[:, away : away + len(places)] * gain, ((0, 0), (len(heard),) * 2))
+            peaks.append(float(np.abs(hearing.convolved(clicks, heard)).max()))
     return decibels(max(peaks))
 
 

@@ -13,7 +13,7 @@ from cuts.clips import SILENT
 from cuts.curves import Fade
 from cuts.gains import FULL, Points
 from cuts.hearing import PASSED
-from cuts.layouts import Part, Takes
+from cuts.layouts import Part, Takes, Titled
 from cuts.lists import Words, lasting_text, time_text
 from cuts.mix_texts import Notes
 from cuts.mixes import Mix
@@ -61,6 +61,7 @@ class Made:
 
     takes: Takes
     parts: list[Part]
+    rows: list[list[Titled]]
     text: str
     curve: str
 
@@ -69,22 +70,23 @@ class Made:
         """That of a list with a name. A fault names the line."""
         takes = Takes()
         parts = layouts.parts_of(name, lists.lines_of(name, text, curve), takes)
-        return cls(takes, parts, text, curve)
+        rows = [layouts.clips_of(takes, it) for it in parts]
+        layouts.demand_clips(name, parts, [[it for it, _ in row] for row in rows])
+        return cls(takes, parts, rows, text, curve)
 
     def mix(self) -> Mix:
-        rows = [it for part in self.parts for it, _ in layouts.clips_of(self.takes, part)]
-        return Mix(self.takes.rate, rows, {number: it.name for number, it in enumerate(self.takes.takes)})
+        clips = [it for row in self.rows for it, _ in row]
+        return Mix(self.takes.rate, clips, {number: it.name for number, it in enumerate(self.takes.takes)})
 
     def mix_text(self, limit: float, name: str, made: str) -> str:
         """The text of the mix, with a limit in dB, for a list and a mix with these names."""
         mix, tables = self.mix(), list[str]()
-        for part, rows in zip(self.parts, lines_by_part(self.text, self.parts)):
-            words = said(part, self.takes.rate)
-            for clip, title in layouts.clips_of(self.takes, part):
-                lines = "".join(noted("line", it) for it in rows)
-                name_of = "" if title is None else noted("title", shortened(title, MOST_TITLE))
-                tables.append(mixes.clip_text(mix, clip, words, lines + name_of))
-                rows, words = [], ""
+        for part, row, lines in zip(self.parts, self.rows, lines_by_part(self.text, self.parts)):
+            words, notes = said(part, self.takes.rate), "".join(noted("line", it) for it in lines)
+            for clip, title in row:
+                notes += "" if title is None else noted("title", shortened(title, MOST_TITLE))
+                tables.append(mixes.clip_text(mix, clip, words, notes))
+                words = notes = ""
         what = f"The mix that {shown_name(name)} asks for: where each take is heard"
         head = mixes.head_of(what, limit, made) + ("" if self.curve == USUAL else f"\n{noted('curve', self.curve)}")
         return mixes.mix_text(mix, head, limit, tables)
@@ -243,8 +245,7 @@ class Listed:
 
 def is_made(made: Made, mix: mix_texts.Mix, notes: list[Notes]) -> bool:
     """Whether a mix is that of a list."""
-    own = made.mix()
-    rows = [it for part in made.parts for it in layouts.clips_of(made.takes, part)]
+    own, rows = made.mix(), [it for row in made.rows for it in row]
     if (own.names, len(rows), len(own.decoders)) != (mix.takes, len(mix.clips), len(mix.decoders)):
         return False
     for (clip, title), other, note in zip(rows, mix.clips, notes):

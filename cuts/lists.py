@@ -28,6 +28,7 @@ LOUDEST = 6.0  # dB: the highest level of a channel
 A_PLACE = "a time (90, 1:30, 1:02:03.5), @N for bit N, or + or - and a time from the end of the line before (+2s, -10s)"
 A_SPOT = "a time (90, 1:30, 1:02:03.5), @N for bit N, or #N for mark N"
 A_STOP = f"{A_SPOT}, or end"
+QUOTED = "; a name with blanks takes quotation marks"
 A_FADE = f"a time (2s, 20ms, 50us, 0:10) or @N for N bits, and perhaps a curve: {', '.join(curves.RISING)}"
 AN_ITEM = 'in 2s, out 20ms power, crossfade 10s s, -1.5 dB, channel 0 -1.5 dB, channel 0 off, title "Song", no title'
 
@@ -127,7 +128,7 @@ def spot_of(word: str, is_stop: bool) -> Spot:
         return Spot(mark=int(found[1]))
     if is_stop and word == "end":
         return Spot(is_end=True)
-    return Spot(time_of(word, f"place in a take: that is {A_STOP if is_stop else A_SPOT}"))
+    return Spot(time_of(word, f"place in a take: that is {A_STOP if is_stop else A_SPOT + QUOTED}"))
 
 
 def level_in(word: str) -> float | None:

@@ -142,10 +142,14 @@ def wrapped(items: list[str]) -> str:
     flat = ", ".join(items)
     if len(flat) <= WIDTH:
         return f"[{flat}]"
-    # A line may end between two items, but not inside of one.
-    whole = ", ".join(it.replace(" ", "\N{NO-BREAK SPACE}") for it in items)
-    rows = textwrap.wrap(whole, WIDTH, break_long_words=False, break_on_hyphens=False)
-    return "[\n  " + "\n  ".join(rows).replace("\N{NO-BREAK SPACE}", " ") + "\n]"
+    rows, length = [[items[0]]], len(items[0])
+    for number, it in enumerate(items[1:], 2):
+        length += 2 + len(it)
+        if length + (number < len(items)) > WIDTH:  # a comma comes after all but the last one
+            rows.append([])
+            length = len(it)
+        rows[-1].append(it)
+    return "[\n  " + ",\n  ".join(map(", ".join, rows)) + "\n]"
 
 
 def array_of(values: np.ndarray) -> str:

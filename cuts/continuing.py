@@ -14,6 +14,7 @@ from scipy import fft
 from scipy.spatial import cKDTree
 
 from cuts import hearing
+from cuts.errors import AROUND, STEP
 from cuts.hearing import hearing_of
 from modulator import modulators
 
@@ -78,9 +79,7 @@ class Modulated:
 #
 # Only errors that are heard around the place count. The rest of a fade has noise of its own, elsewhere.
 
-AROUND = 1024  # bits at 2,822,400 Hz to each side of a place, in which a click is computed
-STEP = 16  # such bits between the times at which it is
-FAR = 100  # such bits to each side, whose errors the numbers describe
+FAR = 100  # bits at 2,822,400 Hz to each side, whose errors the numbers describe
 NEAR = 40  # such bits within which these count most
 NUMBERS = 12
 FREE = 3  # numbers that a link changes finely

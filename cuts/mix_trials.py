@@ -1,7 +1,9 @@
 """Mixes of takes whose true signals are known (`trials`): rendered, cut and checked, for the figures of
 cuts/FIGURES.md. What is left of each stretch of new bits is found by the null test, and against the true signals."""
+import itertools
 import re
 import sys
+from collections.abc import Iterator
 from dataclasses import dataclass
 from pathlib import Path
 
@@ -106,14 +108,13 @@ def tried(folder: Path, made: list[trials.Made], text: str) -> list[Seen]:
     return found
 
 
-def over_seeds(folder: Path, program: Path, count: int, rate: int, seeds: list[int]) -> dict[str, list[Seen]]:
-    """All mixes of takes of different music in so many channels, which are made by several seeds."""
-    lists = MIXES | (BALANCE if count > 1 else {})
-    found: dict[str, list[Seen]] = {it: [] for it in lists}
-    for seed in seeds:
-        made = trials.make(folder, program, trials.TakesAsked("music", rate, count, trials.SECONDS, seed))
-        for what, text in lists.items():
-            found[what] += tried(folder, made, text)
-        for it in made:
-            it.path.unlink()
-    return found
+def over_seeds(
+    folder: Path, program: Path, count: int, rate: int, seeds: list[int]
+) -> Iterator[tuple[str, list[Seen]]]:
+    """What is seen of each mix, of takes of different music in so many channels, which are made by several seeds."""
+    asked = [trials.TakesAsked("music", rate, count, trials.SECONDS, it) for it in seeds]
+    takes = [trials.make(folder, program, it) for it in asked]
+    for what, text in (MIXES | (BALANCE if count > 1 else {})).items():
+        yield what, [it for made in takes for it in tried(folder, made, text)]
+    for it in itertools.chain(*takes):
+        it.path.unlink()

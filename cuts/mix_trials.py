@@ -1,5 +1,5 @@
 """Mixes of takes whose true signals are known (`trials`): rendered, cut and checked, for the figures of
-cuts/FIGURES.md. What is left of each stretch of new bits is found by the null test, and against the true signals."""
+cuts/FIGURES.md. What is left of each stretch of new bits is found as by the null test, and against the true signals."""
 import itertools
 import re
 import sys
@@ -54,12 +54,12 @@ BALANCE = {
 
 @dataclass(frozen=True)
 class Seen:
-    """What is left of a stretch of new bits in its loudest channel (dB to full scale): by the null test, and against the
-    true signals; and what `render` printed."""
+    """What is left of a stretch of new bits in its loudest channel (dB to full scale): as `render` prints it, and against
+    the true signals. `off` is how far the loudest of its master is from what the null test finds (dB)."""
 
-    null: float
-    true: float
     printed: float
+    true: float
+    off: float
 
 
 def true_sound(mix: mix_texts.Mix, trues: list[np.ndarray]) -> np.ndarray:
@@ -100,12 +100,9 @@ def tried(folder: Path, made: list[trials.Made], text: str) -> list[Seen]:
     master, answer = Take(path), null_tests.answer(name, path)
     trues = {str(it.path): it.true for it in made}
     heard, around = left(master, true_sound(mix, [trues[it] for it in mix.takes])), round(AROUND * master.rate)
-    found = []
-    for first, stop, printed in stretches:
-        near = [it.level for it in answer.stretches if it.first < stop + around and first - around <= it.last]
-        peak = heard[max(first - around, 0) : stop + around].max()
-        found.append(Seen(max(near, default=-np.inf), decibels(float(peak)), printed))
-    return found
+    off = abs(max(it.level for it in answer.stretches) - max(printed for _, _, printed in stretches))
+    peaks = [heard[max(first - around, 0) : stop + around].max() for first, stop, _ in stretches]
+    return [Seen(printed, decibels(float(peak)), off) for (_, _, printed), peak in zip(stretches, peaks)]
 
 
 def over_seeds(

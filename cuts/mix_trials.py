@@ -20,7 +20,7 @@ RENDER = Path(__file__).resolve().with_name("render")
 NEW = re.compile(r"new bits from .* \(bits (\d+) to (\d+)\): .*")
 RESIDUAL = re.compile(r"residual (-\d+\.\d+) dB")
 AROUND = 1e-3  # seconds before and after new bits in which they are judged, as cuts are
-EVERY = 8  # places, of which one is judged: the null test takes an eighth of the time, and finds 0.1 dB less at most
+EVERY = 8  # places, of which one is judged: the null test takes an eighth of the time, and finds 0.2 dB less at most
 
 
 def fades(curve: str) -> str:
@@ -34,7 +34,7 @@ def crossfade(time: str, curve: str) -> str:
     return f"0 {{0}} 5ms 200ms in 40ms s\n-{time} {{1}} 60ms 300ms crossfade {time} {curve}, out 40ms s\n"
 
 
-# Lists whose lines name two takes, by what they try.
+# Lists whose lines name two takes, by what they try; and those of takes with several channels, and with six.
 MIXES = {
     **{f"fades in and out, {it}": fades(it) for it in ("linear", "power", "s", "exponential")},
     **{f"crossfade of 50 ms, {it}": crossfade("50ms", it) for it in ("linear", "power", "s", "exponential")},
@@ -50,11 +50,18 @@ BALANCE = {
     "channel 0 off, faded": "0 {0} 5ms 195ms in 40ms s, out 40ms s\n-40ms {1} 60ms 390ms in 40ms s, out 40ms s, "
     "channel 0 off\n",
 }
+SIX = ("fades in and out, s", "crossfade of 50 ms, power", "inside a byte", "channel 1 at -2.5 dB")
+
+
+def lists_for(count: int) -> dict[str, str]:
+    """The lists that are tried of takes with so many channels."""
+    found = MIXES | (BALANCE if count > 1 else {})
+    return {it: text for it, text in found.items() if count < 6 or it in SIX}
 
 
 @dataclass(frozen=True)
 class Seen:
-    """What is left of a stretch of new bits in its loudest channel (dB to full scale): as `render` prints it, and against
+    """What is left of a stretch of new bits in its loudest channel (dB to full scale), as `render` prints it and against
     the true signals. `off` is how far the loudest of its master is from what the null test finds (dB)."""
 
     printed: float
@@ -108,10 +115,10 @@ def tried(folder: Path, made: list[trials.Made], text: str) -> list[Seen]:
 def over_seeds(
     folder: Path, program: Path, count: int, rate: int, seeds: list[int]
 ) -> Iterator[tuple[str, list[Seen]]]:
-    """What is seen of each mix, of takes of different music in so many channels, which are made by several seeds."""
+    """What is seen of each list, of takes of different music in so many channels, which are made by several seeds."""
     asked = [trials.TakesAsked("music", rate, count, trials.SECONDS, it) for it in seeds]
     takes = [trials.make(folder, program, it) for it in asked]
-    for what, text in (MIXES | (BALANCE if count > 1 else {})).items():
+    for what, text in lists_for(count).items():
         yield what, [it for made in takes for it in tried(folder, made, text)]
     for it in itertools.chain(*takes):
         it.path.unlink()

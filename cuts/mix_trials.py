@@ -19,38 +19,39 @@ from dsdarc_scripts.program import finished
 RENDER = Path(__file__).resolve().with_name("render")
 NEW = re.compile(r"new bits from .* \(bits (\d+) to (\d+)\): .*")
 RESIDUAL = re.compile(r"residual (-\d+\.\d+) dB")
+SECONDS = 0.8  # of each take
 AROUND = 1e-3  # seconds before and after new bits in which they are judged, as cuts are
 EVERY = 8  # places, of which one is judged: the null test takes an eighth of the time, and finds 0.2 dB less at most
 
 
 def fades(curve: str) -> str:
     """Two clips with a short pause between them."""
-    first = f"0 {{0}} 5ms 195ms in 40ms {curve}, out 60ms {curve}"
-    return f"{first}\n+20ms {{1}} 5ms 195ms in 40ms {curve}, out 60ms {curve}\n"
+    first = f"0 {{0}} 5ms 395ms in 100ms {curve}, out 150ms {curve}"
+    return f"{first}\n+20ms {{1}} 5ms 395ms in 150ms {curve}, out 100ms {curve}\n"
 
 
 def crossfade(time: str, curve: str) -> str:
     """Two clips, the one faded into the other."""
-    return f"0 {{0}} 5ms 200ms in 40ms s\n-{time} {{1}} 60ms 300ms crossfade {time} {curve}, out 40ms s\n"
+    return f"0 {{0}} 5ms 400ms in 100ms s\n-{time} {{1}} 60ms 500ms crossfade {time} {curve}, out 100ms s\n"
 
 
 # Lists whose lines name two takes, by what they try; and those of takes with several channels, and with six.
 MIXES = {
     **{f"fades in and out, {it}": fades(it) for it in ("linear", "power", "s", "exponential")},
-    **{f"crossfade of 50 ms, {it}": crossfade("50ms", it) for it in ("linear", "power", "s", "exponential")},
-    "crossfade of 5 ms, power": crossfade("5ms", "power"),
-    "a level of -3 dB": "0 {0} 5ms 145ms in 40ms s\n+0s {0} 145ms 250ms -3 dB\n+0s {0} 250ms 390ms out 40ms s\n",
-    "a pause of 0.7 s": "0 {0} 5ms 195ms in 40ms s, out 40ms s\n+700ms {1} 5ms 195ms in 40ms s, out 40ms s\n",
-    "an overlap": "0 {0} 5ms 300ms in 40ms s, -6 dB\n-150ms {1} 20ms 350ms in 30ms s, -6 dB, out 40ms s\n",
-    "inside a byte": "0 {0} @20001 @500006 in 40ms s\n+@0 {1} @500001 @900017 in @80003 s, out 50ms s\n",
+    **{f"crossfade of 0.1 s, {it}": crossfade("100ms", it) for it in ("linear", "power", "s", "exponential")},
+    "crossfade of 10 ms, power": crossfade("10ms", "power"),
+    "a level of -3 dB": "0 {0} 5ms 305ms in 100ms s\n+0s {0} 305ms 450ms -3 dB\n+0s {0} 450ms 790ms out 100ms s\n",
+    "a pause of 0.7 s": "0 {0} 5ms 395ms in 100ms s, out 100ms s\n+700ms {1} 5ms 395ms in 100ms s, out 100ms s\n",
+    "an overlap": "0 {0} 5ms 400ms in 100ms s, -6 dB\n-150ms {1} 20ms 500ms in 100ms s, -6 dB, out 100ms s\n",
+    "inside a byte": "0 {0} @20001 @900006 in 100ms s\n+@0 {1} @500001 @1400017 in @300003 s, out 100ms s\n",
 }
 BALANCE = {
-    "channel 1 at -2.5 dB": "0 {0} 5ms 145ms in 40ms s\n+0s {0} 145ms 250ms channel 1 -2.5 dB\n"
-    "+0s {0} 250ms 390ms out 40ms s\n",
-    "channel 0 off, faded": "0 {0} 5ms 195ms in 40ms s, out 40ms s\n-40ms {1} 60ms 390ms in 40ms s, out 40ms s, "
+    "channel 1 at -2.5 dB": "0 {0} 5ms 305ms in 100ms s\n+0s {0} 305ms 450ms channel 1 -2.5 dB\n"
+    "+0s {0} 450ms 790ms out 100ms s\n",
+    "channel 0 off, faded": "0 {0} 5ms 395ms in 100ms s, out 100ms s\n-100ms {1} 60ms 590ms in 100ms s, out 100ms s, "
     "channel 0 off\n",
 }
-SIX = ("fades in and out, s", "crossfade of 50 ms, power", "inside a byte", "channel 1 at -2.5 dB")
+SIX = ("fades in and out, s", "crossfade of 0.1 s, power", "inside a byte", "channel 1 at -2.5 dB")
 
 
 def lists_for(count: int) -> dict[str, str]:
@@ -116,7 +117,7 @@ def over_seeds(
     folder: Path, program: Path, count: int, rate: int, seeds: list[int]
 ) -> Iterator[tuple[str, list[Seen]]]:
     """What is seen of each list, of takes of different music in so many channels, which are made by several seeds."""
-    asked = [trials.TakesAsked("music", rate, count, trials.SECONDS, it) for it in seeds]
+    asked = [trials.TakesAsked("music", rate, count, SECONDS, it) for it in seeds]
     takes = [trials.make(folder, program, it) for it in asked]
     for what, text in lists_for(count).items():
         yield what, [it for made in takes for it in tried(folder, made, text)]

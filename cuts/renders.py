@@ -34,7 +34,8 @@ PIECE = 1 << 20  # bits that are copied at a time
 
 
 def spread(rendering: Rendering, channel: int, kept: list[Kept], least: int, room: int) -> list[Kept]:
-    """The same, less what gives way so that bumps get quieter: so many bits on each side at most."""
+    """The same, less what gives way so that bumps get quieter: so many bits on each side at most. At the start and at
+    the end of the master, those of both sides are taken on the one."""
     rate, length, found = rendering.rate, rendering.sounding.length, list(kept)
     if room <= 0:
         return found
@@ -47,7 +48,8 @@ def spread(rendering: Rendering, channel: int, kept: list[Kept], least: int, roo
             wanted = max(wanted, int(bits) - gap.length)
         if wanted <= 0:
             continue
-        rooms = [room_of(it, sides[it], least, room) for it in (gap.before, gap.after)]
+        most = room if gap.before and gap.after else 2 * room
+        rooms = [room_of(it, sides[it], least, most) for it in (gap.before, gap.after)]
         early = min(rooms[0], max(wanted // 2, wanted - rooms[1]))
         late = min(rooms[1], wanted - early)
         if gap.before is not None and early > 0:

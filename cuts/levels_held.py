@@ -1,8 +1,11 @@
 """What is said of a mix that is louder than a modulator holds."""
+import math
+
 import numpy as np
 
 from cuts.hearing import decibels
 from cuts.joints import kinds_for
+from cuts.metering import most_held
 from cuts.rendering import BLOCK, Rendering, TooLoud, seeded
 from cuts.renders import Render
 from cuts.times import clock
@@ -48,12 +51,14 @@ def loudest(render: Render) -> tuple[float, int, int]:
     return found
 
 
-def refusal(render: Render, error: TooLoud) -> str:
-    """The line of a fault: where the mix is loudest, and how many dB less would do there, and where it was too loud."""
+def refusal(render: Render, error: TooLoud, limit: float) -> str:
+    """The line of a fault: where the mix is loudest, and how many dB less would do there, and where it was too loud, for
+    what is left to be within the limit (dB)."""
     level, channel, place = loudest(render)
     around = max(place - BLOCK // 2, 0), min(place + BLOCK // 2, render.length)
     spans = (channel, *around), (error.channel, error.first, error.stop)
     more = max(less(render.rendering, render.sounding.sound(*it)) for it in spans)
+    more = max(more, math.ceil((decibels(level) - most_held(render.rate, limit)) / STEP) * STEP)
     where = f"at {clock(place, render.rate)} (bit {place}) in channel {channel}"
     peak = f"the mix has a peak of {decibels(level):.1f} dB to full scale {where}"
     return f"{peak}, and no modulator holds it from {clock(error.first, render.rate)} on: {more:g} dB less would do"

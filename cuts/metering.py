@@ -18,9 +18,19 @@ from tools.null_testing.mixes import Clip, Mix
 EVERY = 352_800  # places a second at least at which the sound is decoded: peaks between them are 0.2 dB louder at most
 BLOCK = 1 << 19  # places of the mix at a time
 SIZE = 1 << 12  # of the spectra by which it is decoded, at least
-SAFE = 0.8  # of full scale: no modulator is stable for louder sounds
-QUIET = 0.6  # of full scale: up to this the quietest one is
+QUIET = -4.4  # dB to full scale: the usual modulator is stable up to this
+SAFE = -1.9  # dB to full scale: no modulator is stable for louder sounds
+# At DSD64, up to which peak new bits hold a sound (dB to full scale), and how loud what is left may be then.
+HELD = ((-3.7, -110.0), (-3.1, -103.0), (-2.5, -97.0), (SAFE, -87.0))
+DSD64 = 3_072_000  # Hz, at most
 APART = 1.0  # seconds: places that are nearer to each other are one stretch
+
+
+def most_held(rate: int, limit: float) -> float:
+    """The greatest peak that new bits can have (dB), if no more than a limit may be left of them."""
+    if rate > DSD64:
+        return SAFE
+    return max([QUIET, *(peak for peak, left in HELD if left <= limit)])
 
 
 class Decoding:
@@ -95,10 +105,12 @@ class Stretch:
 
 @dataclass
 class Levels:
-    """What is found of a mix: of each clip and of the whole a meter for each channel, and what is too loud."""
+    """What is found of a mix: of each clip and of the whole a meter for each channel, and what is louder than `most` (dB),
+    and so too loud."""
 
     clips: list[list[Meter]]
     whole: list[Meter]
+    most: float
     loud: list[Stretch] = field(default_factory=list)
     new: list[Meter] = field(default_factory=list)
 
@@ -111,6 +123,7 @@ class Metering:
         self.step = max(self.rate // EVERY, 1)
         self.decodings = [self.decoding(it) for it in mix.decoders]
         self.ways = [(it.take, it.offset) for it in mix.clips]
+        self.most = most_held(self.rate, decibels(mix.limit / mix.full))
 
     def decoding(self, taps: list[int]) -> Decoding:
         """That of a decoder. One of a single tap gives bits as they are, and these sound as a usual one decodes them."""
@@ -146,7 +159,7 @@ class Metering:
 
     def levels(self) -> Levels:
         """The levels of all."""
-        found = Levels([[Meter() for _ in range(self.count)] for _ in self.mix.clips], [], [], [])
+        found = Levels([[Meter() for _ in range(self.count)] for _ in self.mix.clips], [], self.most)
         found.whole, found.new = ([Meter() for _ in range(self.count)] for _ in range(2))
         for first, count in self.blocks():
             self.take_block(found, first, count)
@@ -179,7 +192,7 @@ class Metering:
     def take_loud(self, found: Levels, channel: int, first: int, row: np.ndarray) -> None:
         """Takes the places of a block with new bits that are too loud, and how loud these are at most."""
         found.new[channel].take(row, first, self.step)
-        places = first + np.flatnonzero(row > SAFE) * self.step
+        places = first + np.flatnonzero(row > 10 ** (self.most / 20)) * self.step
         if len(places):
             # A block is shorter than what makes one stretch of two.
             here = Stretch(channel, int(places[0]), int(places[-1]), float(row.max()))

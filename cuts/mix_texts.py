@@ -30,7 +30,8 @@ def read(name: str | Path) -> tuple[Mix, str]:
         return read_mix(data), data.decode("utf-8-sig")
     except MixFault as error:
         why = str(error).removeprefix("Mix ")
-        raise Refused(f"{shown_name(str(name))}: {why}: it is no mix as docs/NULL_TEST.md says") from None
+        more = "; if it is a list, cuts/mix makes a mix of it" if why.startswith("NotToml") else ""
+        raise Refused(f"{shown_name(str(name))}: {why}: it is no mix as docs/NULL_TEST.md says{more}") from None
 
 
 def takes_of(mix: Mix, name: str) -> list[Signals]:

@@ -4,9 +4,6 @@ Files are written beside those that they replace, and get their names once all f
 fault or a signal (INT, TERM, HUP) nothing is left over, and old files stay as they were. What is no file of a folder,
 such as a pipe, is written in place."""
 import signal
-from collections.abc import Callable, Iterable, Iterator
-from pathlib import Path
-from typing import BinaryIO, NoReturn
 
 # Ctrl-C ends a script silently while these modules are loaded.
 is_usual = signal.getsignal(signal.SIGINT) is signal.default_int_handler
@@ -20,6 +17,9 @@ import shutil
 import stat
 import sys
 import tempfile
+from collections.abc import Callable, Iterable, Iterator
+from pathlib import Path
+from typing import BinaryIO, NoReturn
 
 from dsdarc_scripts import room
 from dsdarc_scripts.explained import shown_name, shown_part

@@ -1,5 +1,6 @@
 """Adds to the Python package what the clone has for it: the ready filters and, once it is built, the library."""
 import pathlib
+import platform
 import shutil
 from typing import Any
 
@@ -7,7 +8,9 @@ import setuptools
 from setuptools.command.build_py import build_py
 
 ROOT = pathlib.Path(__file__).resolve().parent
-LIBRARY = ROOT / "crates" / "dsdarc" / "out" / "libdsdarc.so.0"
+# Where bin/library puts the library for this kind of processor.
+FOLDER = "aarch64" if platform.machine() == "aarch64" else "."
+LIBRARY = ROOT / "crates" / "dsdarc" / "out" / FOLDER / "libdsdarc.so.0"
 
 
 class Adding(build_py):

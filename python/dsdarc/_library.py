@@ -81,7 +81,8 @@ def _places() -> Iterator[str]:
         return
     for folder in (HERE, *(os.path.join(HERE, *[".."] * up, "lib") for up in range(2, 6))):
         yield os.path.join(folder, "libdsdarc.so.0")
-    yield os.path.join(HERE, "..", "..", "crates", "dsdarc", "out", "libdsdarc.so.0")
+    for folder in (".", "aarch64"):
+        yield os.path.join(HERE, "..", "..", "crates", "dsdarc", "out", folder, "libdsdarc.so.0")
     yield ctypes.util.find_library("dsdarc") or "libdsdarc.so.0"
 
 

@@ -3,11 +3,12 @@
 // bits. Both sums take four tables or taps at a time over a block of places. It prints what `tools/null_test` prints of
 // the same mix, byte by byte, and its status is the same.
 //
-// null_test_peer PLAN MASTER [mapped]: with the last word files are mapped and not read. PLAN is what bench/nulltest writes
-// of a mix without faults: the number of takes and their names, a line each; then `unit`, `limit` and `every`; the taps of
-// `audible`, their number first; the number of decoders, and the taps of each in the same way; the number of clips, and for
-// each its take, decoder, start, at and length, the number of its lists of points (none, one for all channels, or one for
-// each), and for each list the number of points, and each point's place and gain.
+// null_test_peer PLAN MASTER [once | mapped]: with `once` each file is read once from its start to its end, as a pipe has to
+// be, and the bits that are needed are kept; with `mapped` files are mapped. Without either it goes back and forth in them.
+// PLAN is what bench/nulltest writes of a mix without faults: the number of takes and their names, a line each; then `unit`,
+// `limit` and `every`; the taps of `audible`, their number first; the number of decoders, and the taps of each in the same
+// way; the number of clips, and for each its take, decoder, start, at and length, the number of its lists of points (none,
+// one for all channels, or one for each), and for each list the number of points, and each point's place and gain.
 #include <fcntl.h>
 #include <inttypes.h>
 #include <math.h>
@@ -28,13 +29,22 @@
 #define SCANNED (1 << 18)
 // How many bytes of a file are read at least.
 #define READ (1 << 18)
+// How many bytes of a channel may be looked at beyond those that clips and their decoders reach.
+#define BEYOND 64
+
+// Sound bytes from one to another, and where they are kept.
+struct part {
+    int64_t first, stop;
+    uint8_t *bytes;
+};
 
 // A file's sound: bytes of the channels in turn in DSDIFF, blocks of 4096 bytes in DSF. If the file isn't mapped, some of
-// them are held.
+// them are held: those that were read last, or parts of a file that is read once.
 struct recording {
     const uint8_t *sound;
     uint8_t *held;
-    int64_t count, bytes, start, held_first, held_stop, room;
+    struct part *parts;
+    int64_t count, bytes, start, held_first, held_stop, room, part_number;
     uint32_t rate, channels;
     int in_blocks, is_turned, file;
 };
@@ -78,7 +88,10 @@ static struct channel channels[CHANNELS];
 static struct stretch *stretches;
 static int64_t take_number, decoder_number, clip_number, heard_number, stretch_number, unit, limit, every, reach;
 static uint8_t turned[256];
-static int is_mapped;
+static char names[16][4096];
+
+// How files are read.
+static enum { BACK_AND_FORTH, ONCE, MAPPED } access_to_files;
 
 // The errors of places of one channel, the same by their remainders, and what they are made by.
 static int32_t *errors, *rows, sounds[DECODED];
@@ -141,21 +154,109 @@ static void read_dsdiff(struct recording *it, const uint8_t *file, size_t size) 
     }
 }
 
-static void read_recording(struct recording *it, const char *name) {
-    struct stat status;
-    int file = open(name, O_RDONLY);
-    if (file < 0 || fstat(file, &status)) exit(2);
-    const uint8_t *bytes = mmap(NULL, (size_t)status.st_size, PROT_READ, MAP_PRIVATE, file, 0);
-    if (bytes == MAP_FAILED) exit(2);
+static void read_header(struct recording *it, const uint8_t *bytes, size_t size) {
     if (!memcmp(bytes, "DSD ", 4)) read_dsf(it, bytes);
-    else read_dsdiff(it, bytes, (size_t)status.st_size);
+    else read_dsdiff(it, bytes, size);
     if (!it->sound || it->channels < 1 || it->channels > CHANNELS) exit(2);
-    it->file = file, it->start = it->sound - bytes;
+    it->start = it->sound - bytes;
+}
+
+static void map_recording(struct recording *it) {
+    struct stat status;
+    if (fstat(it->file, &status)) exit(2);
+    const uint8_t *bytes = mmap(NULL, (size_t)status.st_size, PROT_READ, MAP_PRIVATE, it->file, 0);
+    if (bytes == MAP_FAILED) exit(2);
+    read_header(it, bytes, (size_t)status.st_size);
+}
+
+// Bytes of a file up to so many, or to its end.
+static int64_t fill(int file, uint8_t *out, int64_t size) {
+    int64_t found = 0;
+    for (ssize_t more = 1; found < size && more > 0; found += more)
+        if ((more = read(file, out + found, (size_t)(size - found))) < 0) exit(2);
+    return found;
+}
+
+static int by_first(const void *a, const void *b) {
+    const struct part *x = a, *y = b;
+    return (x->first > y->first) - (x->first < y->first);
+}
+
+// Adds the sound bytes that hold those of each channel from one to another, as far as there are such.
+static void want(struct recording *it, int64_t low, int64_t high) {
+    low = most(low - BEYOND, 0), high = least(high + BEYOND, it->bytes);
+    if (low >= high) return;
+    if (it->in_blocks) low = low / 4096 * 4096, high = (high + 4095) / 4096 * 4096;
+    it->parts = larger(it->parts, it->part_number, sizeof *it->parts);
+    it->parts[it->part_number++] = (struct part){low * it->channels, high * it->channels, NULL};
+}
+
+// Parts that meet or overlap become one, and all get room.
+static void join_parts(struct recording *it) {
+    int64_t number = 0;
+    if (it->part_number) qsort(it->parts, (size_t)it->part_number, sizeof *it->parts, by_first);
+    for (int64_t i = 0; i < it->part_number; i++) {
+        struct part next = it->parts[i];
+        if (number && next.first <= it->parts[number - 1].stop)
+            it->parts[number - 1].stop = most(it->parts[number - 1].stop, next.stop);
+        else it->parts[number++] = next;
+    }
+    it->part_number = number;
+    for (struct part *part = it->parts; part < it->parts + number; part++) part->bytes = room(part->stop - part->first);
+}
+
+// What of a take clips and their decoders reach; all of the master.
+static void want_parts(struct recording *it) {
+    if (it == &master) want(it, 0, it->bytes);
+    for (const struct clip *clip = clips; clip < clips + clip_number; clip++) {
+        int64_t wide = decoders[clip->decoder].number / 2;
+        if (it == &takes[clip->take])
+            want(it, (clip->at + clip->offset - wide) / 8, (clip->stop + clip->offset + wide) / 8 + 1);
+    }
+    join_parts(it);
+}
+
+// Reads a file from its start to its end, and keeps parts of its sound.
+static void read_once(struct recording *it) {
+    static uint8_t block[READ];
+    int64_t size = fill(it->file, block, READ), next = 0;
+    read_header(it, block, (size_t)size);
+    want_parts(it);
+    for (int64_t place = -it->start; size > 0; place += size, size = fill(it->file, block, READ))
+        for (int64_t i = next; i < it->part_number && it->parts[i].first < place + size; i++) {
+            struct part part = it->parts[i];
+            int64_t low = most(place, part.first), high = least(place + size, part.stop);
+            if (low < high) memcpy(part.bytes + (low - part.first), block + (low - place), (size_t)(high - low));
+            if (part.stop <= place + size) next = i + 1;
+        }
+}
+
+static void read_recording(struct recording *it, const char *name) {
+    it->file = open(name, O_RDONLY);
+    if (it->file < 0) exit(2);
+    if (access_to_files == ONCE) read_once(it);
+    else map_recording(it);
+}
+
+// The part that has the byte of a sound.
+static const struct part *part_of(const struct recording *it, int64_t first) {
+    int64_t low = 0, high = it->part_number - 1;
+    while (low < high) {
+        int64_t middle = (low + high + 1) / 2;
+        if (it->parts[middle].first <= first) low = middle;
+        else high = middle - 1;
+    }
+    return it->parts + low;
 }
 
 // Bytes of the sound from one to another.
 static const uint8_t *bytes_of(struct recording *it, int64_t first, int64_t stop) {
-    if (is_mapped) return it->sound + first;
+    if (access_to_files == MAPPED) return it->sound + first;
+    if (access_to_files == ONCE) {
+        const struct part *part = part_of(it, first);
+        if (!it->part_number || first < part->first || stop > part->stop) exit(2);
+        return part->bytes + (first - part->first);
+    }
     if (first < it->held_first || stop > it->held_stop) {
         int64_t size = most(stop - first, READ);
         if (size > it->room) {
@@ -244,7 +345,7 @@ static void read_plan(const char *name) {
     for (int64_t t = 0; t < take_number; t++) {
         if (!fgets(line, sizeof line, plan)) exit(2);
         line[strcspn(line, "\n")] = 0;
-        read_recording(&takes[t], line);
+        strcpy(names[t], line);
     }
     unit = number_of(plan), limit = number_of(plan), every = number_of(plan);
     read_taps(plan, &audible);
@@ -529,11 +630,12 @@ static int print_answer(void) {
 }
 
 int main(int given, char **arguments) {
-    if (given != 3 && (given != 4 || strcmp(arguments[3], "mapped"))) return 3;
-    is_mapped = given == 4;
+    if (given != 3 && (given != 4 || (strcmp(arguments[3], "mapped") && strcmp(arguments[3], "once")))) return 3;
+    if (given == 4) access_to_files = strcmp(arguments[3], "once") ? MAPPED : ONCE;
     for (int byte = 0; byte < 256; byte++)
         for (int k = 0; k < 8; k++) turned[byte] |= (uint8_t)((byte >> k & 1) << (7 - k));
     read_plan(arguments[1]);
+    for (int64_t t = 0; t < take_number; t++) read_recording(&takes[t], names[t]);
     read_recording(&master, arguments[2]);
     int64_t length = 0, longest = 0;
     const char *reason = NULL;

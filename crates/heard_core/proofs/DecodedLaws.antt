@@ -46,19 +46,15 @@ decoded_split taps bits first m n =
           ∙ sound_is taps bits (first + m) n (k - m) (omega arith) ∙ ap (decoded taps bits) place ∙ sym (sound_is taps bits first (m + n) k inside)
     ])
 
--- one more bit of each byte
-module _ (taps : List ℤ) (bits : List Bool) (place turn number : ℕ) (old new sums : List ℤ) (long : length sums ≡ div_ceil (number - turn) 8) (is : sums ≡ sums_at taps bits (place + turn) (length sums))
-    (written : (j : ℕ) → j < length sums → get_or new (8 * j + turn) (pos 0) ≡ get_or sums j (pos 0)) (others : (i : ℕ) → i < number → i % 8 < turn → get_or new i (pos 0) ≡ get_or old i (pos 0))
-    (done : (i : ℕ) → i < number → i % 8 < turn → get_or old i (pos 0) ≡ conv taps bits (i + place)) where
-  pub one_more_turn : (i : ℕ) → i < number → i % 8 < turn + 1 → get_or new i (pos 0) ≡ conv taps bits (i + place)
-  one_more_turn i h l = elim (cases_lt (i % 8) turn) [
-    | inl before ↦ others i h before ∙ done i h before
-    | inr now ↦
-        let at : 8 * (i / 8) + turn ≡ i = omega arith in
-        let inside : i / 8 < length sums = omega (arith, long) in
-        let same : i / 8 * 8 + (place + turn) ≡ i + place = omega arith in
-        ap (λ m. get_or new m (pos 0)) (sym at) ∙ written (i / 8) inside ∙ ap (λ xs. get_or xs (i / 8) (pos 0)) is ∙ sum_is taps bits (place + turn) (length sums) (i / 8) inside ∙ ap (conv taps bits) same
-  ]
+-- one bit of each byte
+pub turn_is : (taps : List ℤ) (bits : List Bool) (place turn number : ℕ) (new sums : List ℤ) → length sums ≡ div_ceil (number - turn) 8 → sums ≡ sums_at taps bits (place + turn) (length sums)
+    → ((j : ℕ) → j < length sums → get_or new (8 * j + turn) (pos 0) ≡ get_or sums j (pos 0))
+    → (i : ℕ) → i < number → i % 8 ≡ turn → get_or new i (pos 0) ≡ conv taps bits (i + place)
+turn_is taps bits place turn number new sums long is written i h now =
+    let at : 8 * (i / 8) + turn ≡ i = omega arith in
+    let inside : i / 8 < length sums = omega (arith, long) in
+    let same : i / 8 * 8 + (place + turn) ≡ i + place = omega arith in
+    ap (λ m. get_or new m (pos 0)) (sym at) ∙ written (i / 8) inside ∙ ap (λ xs. get_or xs (i / 8) (pos 0)) is ∙ sum_is taps bits (place + turn) (length sums) (i / 8) inside ∙ ap (conv taps bits) same
 
 -- one more tile
 pub one_more_tile : (taps : List ℤ) (bits : List Bool) (first start end : ℕ) (xs ys : List ℤ) → start ≤ end → end ≤ length xs → take start xs ≡ decoded_from taps bits first start → ys ≡ decoded_from taps bits (first + start) (end - start)

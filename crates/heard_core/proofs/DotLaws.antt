@@ -1,5 +1,5 @@
 -- Laws of sums of products.
-use Rattle.std.proofs.Common.{[], ◌∷◌, ◌≡◌, ◌+◌, ◌-◌, ◌*◌, ◌<◌, ◌≤◌, ◌^◌, ℕ, zero, suc, List, ℤ, pos, ◌+ℤ◌, ◌*ℤ◌, length, take, drop, get_or, reverse, unsigned_abs, sum_by, refl, ap, ap₂, sym, ◌∙◌, arith, add-one, subst, to_z, of_z, w32, w64, FitsSigned}
+use Rattle.std.proofs.Common.{[], ◌∷◌, ◌≡◌, ◌+◌, ◌-◌, ◌*◌, ◌<◌, ◌≤◌, ◌^◌, ℕ, zero, suc, List, ℤ, pos, ◌+ℤ◌, ◌*ℤ◌, length, take, drop, get_or, reverse, unsigned_abs, sum_by, refl, ap, ap₂, sym, ◌∙◌, arith, add-one, subst, to_z, of_z, w64, FitsSigned}
 use Rattle.std.specs.List.{All}
 use Rattle.std.proofs.Math.Nat.{mul-le-mul_left}
 use Rattle.std.proofs.lemmas.Int.{fits_signed_from_abs, ints, to_z-of_z, unsigned_abs-mul}
@@ -60,9 +60,6 @@ pub dot_small : (xs ys : List ℤ) → sum_by unsigned_abs xs < 2 ^ 31 → All I
 dot_small xs ys small small_ys = omega (arith, dot_bound xs ys small_ys)
 
 -- ---- tap by tap
-small_back : (z : ℤ) → IsSmall z → to_z w32 (of_z w32 z) ≡ z
-small_back z small = to_z-of_z w32 z (fits_signed_from_abs w32 z small)
-
 pub fits_wide : (z : ℤ) → unsigned_abs z < 2 ^ 62 → FitsSigned w64 z
 fits_wide z small = fits_signed_from_abs w64 z (omega arith)
 
@@ -73,35 +70,32 @@ product_small : (x y : ℤ) → IsSmall x → IsSmall y → unsigned_abs (x *ℤ
 product_small x y small_x small_y = omega (arith, abs_product x y small_y)
 
 -- one step of the loop that adds the products
-module _ (xs ys : List ℤ) (k : ℕ) (s a b : ℤ) (small_xs : sum_by unsigned_abs xs < 2 ^ 31) (small_ys : All IsSmall ys) (below : k < length xs) (room : length xs ≤ length ys)
-    (so_far : s ≡ dot (take k xs) ys) (a_is : a ≡ to_z w32 (of_z w32 (get_or xs k (pos 0)))) (b_is : b ≡ to_z w32 (of_z w32 (get_or ys k (pos 0)))) where
-  small_x : IsSmall (get_or xs k (pos 0))
+module _ (xs ys : List ℤ) (k : ℕ) (s : ℤ) (small_xs : sum_by unsigned_abs xs < 2 ^ 31) (small_ys : All IsSmall ys) (below : k < length xs) (room : length xs ≤ length ys) (so_far : s ≡ dot (take k xs) ys) where
+  abbrev x : ℤ
+  x = get_or xs k (pos 0)
+
+  abbrev y : ℤ
+  y = get_or ys k (pos 0)
+
+  small_x : IsSmall x
   small_x = small_tap xs k small_xs below
 
-  small_y : IsSmall (get_or ys k (pos 0))
+  small_y : IsSmall y
   small_y = All-get_or IsSmall ys k (pos 0) (omega arith) small_ys
 
-  x_is : to_z w64 (of_z w64 a) ≡ get_or xs k (pos 0)
-  x_is = ap (λ z. to_z w64 (of_z w64 z)) (a_is ∙ small_back (get_or xs k (pos 0)) small_x) ∙ wide_back (get_or xs k (pos 0)) (omega (arith, small_x))
+  product_is : to_z w64 (of_z w64 x) *ℤ to_z w64 (of_z w64 y) ≡ x *ℤ y
+  product_is = ap₂ ◌*ℤ◌ (wide_back x (omega (arith, small_x))) (wide_back y (omega (arith, small_y)))
 
-  y_is : to_z w64 (of_z w64 b) ≡ get_or ys k (pos 0)
-  y_is = ap (λ z. to_z w64 (of_z w64 z)) (b_is ∙ small_back (get_or ys k (pos 0)) small_y) ∙ wide_back (get_or ys k (pos 0)) (omega (arith, small_y))
+  pub product_fits : FitsSigned w64 (to_z w64 (of_z w64 x) *ℤ to_z w64 (of_z w64 y))
+  product_fits = subst (FitsSigned w64) (sym product_is) (fits_wide _ (product_small x y small_x small_y))
 
-  product_is : to_z w64 (of_z w64 a) *ℤ to_z w64 (of_z w64 b) ≡ get_or xs k (pos 0) *ℤ get_or ys k (pos 0)
-  product_is = ap₂ ◌*ℤ◌ x_is y_is
+  sum_is : s +ℤ to_z w64 (of_z w64 (to_z w64 (of_z w64 x) *ℤ to_z w64 (of_z w64 y))) ≡ dot (take (k + 1) xs) ys
+  sum_is = ap₂ ◌+ℤ◌ so_far (ap (λ z. to_z w64 (of_z w64 z)) product_is ∙ wide_back _ (product_small x y small_x small_y)) ∙ sym (dot_more xs ys k below (omega arith))
 
-  pub product_fits : FitsSigned w64 (to_z w64 (of_z w64 a) *ℤ to_z w64 (of_z w64 b))
-  product_fits = subst (FitsSigned w64) (sym product_is) (fits_wide _ (product_small (get_or xs k (pos 0)) (get_or ys k (pos 0)) small_x small_y))
-
-  sum_is : s +ℤ to_z w64 (of_z w64 (to_z w64 (of_z w64 a) *ℤ to_z w64 (of_z w64 b))) ≡ dot (take (k + 1) xs) ys
-  sum_is =
-      ap₂ ◌+ℤ◌ so_far (ap (λ z. to_z w64 (of_z w64 z)) product_is ∙ wide_back _ (product_small (get_or xs k (pos 0)) (get_or ys k (pos 0)) small_x small_y))
-      ∙ sym (dot_more xs ys k below (omega arith))
-
-  pub sum_fits : FitsSigned w64 (s +ℤ to_z w64 (of_z w64 (to_z w64 (of_z w64 a) *ℤ to_z w64 (of_z w64 b))))
+  pub sum_fits : FitsSigned w64 (s +ℤ to_z w64 (of_z w64 (to_z w64 (of_z w64 x) *ℤ to_z w64 (of_z w64 y))))
   sum_fits = subst (FitsSigned w64) (sym sum_is) (fits_wide (dot (take (k + 1) xs) ys) (dot_take_small xs ys (k + 1) small_xs small_ys))
 
-  pub next_sum : to_z w64 (of_z w64 (s +ℤ to_z w64 (of_z w64 (to_z w64 (of_z w64 a) *ℤ to_z w64 (of_z w64 b))))) ≡ dot (take (k + 1) xs) ys
+  pub next_sum : to_z w64 (of_z w64 (s +ℤ to_z w64 (of_z w64 (to_z w64 (of_z w64 x) *ℤ to_z w64 (of_z w64 y))))) ≡ dot (take (k + 1) xs) ys
   next_sum = to_z-of_z w64 _ sum_fits ∙ sum_is
 
 -- ---- windows
@@ -110,17 +104,17 @@ pub window_parts : (xs ys : List ℤ) (m p : ℕ) → dot xs (drop p ys) ≡ dot
 window_parts xs ys m p =
     dot_split m xs (drop p ys) ∙ (λ i. dot (take m xs) (drop p ys) +ℤ dot (sym (take_rest xs m) i) ((drop-drop m p ys ∙ sym (take_rest ys (p + m))) i))
 
--- the products of eight taps more
+-- the products of four taps more
 pub window_group : (xs ys : List ℤ) (i p : ℕ)
-    → dot (take (8 * (i + 1)) xs) (drop p ys) ≡ dot (take (8 * i) xs) (drop p ys) +ℤ dot (take 8 (take (length xs - 8 * i) (drop (8 * i) xs))) (drop p (take (length ys - 8 * i) (drop (8 * i) ys)))
+    → dot (take (4 * (i + 1)) xs) (drop p ys) ≡ dot (take (4 * i) xs) (drop p ys) +ℤ dot (take 4 (take (length xs - 4 * i) (drop (4 * i) xs))) (drop p (take (length ys - 4 * i) (drop (4 * i) ys)))
 window_group xs ys i p =
-    let m = 8 * i in
-    let next : 8 * (i + 1) ≡ m + 8 = omega arith in
+    let m = 4 * i in
+    let next : 4 * (i + 1) ≡ m + 4 = omega arith in
     let turned : p + m ≡ m + p = omega arith in
     ap (λ n. dot (take n xs) (drop p ys)) next
-    ∙ dot_split m (take (m + 8) xs) (drop p ys)
-    ∙ (λ j. dot (take-take m (m + 8) xs (omega arith) j) (drop p ys)
-    +ℤ dot ((drop-take m 8 xs ∙ ap (take 8) (sym (take_rest xs m))) j) ((drop-drop m p ys ∙ ap (λ n. drop n ys) turned ∙ sym (drop-drop p m ys) ∙ ap (drop p) (sym (take_rest ys m))) j))
+    ∙ dot_split m (take (m + 4) xs) (drop p ys)
+    ∙ (λ j. dot (take-take m (m + 4) xs (omega arith) j) (drop p ys)
+    +ℤ dot ((drop-take m 4 xs ∙ ap (take 4) (sym (take_rest xs m))) j) ((drop-drop m p ys ∙ ap (λ n. drop n ys) turned ∙ sym (drop-drop p m ys) ∙ ap (drop p) (sym (take_rest ys m))) j))
 
 pub small_taps : (xs : List ℤ) → sum_by unsigned_abs xs < 2 ^ 31 → All IsSmall xs
 small_taps xs small = All-from_get_or IsSmall xs (pos 0) (λ i l. small_tap xs i small l)

@@ -3,7 +3,7 @@ use Rattle.std.proofs.Common.{◌≡◌, ◌≢◌, ◌+◌, ◌*◌, ◌<◌, �
 use Rattle.std.proofs.Math.Nat.{mul-le-mul_right}
 use Rattle.std.proofs.lemmas.Nat.{mul-pow, pow-add}
 use native.Mathlib.Nat.{pow-suc, pow-zero, pow-le-pow_left, pow-lt-pow_left}
-use Rattle.std.proofs.Common.{[], ◌∷◌, ◌/◌, ◌%◌, Bool, false}
+use Rattle.std.proofs.Common.{[], ◌∷◌, ◌/◌, ◌%◌, Bool, false, IfOk, Result, Ok, Err}
 use Rattle.std.specs.Prelude.{◌↔◌, IsTrue}
 use Rattle.heard_core.specs.Levels.{IsAtMost, limit, strength}
 use Rattle.heard_core.specs.Naturals.{natural}
@@ -66,3 +66,8 @@ from_one one n scale is made =
 -- what a comparison says where it isn't true
 pub not_measured : (v f : ℕ) (k : ℤ) (b : Bool) → (IsTrue b ↔ IsAtMost v f k) → b ≡ false → IsAtMost v f k → ⊥
 not_measured v f k b is above most = let met = is.1 most in (cc)
+
+-- what is told of a number is told of one that is the same
+pub told_same : {E : Type 0} {P : Type 0} {Q : Type 0} (r : Result Bool E) → (P ↔ Q) → IfOk r (λ b. IsTrue b ↔ Q) → IfOk r (λ b. IsTrue b ↔ P)
+told_same (Ok b) same told = ((λ x. same.1 (told.0 x)), (λ x. told.1 (same.0 x)))
+told_same (Err e) same told = tt

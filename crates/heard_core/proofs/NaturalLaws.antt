@@ -99,6 +99,9 @@ limb_fits xs fits k = let f = fits k in omega (arith, f.fits, base_is)
 pub next_power : (n f i m p : ℕ) → m ≡ n * f ^ i → p ≡ m * f → p ≡ n * f ^ (i + 1)
 next_power n f i m p so_far is = rw add-one (omega (arith, is, ap (λ z. z * f) so_far, ap (λ z. n * z) (pow-suc f i)))
 
+pub no_power : (n f : ℕ) → n ≡ n * f ^ 0
+no_power n f = omega (arith, ap (λ z. n * z) (pow-zero f))
+
 -- what follows from what is known of a number, if memory sufficed
 pub if_multiplied : {A : Type 0} {E : Type 0} {P : Type 0} {Q : Type 0} (r : Result A E) → (P → Q) → IfOk r (λ _. P) → IfOk r (λ _. Q)
 if_multiplied (Ok x) more known = more known

@@ -1,4 +1,4 @@
--- Sums of products, and sums in eight parts that wrap.
+-- Sums of products, and sums in four parts that wrap.
 use Rattle.std.specs.Prelude.{◌≡◌, ℕ, ◌<◌, ◌^◌, ℤ, pos, ◌+ℤ◌, ◌*ℤ◌, List, [], ◌∷◌, length, slice_index_or, unsigned_abs, FitsSigned}
 use Rattle.std.specs.Int.{int_wrap, w64}
 use Rattle.std.specs.Simd.Lanes.{Each1}
@@ -14,9 +14,9 @@ dot (x ∷ xs) (y ∷ ys) = x *ℤ y +ℤ dot xs ys
 abbrev pub IsSmall : ℤ → Type 0
 IsSmall z = unsigned_abs z < 2 ^ 31
 
--- eight numbers of 64 bits that add up to a number, as far as 64 bits hold it
+-- four numbers of 64 bits that add up to a number, as far as 64 bits hold it
 pub record AreParts (z : ℤ) (parts : List ℤ) : Type 0 where
-  pub eight : length parts ≡ 8
+  pub four : length parts ≡ 4
   pub fit : Each1 (FitsSigned w64) parts
   pub sum : int_wrap w64 (total parts) ≡ int_wrap w64 z
 

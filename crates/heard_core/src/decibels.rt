@@ -53,12 +53,10 @@ pub fn push_level(alloc: Global, text: &mut String, value: u64, full: u64) -> Re
 fn push_hundredths(text: &mut String, level: i64) -> Result<(), AllocError>
     ensures { OnOk result (string_bytes text.new ≡ string_bytes text.old ++ level_text level) }
 {
-    if level < 0 {
-        text.push_str("-")?;
-    }
+    let sign = if level < 0 { "-" } else { "" };
     let size = level.unsigned_abs();
     let (whole, tenths, hundredths) = (size / 100, size / 10 % 10, size % 10);
-    write!(text, "{whole}.{tenths}{hundredths}")
+    write!(text, "{sign}{whole}.{tenths}{hundredths}")
 }
 
 // A level that is below each level of two numbers of 64 bits.
@@ -108,14 +106,14 @@ fn tens_of(level: i64) -> (u64, u64)
 fn told_by_bounds(x: u64, tens: u64, y: u64, more_tens: u64) -> Option<bool>
     ensures { IfSome result (λ b. IsTrue b ↔ (strength x * 10 ^ tens ≤ strength y * 10 ^ more_tens)) }
 {
-    is_at_most_by(bounds_of(x, tens)?, bounds_of(y, more_tens)?)
+    is_at_most_by(bounds_of(x, tens), bounds_of(y, more_tens))
 }
 
-// Bounds of a scaled strength, if there is room for them.
-fn bounds_of(x: u64, tens: u64) -> Option<Bounds>
-    ensures { IfSome result (λ r. IsWithin r (strength x * 10 ^ tens)) }
+// Bounds of a scaled strength.
+fn bounds_of(x: u64, tens: u64) -> Bounds
+    ensures { IsWithin result (strength x * 10 ^ tens) }
 {
-    times(power(x, 2000)?, power(10, tens)?)
+    times(power(x, 2000), power(10, tens))
 }
 
 // Whether one number's scaled strength is at most another's, by themselves.

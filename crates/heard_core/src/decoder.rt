@@ -2,6 +2,7 @@
 
 ghost use Rattle.std.specs.Prelude.{◌≡◌, ◌+◌, ◌-◌, ◌*◌, ◌/◌, ◌%◌, ◌^◌, ◌<◌, ◌≤◌, EachIndex, length, pos, slice_index_or, unsigned_abs};
 ghost use Rattle.std.specs.Int.{div_ceil};
+ghost use Rattle.fir_core.specs.Convolution.{conv};
 ghost use Rattle.heard_core.specs.Sounds.{decoded_from};
 
 use crate::piece::{Piece, pieces_of};
@@ -83,11 +84,29 @@ fn decode_tile(source: Source<'_>, first: usize, sound: &mut [i32])
     let place = first + source.taps.len() / 2;
     let mut room = [0; RUN];
     for turn in 0..8 {
-        let number = sound.len().saturating_sub(turn).div_ceil(8);
-        let (sums, _) = room.split_at_mut(number);
-        sum_places(source, place + turn, sums);
-        spread(sums, turn, sound);
+        decode_turn(source, place, turn, &mut room, sound);
     }
+}
+
+// The sound of one bit of each byte, the first at place `place + turn`. What `room` has is written over.
+fn decode_turn(
+    source: Source<'_>,
+    place: usize,
+    turn: usize,
+    room: &mut [i32; RUN],
+    sound: &mut [i32],
+)
+    requires turn { turn < 8 }
+    requires few { length sound.old ≤ 32768 }
+    requires reach { place ≤ 2 ^ 36 + 32767 }
+    ensures len { length sound.new ≡ length sound.old }
+    ensures written { EachIndex sound.old (λ i. i % 8 ≡ turn → slice_index_or sound.new i (pos 0) ≡ conv source.entry.taps.now source.entry.bits.now (i + place)) }
+    ensures others { EachIndex sound.old (λ i. i % 8 < turn → slice_index_or sound.new i (pos 0) ≡ slice_index_or sound.old i (pos 0)) }
+{
+    let number = sound.len().saturating_sub(turn).div_ceil(8);
+    let (sums, _) = room.split_at_mut(number);
+    sum_places(source, place + turn, sums);
+    spread(sums, turn, sound);
 }
 
 // Writes numbers at every eighth place, from place `turn` on.

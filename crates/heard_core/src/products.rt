@@ -1,4 +1,4 @@
-//! The sums of the products of taps and the errors of neighbouring windows, eight taps a step.
+//! The sums of the products of taps and the errors of neighbouring windows, four taps a step.
 
 ghost use Rattle.std.specs.Prelude.{◌≡◌, ◌+◌, ◌*◌, ◌^◌, ◌<◌, ◌≤◌, ℕ, All, drop, length, pos, slice_index_or, take, unsigned_abs};
 ghost use Rattle.std.specs.List.{sum_by};
@@ -6,39 +6,42 @@ ghost use Rattle.heard_core.specs.Products.{AreAdded, IsAdded, IsSmall, IsSumOf,
 
 use std::simd::prelude::*;
 
-/// Adds the products of eight taps to eight parts of a sum.
+/// Adds the products of four taps to four parts of a sum.
+///
+/// Taps and errors have room in 32 bits. Each is narrowed to these and widened again, so that the compiler sees that a
+/// product reads no more of them: it is one instruction then.
 #[inline(always)]
-fn add_eight(parts: [i64; 8], taps: &[i32], errors: &[i32]) -> [i64; 8]
-    requires taps { 8 ≤ length taps.now }
-    requires errors { 8 ≤ length errors.now }
+fn add_four(parts: [i64; 4], taps: &[i64], errors: &[i64]) -> [i64; 4]
+    requires taps { 4 ≤ length taps.now }
+    requires errors { 4 ≤ length errors.now }
     requires small_taps { All IsSmall taps.now }
     requires small_errors { All IsSmall errors.now }
-    ensures { IsAdded (dot (take 8 taps.now) errors.now) parts result }
+    ensures { IsAdded (dot (take 4 taps.now) errors.now) parts result }
 {
-    let taps = i32x8::from_slice(taps).cast::<i64>();
-    let errors = i32x8::from_slice(errors).cast::<i64>();
-    (i64x8::from_array(parts) + taps * errors).to_array()
+    let taps = i64x4::from_slice(taps).cast::<i32>().cast::<i64>();
+    let errors = i64x4::from_slice(errors).cast::<i32>().cast::<i64>();
+    (i64x4::from_array(parts) + taps * errors).to_array()
 }
 
-/// Adds the products of eight taps to the sum of each window.
+/// Adds the products of four taps to the sum of each window.
 #[inline(always)]
-fn add_group<const N: usize>(sums: &mut [[i64; 8]; N], taps: &[i32], errors: &[i32], step: usize)
+fn add_group<const N: usize>(sums: &mut [[i64; 4]; N], taps: &[i64], errors: &[i64], step: usize)
     requires few { N ≤ 8 }
-    requires taps { 8 ≤ length taps.now }
-    requires errors { (w : ℕ) → w < N → w * step + 8 ≤ length errors.now }
+    requires taps { 4 ≤ length taps.now }
+    requires errors { (w : ℕ) → w < N → w * step + 4 ≤ length errors.now }
     requires small_taps { All IsSmall taps.now }
     requires small_errors { All IsSmall errors.now }
     ensures len { length sums.new ≡ N }
-    ensures sums { AreAdded N (λ w. dot (take 8 taps.now) (drop (w * step) errors.now)) sums.old sums.new }
+    ensures sums { AreAdded N (λ w. dot (take 4 taps.now) (drop (w * step) errors.now)) sums.old sums.new }
 {
     for w in 0..N {
         let start = w * step;
-        sums[w] = add_eight(sums[w], taps, &errors[start..]);
+        sums[w] = add_four(sums[w], taps, &errors[start..]);
     }
 }
 
 /// The sum of the products of taps and the errors from the first one on, tap by tap.
-fn sum_plainly(taps: &[i32], errors: &[i32]) -> i64
+fn sum_plainly(taps: &[i64], errors: &[i64]) -> i64
     requires room { length taps.now ≤ length errors.now }
     requires small_taps { sum_by unsigned_abs taps.now < 2 ^ 31 }
     requires small_errors { All IsSmall errors.now }
@@ -46,26 +49,26 @@ fn sum_plainly(taps: &[i32], errors: &[i32]) -> i64
 {
     let mut sum = 0;
     for k in 0..taps.len() {
-        sum += i64::from(taps[k]) * i64::from(errors[k]);
+        sum += taps[k] * errors[k];
     }
     sum
 }
 
 /// What the parts of a sum and the remaining products add up to.
-fn finish(parts: [i64; 8], taps: &[i32], errors: &[i32]) -> i64
+fn finish(parts: [i64; 4], taps: &[i64], errors: &[i64]) -> i64
     requires room { length taps.now ≤ length errors.now }
     requires small_taps { sum_by unsigned_abs taps.now < 2 ^ 31 }
     requires small_errors { All IsSmall errors.now }
     ensures { IsSumOf parts (dot taps.now errors.now) result }
 {
-    i64x8::from_array(parts)
+    i64x4::from_array(parts)
         .reduce_sum()
         .wrapping_add(sum_plainly(taps, errors))
 }
 
 /// The sums of the products of taps and the errors of neighbouring windows.
 #[inline(always)]
-pub(crate) fn sum_windows<const N: usize>(taps: &[i32], errors: &[i32], step: usize) -> [i64; N]
+pub(crate) fn sum_windows<const N: usize>(taps: &[i64], errors: &[i64], step: usize) -> [i64; N]
     requires some { 1 ≤ N }
     requires few { N ≤ 8 }
     requires room { (w : ℕ) → w < N → w * step + length taps.now ≤ length errors.now }
@@ -73,17 +76,17 @@ pub(crate) fn sum_windows<const N: usize>(taps: &[i32], errors: &[i32], step: us
     requires small_errors { All IsSmall errors.now }
     ensures { (w : ℕ) → w < N → slice_index_or result w (pos 0) ≡ dot taps.now (drop (w * step) errors.now) }
 {
-    let groups = taps.len() / 8;
-    let mut parts = [[0; 8]; N];
+    let groups = taps.len() / 4;
+    let mut parts = [[0; 4]; N];
     for i in 0..groups {
-        add_group(&mut parts, &taps[8 * i..], &errors[8 * i..], step);
+        add_group(&mut parts, &taps[4 * i..], &errors[4 * i..], step);
     }
     let mut sums = [0; N];
     for w in 0..N {
         sums[w] = finish(
             parts[w],
-            &taps[8 * groups..],
-            &errors[w * step + 8 * groups..],
+            &taps[4 * groups..],
+            &errors[w * step + 4 * groups..],
         );
     }
     sums

@@ -15,7 +15,7 @@ use std::marker::Model;
 #[derive(Drop)]
 pub struct Audible {
     // In the order of the errors of a window.
-    reversed: Vec<i32>,
+    reversed: Vec<i64>,
 }
 
 impl Model for Audible {
@@ -38,7 +38,7 @@ impl Audible {
         requires { AreTaps (2 ^ 31 - 1) taps.now }
         ensures { IfOk result (λ made. made ≡ taps.now) }
     {
-        let mut reversed = Vec::from_slice(alloc, taps)?;
+        let mut reversed = widened(alloc, taps)?;
         reversed.reverse();
         Ok(Audible { reversed })
     }
@@ -54,28 +54,35 @@ impl Audible {
     /// Writes the residuals of as many windows as `sums` is long: the first window begins at the first error, and each
     /// other one `step` errors after the one before. A window has an error for each tap. Errors are below `2^31` in
     /// absolute value, and so residuals are below `2^62`. It takes no memory.
-    pub fn residuals(&self, errors: &[i32], step: usize, sums: &mut [i64])
+    pub fn residuals(&self, errors: &[i64], step: usize, sums: &mut [i64])
         requires within { (i : ℕ) → i < length sums.old → i * step + length self.now ≤ length errors.now }
         requires small { All IsSmall errors.now }
         ensures value { sums.new ≡ window_residuals self.now errors.now step (length sums.old) }
         ensures bound { All (λ r. unsigned_abs r < 2 ^ 62) sums.new }
     {
         let taps = self.reversed.as_slice();
-        let groups = sums.len() / 4;
+        let groups = sums.len() / 8;
         for group in 0..groups {
-            put_windows::<4>(taps, errors, step, sums, 4 * group);
+            put_windows::<8>(taps, errors, step, sums, 8 * group);
         }
-        for i in 4 * groups..sums.len() {
+        for i in 8 * groups..sums.len() {
             put_windows::<1>(taps, errors, step, sums, i);
         }
     }
 }
 
+// Taps as numbers of 64 bits.
+fn widened(alloc: Global, taps: &[i32]) -> Result<Vec<i64>, AllocError>
+    ensures { IfOk result (λ made. made.items ≡ taps.now) }
+{
+    taps.iter().map(|tap| i64::from(*tap)).collect(alloc)
+}
+
 // Writes the sums of neighbouring windows from window `first` on.
 #[inline(never)]
 fn put_windows<const N: usize>(
-    taps: &[i32],
-    errors: &[i32],
+    taps: &[i64],
+    errors: &[i64],
     step: usize,
     sums: &mut [i64],
     first: usize,

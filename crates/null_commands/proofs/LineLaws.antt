@@ -1,12 +1,16 @@
 -- Lines that are appended to a text.
-use Rattle.std.proofs.Common.{◌≡◌, ◌∙◌, ◌+◌, ◌++◌, [], ◌∷◌, List, ℕ, Result, Ok, Err, OnOk, ap, sym, refl, append_assoc, arith, codes, add-one, get_or, length, map, subst, take, Vec, ◌<◌}
+use Rattle.std.proofs.Common.{◌≡◌, ◌∙◌, ◌+◌, ◌++◌, [], ◌∷◌, List, ℕ, ℤ, zero, suc, inl, inr, ◌≤◌, Result, Ok, Err, OnOk, ap, sym, refl, append_assoc, arith, codes, add-one, get_or, length, map, subst, take, Vec, ◌<◌}
 use Rattle.std.proofs.Math.Seq.{take-suc}
 use Rattle.std.proofs.lemmas.List.{length-map, length-take-le, map-append}
 use Rattle.std.specs.declared.alloc.Global.{Global}
 use Rattle.std.specs.Fmt.{decimal}
 use Rattle.std.specs.List.{AllZip, concat}
+use Rattle.heard_core.specs.Levels.{IsLevel, level_text}
 use Rattle.null_core.specs.declared.stretch.Stretch.{Stretch}
-use Rattle.null_commands.specs.Lines.{Appends, EndsLine, Found, ShowsAllFound, ShowsFound, ShowsLevel, found_at, found_from, places_text}
+use Rattle.null_core.specs.declared.verdict.Heard.{Heard}
+use Rattle.null_core.specs.declared.verdict.Verdict.TheVariants.{Accepted}
+use Rattle.null_core.specs.Verdicts.{stretch_lists}
+use Rattle.null_commands.specs.Lines.{Appends, EndsLine, Found, ShowsAllFound, ShowsFound, ShowsHeard, ShowsLevel, ShowsVerdict, found_at, found_from, places_text}
 
 -- the list of a vector
 abbrev items_of : Vec Stretch Global → List Stretch
@@ -84,3 +88,32 @@ channel_more full i v xs found old mid new within is same so_far next =
     let both : found_from 0 (map items_of (take (i + 1) xs)) ≡ found_from 0 (map items_of (take i xs)) ++ map (found_at i) found =
     ap (λ ys. found_from 0 (map items_of ys)) more ∙ ap (found_from 0) (map-append items_of (take i xs) (v ∷ [])) ∙ found_more 0 (map items_of (take i xs)) v.items i (omega (arith, many)) ∙ ap (λ ys. found_from 0 (map items_of (take i xs)) ++ map (found_at i) ys) (sym same) in
     subst (λ (all : List Found). Appends (ShowsAllFound full all) old new) (sym both) (more_shown full _ _ old mid new so_far next)
+
+-- the level that was appended
+pub shown_level : (full value : ℕ) (old new : List ℕ) → (value ≡ 0 → new ≡ old ++ codes "-inf") → (1 ≤ value → (k : ℤ) × IsLevel value full k × (new ≡ old ++ level_text k)) → Appends (ShowsLevel full value) old new
+shown_level full zero old new none some = (codes "-inf", inl (refl, refl), none refl)
+shown_level full (suc n) old new none some = let level = some (omega arith) in (level_text level.0, inr (omega arith, (level.0, level.1, refl)), level.2)
+
+pub level_shown : {E : Type 0} (full value : ℕ) (old new : List ℕ) (r : Result Unit E) → (value ≡ 0 → OnOk r (new ≡ old ++ codes "-inf")) → (1 ≤ value → OnOk r ((k : ℤ) × IsLevel value full k × (new ≡ old ++ level_text k))) → OnOk r (Appends (ShowsLevel full value) old new)
+level_shown full value old new (Err e) none some = tt
+level_shown full value old new (Ok x) none some = shown_level full value old new none some
+
+-- what is heard: the lines of all stretches, then that of the verdict
+pub heard_shown : (full : ℕ) (heard : Heard) (old mid new : List ℕ) → Appends (ShowsAllFound full (found_from 0 (stretch_lists heard))) old mid → Appends (ShowsVerdict full heard.verdict) mid new → Appends (ShowsHeard full heard) old new
+heard_shown full heard old mid new (a, shown, is) (b, verdict_shown, is') = (
+  a ++ b,
+  record { lines = a; verdict = b; shown = shown; verdict_shown = verdict_shown; text_is = refl },
+  is' ∙ ap (λ text. text ++ b) is ∙ append_assoc old a b,
+)
+
+-- what was appended to nothing
+pub all_shown : (Shows : List ℕ → Type 0) (old new : List ℕ) → old ≡ [] → Appends Shows old new → Shows new
+all_shown Shows old new none (text, shown, is) = subst Shows (sym (is ∙ ap (λ before. before ++ text) none)) shown
+
+-- the line of an accepted master
+pub accepted_shown : (full residual : ℕ) (old start new : List ℕ) → start ≡ old ++ (codes "accepted residual " ++ (decimal residual ++ codes " dBFS ")) → Appends (ShowsLevel full residual) start new → Appends (ShowsVerdict full (Accepted residual)) old new
+accepted_shown full residual old start new is (level, shown, then) = (
+  codes "accepted residual " ++ decimal residual ++ codes " dBFS " ++ level,
+  (level, shown, refl),
+  then ∙ ap (λ text. text ++ level) is ∙ simp append_assoc refl,
+)

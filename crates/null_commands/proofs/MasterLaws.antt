@@ -8,12 +8,13 @@ use Rattle.folder_core.specs.Files.{IsGiven, IsReadOf, View}
 use Rattle.null_core.specs.declared.fault.NullFault.{NullFault}
 use Rattle.null_core.specs.declared.master_reading.Candidate.{Candidate}
 use Rattle.null_core.specs.Calling.{ReadsTake}
-use Rattle.null_core.specs.declared.verdict.Heard.{Heard}
+use Rattle.null_core.specs.Asking.{IsFullScale}
 use Rattle.null_core.specs.Candidates.{HoldsCandidate, IsHeardOf}
 use Rattle.null_core.specs.Files.{IsReadGiven, IsReadIn}
 use Rattle.null_core.specs.Reading.{MixedContent}
 use Rattle.null_commands.specs.declared.fault.TestFault.{TestFault}
-use Rattle.null_commands.specs.Masters.{HearsMaster, ReadsMaster, ReadsSome}
+use Rattle.null_commands.specs.declared.tested.Tested.{Tested}
+use Rattle.null_commands.specs.Masters.{ReadsMaster, ReadsSome, TestsMaster}
 use Rattle.null_commands.specs.Sources.{ReadsNamed, ReadsSomeTake}
 use Rattle.null_commands.proofs.ReadLaws.{found_read}
 
@@ -45,8 +46,16 @@ master_of view mixed name (Err fault) is = tt
 pub master_named : (view : View) (mixed : MixedContent) (name : List ℕ) (left : Option (List ℕ)) → IsGiven view name left → (r : Result (Result Candidate ReadFault) TestFault) → IfOk r (λ found. IfSome left (λ file. IsReadIn (HoldsCandidate mixed) file found)) → IfOk r (ReadsSome mixed) → IfOk r (ReadsMaster view mixed name)
 master_named view mixed name left given r known some = master_of view mixed name r (found_read view name left (λ file found. IsReadIn (HoldsCandidate mixed) file found) given r known some)
 
+-- full scale of a master that was compared
+pub scaled : (mixed : MixedContent) (full : ℕ) → IsFullScale mixed.mix full → (r : Result Tested TestFault) → IfOk r (λ tested. tested.full ≡ full) → IfOk r (λ tested. IsFullScale mixed.mix tested.full)
+scaled mixed full scale (Ok tested) is = subst (IsFullScale mixed.mix) (sym is) scale
+scaled mixed full scale (Err fault) is = tt
+
 -- what was heard of what was read of a master's file
-pub heard_named : (view : View) (mixed : MixedContent) (name : List ℕ) (found : Result Candidate ReadFault) → ReadsMaster view mixed name found
-    → (r : Result (Result Heard ReadFault) TestFault) → ((file : List ℕ) → IsReadIn (HoldsCandidate mixed) file found → IfOk r (IsReadIn (IsHeardOf mixed) file)) → IfOk r (HearsMaster view mixed name)
-heard_named view mixed name found read (Ok heard) is = record { file = read.file; file_read = read.file_read; heard_in = is read.file read.found_in }
-heard_named view mixed name found read (Err fault) is = tt
+pub tested_named : (view : View) (mixed : MixedContent) (name : List ℕ) (found : Result Candidate ReadFault) → ReadsMaster view mixed name found
+    → (r : Result Tested TestFault) → ((file : List ℕ) → IsReadIn (HoldsCandidate mixed) file found → IfOk r (λ tested. IsReadIn (IsHeardOf mixed) file tested.heard)) → IfOk r (λ tested. IsFullScale mixed.mix tested.full) → IfOk r (TestsMaster view mixed name)
+tested_named view mixed name found read (Ok tested) is scale = record {
+  hears = record { file = read.file; file_read = read.file_read; heard_in = is read.file read.found_in };
+  scale = scale;
+}
+tested_named view mixed name found read (Err fault) is scale = tt

@@ -11,7 +11,7 @@ use request_core::Fault;
 use sound_core::StreamFault;
 
 /// Why there is no null test of files: the first fault.
-#[derive(Clone, Copy, Debug, PartialEq, Eq)]
+#[derive(Clone, Copy)]
 pub enum TestFault {
     /// The call was refused.
     Call(Fault),

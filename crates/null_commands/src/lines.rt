@@ -1,7 +1,7 @@
 //! The lines that are printed of a null test.
 
 ghost use Rattle.std.specs.Prelude.{◌≡◌, ◌++◌, ◌≤◌, IfOk, OnOk, map, string_bytes};
-ghost use Rattle.null_commands.specs.Lines.{Appends, EndsLine, ShowsAllFound, ShowsFound, ShowsHeard, ShowsLevel, ShowsTested, ShowsVerdict, found_at, found_from, places_text};
+ghost use Rattle.null_commands.specs.Lines.{Appends, EndsLine, ShowsAllFound, ShowsFound, ShowsHeard, ShowsTested, ShowsVerdict, found_at, found_from, places_text};
 
 use crate::tested::Tested;
 use heard_core::push_level;
@@ -13,21 +13,30 @@ use std::fmt::Write;
 pub fn tested_lines(alloc: Global, tested: &Tested) -> Result<String, AllocError>
     ensures { IfOk result (λ text. ShowsTested tested.now (string_bytes text)) }
 {
-    match &tested.heard {
-        Ok(heard) => heard_lines(alloc, tested.full, heard),
-        Err(_) => String::from_str(alloc, "rejected MasterUnread"),
+    let mut text = String::new(alloc);
+    match push_tested(alloc, &mut text, tested) {
+        Ok(()) => Ok(text),
+        Err(fault) => Err(fault),
     }
 }
 
-// The lines of what is heard.
-fn heard_lines(alloc: Global, full: u64, heard: &Heard) -> Result<String, AllocError>
-    requires { 1 ≤ full }
-    ensures { IfOk result (λ text. ShowsHeard full heard.now (string_bytes text)) }
+// Appends the lines of a null test, without the end of the last.
+fn push_tested(alloc: Global, text: &mut String, tested: &Tested) -> Result<(), AllocError>
+    ensures { OnOk result (Appends (ShowsTested tested.now) (string_bytes text.old) (string_bytes text.new)) }
 {
-    let mut text = String::new(alloc);
-    push_stretches(alloc, &mut text, full, heard.stretches.as_slice())?;
-    push_verdict(alloc, &mut text, full, heard.verdict)?;
-    Ok(text)
+    match &tested.heard {
+        Ok(heard) => push_heard(alloc, text, tested.full, heard),
+        Err(_) => text.push_str("rejected MasterUnread"),
+    }
+}
+
+// Appends the lines of what is heard.
+fn push_heard(alloc: Global, text: &mut String, full: u64, heard: &Heard) -> Result<(), AllocError>
+    requires { 1 ≤ full }
+    ensures { OnOk result (Appends (ShowsHeard full heard.now) (string_bytes text.old) (string_bytes text.new)) }
+{
+    push_stretches(alloc, text, full, heard.stretches.as_slice())?;
+    push_verdict(alloc, text, full, heard.verdict)
 }
 
 // Appends the lines of the stretches of all channels.
@@ -75,7 +84,7 @@ fn push_stretch(
     ensures { OnOk result (Appends (EndsLine (ShowsFound full (found_at channel stretch))) (string_bytes text.old) (string_bytes text.new)) }
 {
     push_places(text, channel, stretch)?;
-    push_shown(alloc, text, full, stretch.residual)?;
+    push_level(alloc, text, stretch.residual, full)?;
     let place = stretch.place;
     writeln!(text, " place {place}")
 }
@@ -121,13 +130,5 @@ fn push_accepted(
     ensures { OnOk result (Appends (ShowsVerdict full (Verdict.Accepted residual)) (string_bytes text.old) (string_bytes text.new)) }
 {
     write!(text, "accepted residual {residual} dBFS ")?;
-    push_shown(alloc, text, full, residual)
-}
-
-// Appends the level of a residual.
-fn push_shown(alloc: Global, text: &mut String, full: u64, residual: u64) -> Result<(), AllocError>
-    requires { 1 ≤ full }
-    ensures { OnOk result (Appends (ShowsLevel full residual) (string_bytes text.old) (string_bytes text.new)) }
-{
     push_level(alloc, text, residual, full)
 }

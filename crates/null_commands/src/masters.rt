@@ -1,9 +1,10 @@
 //! Reads a master's file and compares it with a mix.
 
-ghost use Rattle.std.specs.Prelude.{◌≡◌, ℕ, List, IfErr, IfOk};
+ghost use Rattle.std.specs.Prelude.{◌≡◌, ◌≤◌, ℕ, List, IfErr, IfOk};
+ghost use Rattle.null_core.specs.Asking.{IsFullScale};
 ghost use Rattle.null_core.specs.Candidates.{HoldsCandidate, IsHeardOf};
 ghost use Rattle.null_core.specs.Files.{IsReadIn, IsReadLeft};
-ghost use Rattle.null_commands.specs.Masters.{HearsMaster, ReadsMaster, ReadsSome, TestsMaster};
+ghost use Rattle.null_commands.specs.Masters.{ReadsMaster, ReadsSome, TestsMaster};
 ghost use Rattle.null_commands.specs.Sources.{IsUnread};
 
 use crate::fault::{TestFault, unread_by};
@@ -11,7 +12,7 @@ use crate::tested::Tested;
 use chunk_core::Inlet;
 use folder_core::{Folder, Work, reads_to_end};
 use form_core::ReadFault;
-use null_core::{Candidate, Heard, Mixed, Watch, judge_candidate, read_master};
+use null_core::{Candidate, Mixed, Watch, judge_candidate, read_master};
 use request_core::Fault;
 use std::alloc::Global;
 use std::cell::Cell;
@@ -48,24 +49,8 @@ pub(crate) fn test_master<F: Folder>(
     ensures tested { IfOk result (TestsMaster (F.view folder.old) mixed.now name.now) }
     ensures fault { IfErr result IsUnread }
 {
-    let heard = hear_named(alloc, folder, mixed, name)?;
-    let full = mixed.full_scale();
-    Ok(Tested { heard, full })
-}
-
-// What is heard of the master's file of this name, or its first fault.
-fn hear_named<F: Folder>(
-    alloc: Global,
-    folder: &mut F,
-    mixed: &Mixed,
-    name: &str,
-) -> Result<Result<Heard, ReadFault>, TestFault>
-    ensures same { F.view folder.new ≡ F.view folder.old }
-    ensures heard { IfOk result (HearsMaster (F.view folder.old) mixed.now name.now) }
-    ensures fault { IfErr result IsUnread }
-{
     let found = read_named(alloc, folder, mixed, name)?;
-    hear_found(alloc, folder, mixed, &found)
+    test_found(alloc, folder, mixed, &found)
 }
 
 // What the master's file of this name holds, or its first fault.
@@ -117,34 +102,42 @@ fn kept_if<'a>(
     }
 }
 
-// What is heard of a master by what its file holds, or the file's first fault.
-fn hear_found<F: Folder>(
+// Compares a master with a mix by what its file holds. If that is no recording, its first fault is returned.
+fn test_found<F: Folder>(
     alloc: Global,
     folder: &mut F,
     mixed: &Mixed,
     found: &Result<Candidate<'_>, ReadFault>,
-) -> Result<Result<Heard, ReadFault>, TestFault>
+) -> Result<Tested, TestFault>
     ensures same { F.view folder.new ≡ F.view folder.old }
     ensures heard { (file : List ℕ) → IsReadIn (HoldsCandidate mixed.now) file found.now
-        → IfOk result (IsReadIn (IsHeardOf mixed.now) file) }
+        → IfOk result (λ tested. IsReadIn (IsHeardOf mixed.now) file tested.heard) }
+    ensures scale { IfOk result (λ tested. IsFullScale (mixed.now).mix tested.full) }
     ensures fault { IfErr result IsUnread }
 {
+    let full = mixed.full_scale();
     match found {
-        Ok(candidate) => hear(alloc, folder, mixed, candidate),
-        Err(fault) => Ok(Err(*fault)),
+        Ok(candidate) => test_candidate(alloc, folder, mixed, candidate, full),
+        Err(fault) => Ok(Tested {
+            heard: Err(*fault),
+            full,
+        }),
     }
 }
 
-// What is heard of a master by what its file holds. The folder shows how far it has been compared.
-fn hear<F: Folder>(
+// The same of a recording. The folder shows how far it has been compared.
+fn test_candidate<F: Folder>(
     alloc: Global,
     folder: &mut F,
     mixed: &Mixed,
     candidate: &Candidate<'_>,
-) -> Result<Result<Heard, ReadFault>, TestFault>
+    full: u64,
+) -> Result<Tested, TestFault>
+    requires { 1 ≤ full }
     ensures same { F.view folder.new ≡ F.view folder.old }
     ensures heard { (file : List ℕ) → HoldsCandidate mixed.now file candidate.now
-        → IfOk result (IsReadIn (IsHeardOf mixed.now) file) }
+        → IfOk result (λ tested. IsReadIn (IsHeardOf mixed.now) file tested.heard) }
+    ensures full { IfOk result (λ tested. tested.full ≡ full) }
     ensures fault { IfErr result IsUnread }
 {
     folder.begin_work(Work::NullTest);
@@ -152,7 +145,10 @@ fn hear<F: Folder>(
     let heard = judge_candidate(alloc, mixed, candidate, &WorkShown { folder, shown });
     folder.end_work();
     match heard {
-        Ok(heard) => Ok(Ok(heard)),
+        Ok(heard) => Ok(Tested {
+            heard: Ok(heard),
+            full,
+        }),
         Err(_) => Err(TestFault::Call(Fault::Memory)),
     }
 }

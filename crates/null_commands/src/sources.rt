@@ -82,18 +82,8 @@ fn read_mix<F: Folder>(alloc: Global, folder: &mut F, name: &str) -> Result<Mix,
     ensures mix { IfOk result (λ mix. ReadsMix (F.view folder.old) name.now (mix_content mix)) }
     ensures fault { IfErr result (IsUnsourced (F.view folder.old) name.now) }
 {
-    let text = read_text(alloc, folder, name)?;
-    mix_of(alloc, &text)
-}
-
-// The text of a mix.
-fn read_text<F: Folder>(alloc: Global, folder: &mut F, name: &str) -> Result<Vec<u8>, TestFault>
-    ensures same { F.view folder.new ≡ F.view folder.old }
-    ensures text { IfOk result (λ text. IsReadOf (F.view folder.old) name.now text.items) }
-    ensures fault { IfErr result IsUnread }
-{
     match read_file(alloc, folder, name) {
-        Ok(text) => Ok(text),
+        Ok(text) => mix_of(alloc, &text),
         Err(FileFault::Memory) => Err(TestFault::Call(Fault::Memory)),
         Err(_) => Err(TestFault::ReadFailed),
     }
@@ -158,28 +148,13 @@ fn numbered_take<F: Folder>(
     ensures fault { IfErr result IsUnread }
 {
     let name = &mix.takes[number];
-    named_take(alloc, folder, mix, number, name)
-}
-
-// What a mix reads of the file of this name, its take of a number, or the file's fault.
-fn named_take<F: Folder>(
-    alloc: Global,
-    folder: &mut F,
-    mix: &Mix,
-    number: usize,
-    name: &str,
-) -> Result<Result<Excerpts, NullFault>, TestFault>
-    ensures same { F.view folder.new ≡ F.view folder.old }
-    ensures take { IfOk result (ReadsNamed (F.view folder.old) (mix_content mix.now) number name.now) }
-    ensures fault { IfErr result IsUnread }
-{
     match folder.open(name) {
         Ok(file) => opened_take(alloc, mix, number, file),
         Err(_) => Err(TestFault::ReadFailed),
     }
 }
 
-// The same for the file that a reader has.
+// What a mix reads of the file that a reader has, its take of a number, or the file's fault.
 fn opened_take<R: Read + Drop>(
     alloc: Global,
     mix: &Mix,
@@ -191,7 +166,8 @@ fn opened_take<R: Read + Drop>(
     ensures any_reader { IfOk result (ReadsSomeTake (mix_content mix.now) number) }
     ensures fault { IfErr result IsUnread }
 {
-    match read_take(alloc, mix, number, &mut Inlet::new(file)) {
+    let found = read_take(alloc, mix, number, &mut Inlet::new(file));
+    match found {
         Ok(Ok(take)) => Ok(Ok(take)),
         Ok(Err(fault)) => Ok(Err(take_unread(number, fault))),
         Err(StreamFault::Memory) => Err(TestFault::Call(Fault::Memory)),

@@ -1,16 +1,18 @@
 -- Laws of what is heard of parts.
 use Rattle.std.proofs.Common.{rules, IsTrue, ◌≡◌, eqb, ◌&&◌, ℕ, zero, suc, ◌+◌, ◌-◌, ◌/◌, ◌<◌, ◌≤◌, ◌⊎◌, ◌++◌, ◌∷◌, [], ℤ, pos, negsuc, ◌+ℤ◌, ◌-ℤ◌, ◌*ℤ◌, List, length, slice_get, Option, Some, None, refl, sym, ◌∙◌, ap, subst, inl, inr, arith, mul-le-mul_left}
-use Rattle.std.specs.Prelude.{◌≤ℤ◌}
+use Rattle.std.specs.Prelude.{◌<ℤ◌, ◌≤ℤ◌}
 use Rattle.std.specs.Int.{int_div_euclid}
+use Rattle.std.specs.Int.Signed.{<ℤ-≤ℤ_trans}
 use Rattle.std.specs.Bool.{Decides}
 use Rattle.std.specs.Ordering.{int_eq}
 use Rattle.std.proofs.lemmas.Bool.Decides.{Decides-and, Decides-eqb, Decides-int_eq, Decides-like}
 use Rattle.std.proofs.lemmas.Int.{ints}
 use Rattle.std.proofs.lemmas.Nat.{le-div}
+use Rattle.std.proofs.lemmas.Option.{none-some, same_Some}
 use Rattle.std.proofs.Math.Nat.{div-mul-le_self}
 use Rattle.clip_core.specs.declared.gain.Point.{Point}
 use Rattle.clip_core.specs.declared.line.Line.{Line}
-use Rattle.clip_core.specs.Gains.{on_line}
+use Rattle.clip_core.specs.Gains.{full_gain, on_line}
 use Rattle.clip_core.specs.Lines.{IsLineOf, IsOnLine, line_gain, until}
 use Rattle.null_core.specs.declared.alone.Heard.{Heard}
 use Rattle.null_core.specs.declared.alone.Heard.TheVariants.{Nothing, Single, Mixed}
@@ -29,18 +31,28 @@ pub data IsBetween (a x b : ℤ) : Type 0 where
   rising : a ≤ℤ x → x ≤ℤ b → IsBetween a x b
   falling : x ≤ℤ a → b ≤ℤ x → IsBetween a x b
 
+-- ---- orders of whole numbers
+less_under : (x b g : ℤ) → x ≤ℤ b → b <ℤ g → x <ℤ g
+less_under x b g h k = omega (arith, ints, h, k)
+
+squeezed : (a x b g : ℤ) → a ≤ℤ x → x ≤ℤ b → a ≡ g → b ≡ g → x ≡ g
+squeezed a x b g l h first last = omega (arith, ints, l, h, first, last)
+
+less_added : (from a b : ℤ) → a ≤ℤ b → (from +ℤ a) ≤ℤ (from +ℤ b)
+less_added from a b h = omega (arith, ints, h)
+
 -- it has a level that both of them have
 pub level_between : (level : Level) (a x b : ℤ) → IsBetween a x b → IsLevel level a → IsLevel level b → IsLevel level x
-level_between Negative a x b (rising l h) first last = omega (arith, ints, l, h, first, last)
-level_between Negative a x b (falling l h) first last = omega (arith, ints, l, h, first, last)
-level_between Zero a x b (rising l h) first last = omega (arith, ints, l, h, first, last)
-level_between Zero a x b (falling l h) first last = omega (arith, ints, l, h, first, last)
-level_between Reduced a x b (rising l h) first last = (omega (arith, ints, l, h, first, last), omega (arith, ints, l, h, first, last))
-level_between Reduced a x b (falling l h) first last = (omega (arith, ints, l, h, first, last), omega (arith, ints, l, h, first, last))
-level_between Full a x b (rising l h) first last = omega (arith, ints, l, h, first, last)
-level_between Full a x b (falling l h) first last = omega (arith, ints, l, h, first, last)
-level_between Raised a x b (rising l h) first last = omega (arith, ints, l, h, first, last)
-level_between Raised a x b (falling l h) first last = omega (arith, ints, l, h, first, last)
+level_between Negative a x b (rising l h) first last = less_under x b (pos 0) h last
+level_between Negative a x b (falling l h) first last = less_under x a (pos 0) l first
+level_between Zero a x b (rising l h) first last = squeezed a x b (pos 0) l h first last
+level_between Zero a x b (falling l h) first last = squeezed b x a (pos 0) h l last first
+level_between Reduced a x b (rising l h) first last = (<ℤ-≤ℤ_trans first.0 l, less_under x b full_gain h last.1)
+level_between Reduced a x b (falling l h) first last = (<ℤ-≤ℤ_trans last.0 h, less_under x a full_gain l first.1)
+level_between Full a x b (rising l h) first last = squeezed a x b full_gain l h first last
+level_between Full a x b (falling l h) first last = squeezed b x a full_gain h l last first
+level_between Raised a x b (rising l h) first last = <ℤ-≤ℤ_trans first l
+level_between Raised a x b (falling l h) first last = <ℤ-≤ℤ_trans last h
 
 less_div : (a b n : ℕ) → 0 < n → a ≤ b → a / n ≤ b / n
 less_div a b n some less = le-div (a / n) b n some (omega (arith, div-mul-le_self a n, less))
@@ -51,13 +63,19 @@ less_floor (pos a) (negsuc b) n some less = absurd (omega (arith, ints, less))
 less_floor (negsuc a) (pos b) n some less = omega (arith, ints)
 less_floor (negsuc a) (negsuc b) n some less = let h = less_div b a n some (omega (arith, ints, less)) in omega (arith, ints, h)
 
+more_times : (rise x y : ℕ) → x ≤ y → (pos rise *ℤ pos x) ≤ℤ (pos rise *ℤ pos y)
+more_times rise x y less = omega (arith, ints, mul-le-mul_left rise less)
+
+fewer_times : (rise x y : ℕ) → x ≤ y → (negsuc rise *ℤ pos y) ≤ℤ (negsuc rise *ℤ pos x)
+fewer_times rise x y less = omega (arith, ints, mul-le-mul_left (suc rise) less)
+
 times_between : (rise : ℤ) (x y z : ℕ) → x ≤ y → y ≤ z → IsBetween (rise *ℤ pos x) (rise *ℤ pos y) (rise *ℤ pos z)
-times_between (pos rise) x y z before after = rising (omega (arith, ints, mul-le-mul_left rise before)) (omega (arith, ints, mul-le-mul_left rise after))
-times_between (negsuc rise) x y z before after = falling (omega (arith, ints, mul-le-mul_left (suc rise) before)) (omega (arith, ints, mul-le-mul_left (suc rise) after))
+times_between (pos rise) x y z before after = rising (more_times rise x y before) (more_times rise y z after)
+times_between (negsuc rise) x y z before after = falling (fewer_times rise x y before) (fewer_times rise y z after)
 
 floor_between : (from a x b : ℤ) (n : ℕ) → 0 < n → IsBetween a x b → IsBetween (from +ℤ int_div_euclid a (pos n)) (from +ℤ int_div_euclid x (pos n)) (from +ℤ int_div_euclid b (pos n))
-floor_between from a x b n some (rising l h) = rising (omega (arith, ints, less_floor a x n some l)) (omega (arith, ints, less_floor x b n some h))
-floor_between from a x b n some (falling l h) = falling (omega (arith, ints, less_floor x a n some l)) (omega (arith, ints, less_floor b x n some h))
+floor_between from a x b n some (rising l h) = rising (less_added from _ _ (less_floor a x n some l)) (less_added from _ _ (less_floor x b n some h))
+floor_between from a x b n some (falling l h) = falling (less_added from _ _ (less_floor x a n some l)) (less_added from _ _ (less_floor b x n some h))
 
 -- the gain on a line at a place between two others
 pub gain_between : (p q : Point) (k j last : ℕ) → p.place < q.place → k ≤ j → j ≤ last → IsBetween (on_line p q k) (on_line p q j) (on_line p q last)
@@ -116,7 +134,7 @@ module _ (p : PartContent) (m : ℕ) (line : Line) (level : Level) (after : ℕ)
 -- ---- parts in a list
 
 sg_left : (xs : List PartContent) (y : PartContent) (i : ℕ) (p : PartContent) → slice_get xs i ≡ Some p → slice_get (xs ++ y ∷ []) i ≡ Some p
-sg_left [] y i p at = absurd (cc at)
+sg_left [] y i p at = absurd (none-some p at)
 sg_left (x ∷ xs) y zero p at = at
 sg_left (x ∷ xs) y (suc i) p at = sg_left xs y i p at
 
@@ -125,8 +143,8 @@ sg_last [] y = refl
 sg_last (x ∷ xs) y = sg_last xs y
 
 sg_split : (xs : List PartContent) (y : PartContent) (i : ℕ) (p : PartContent) → slice_get (xs ++ y ∷ []) i ≡ Some p → (slice_get xs i ≡ Some p) ⊎ (y ≡ p)
-sg_split [] y zero p at = inr (cc at)
-sg_split [] y (suc i) p at = absurd (cc at)
+sg_split [] y zero p at = inr (same_Some y p at)
+sg_split [] y (suc i) p at = absurd (none-some p at)
 sg_split (x ∷ xs) y zero p at = inl at
 sg_split (x ∷ xs) y (suc i) p at = sg_split xs y i p at
 
@@ -180,9 +198,9 @@ module _ (parts : List PartContent) (p : PartContent) (m k : ℕ) where
 -- whose own bits are asked for, by what is heard
 module _ (parts : List PartContent) (m until : ℕ) (some : m < until) where
   pub is_alone_from : (heard : Heard) → ((k : ℕ) → m ≤ k → k < until → AreHeard heard parts m k) → (found : Option Source) → IsSourceOf heard found → IsAloneFrom parts m (record { source = found; until = until })
-  is_alone_from Nothing each None is = record { some = some; same = λ k from to t o alone. (each k from to alone.heard.0 alone.heard.1 alone.heard.2).1 alone.heard.3; heard = λ s at. absurd (cc at) }
+  is_alone_from Nothing each None is = record { some = some; same = λ k from to t o alone. (each k from to alone.heard.0 alone.heard.1 alone.heard.2).1 alone.heard.3; heard = λ s at. absurd (none-some s at) }
   is_alone_from (Single s) each None is = absurd (is s refl)
-  is_alone_from Mixed each None is = record { some = some; same = λ k from to t o alone. each k from to t o alone.each; heard = λ s at. absurd (cc at) }
+  is_alone_from Mixed each None is = record { some = some; same = λ k from to t o alone. each k from to t o alone.each; heard = λ s at. absurd (none-some s at) }
   is_alone_from heard each (Some s) is =
       let are = λ (k : ℕ) (from : m ≤ k) (to : k < until). subst (λ h. AreHeard h parts m k) is (each k from to) in
       record { some = some; same = λ k from to. (are k from to).0; heard = λ r at k from to. (are k from to).1 }

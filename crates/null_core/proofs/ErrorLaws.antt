@@ -1,5 +1,5 @@
 -- Laws of errors that are appended one by one.
-use Rattle.std.proofs.Common.{◌≡◌, ℕ, ◌+◌, ◌^◌, ◌<◌, ◌≤◌, ◌++◌, ◌∷◌, [], ℤ, Bool, List, map, get_or, unsigned_abs, refl, sym, inl, inr, ◌∙◌, ap, subst, arith, to_z, of_z, w32, w64}
+use Rattle.std.proofs.Common.{◌≡◌, ℕ, ◌+◌, ◌^◌, ◌<◌, ◌≤◌, ◌++◌, ◌∷◌, [], ℤ, Bool, List, map, get_or, unsigned_abs, refl, sym, inl, inr, ◌∙◌, ap, subst, arith, to_z, of_z, w64}
 use Rattle.std.proofs.lemmas.List.{append-nil, append_assoc}
 use Rattle.std.proofs.lemmas.List.FromFn.{get_or-map-range_with_len, map-range_with_len_more}
 use Rattle.std.specs.List.{range_with_len}
@@ -37,10 +37,6 @@ module _ (a : AskedContent) (bits : List Bool) (from : ℕ) (old : List ℤ) whe
 -- a sum of at most 2 ^ 60 is the same as a number of 64 bits
 pub same_w64 : (z : ℤ) → unsigned_abs z ≤ 2 ^ 60 → to_z w64 (of_z w64 z) ≡ z
 same_w64 z small = to_z-of_z w64 z (fits_signed_from_abs w64 z (omega (arith, small)))
-
--- an error that isn't too large is the same as a number of 32 bits
-pub same_w32 : (z : ℤ) → unsigned_abs z < 2 ^ 31 → to_z w32 (of_z w32 z) ≡ z
-same_w32 z small = to_z-of_z w32 z (fits_signed_from_abs w32 z small)
 
 -- what a list by places has at one of them
 module _ (f : ℕ → ℤ) (a n i : ℕ) (xs : List ℤ) (is : xs ≡ map f (range_with_len a n)) (inside : i < n) where

@@ -1,5 +1,5 @@
 -- Laws of sound that is added place by place.
-use Rattle.std.proofs.Common.{◌≡◌, ◌≢◌, ℕ, ◌+◌, ◌^◌, ◌<◌, ◌≤◌, ℤ, pos, ◌+ℤ◌, ◌*ℤ◌, unsigned_abs, FitsSigned, List, length, set, get_or, slice_index_or, slice_range, ◌-◌, sym, ◌∙◌, ap, subst, inl, inr, arith, to_z, of_z, w32, w64}
+use Rattle.std.proofs.Common.{◌≡◌, ◌≢◌, ℕ, ◌+◌, ◌^◌, ◌<◌, ◌≤◌, ℤ, pos, ◌+ℤ◌, ◌*ℤ◌, unsigned_abs, FitsSigned, List, length, set, get_or, slice_index_or, slice_range, ◌-◌, refl, sym, ◌∙◌, ap, subst, inl, inr, arith, to_z, of_z, w32, w64}
 use Rattle.std.proofs.lemmas.Bool.{cases_lt}
 use Rattle.std.proofs.lemmas.Int.{to_z-of_z, fits_signed_from_abs}
 use Rattle.std.proofs.lemmas.List.{get_or_default, get_or-set_same, get_or-set_other, length-set}
@@ -15,6 +15,13 @@ pub record IsGainedTo (n : ℕ) (gains : ℕ → ℤ) (k : ℕ) (sound old new :
   pub long : length new ≡ length old
   pub each : (i : ℕ) → i < n → slice_index_or new i (pos 0) ≡ slice_index_or old i (pos 0) +ℤ (gains (k + i) *ℤ slice_index_or sound i (pos 0))
   pub rest : (i : ℕ) → n ≤ i → i < length old → slice_index_or new i (pos 0) ≡ slice_index_or old i (pos 0)
+
+-- before the first number, and after the last
+pub gained_none : (gains : ℕ → ℤ) (k : ℕ) (sound old : List ℤ) → IsGainedTo 0 gains k sound old old
+gained_none gains k sound old = record { long = refl; each = λ i below. absurd (omega (arith, below)); rest = λ i from below. refl }
+
+pub gained_all : (gains : ℕ → ℤ) (k : ℕ) (sound old : List ℤ) (n : ℕ) (new : List ℤ) → IsGainedTo n gains k sound old new → length old ≤ n → IsGained gains k sound old new
+gained_all gains k sound old n new sofar all = record { long = sofar.long; each = λ i below. sofar.each i (omega (arith, below, all)) }
 
 module _ (gains : ℕ → ℤ) (k : ℕ) (sound old : List ℤ) (n : ℕ) (new : List ℤ) (sofar : IsGainedTo n gains k sound old new) (inside : n < length old) where
   abbrev pub with_it : ℤ → Type 0

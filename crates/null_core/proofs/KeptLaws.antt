@@ -57,7 +57,7 @@ module _ (gain sound : ℤ) (quiet : unsigned_abs gain ≤ 2 ^ 26) (low : unsign
   product_in = rw (unsigned_abs-mul gain sound) (omega (arith, mul-le (unsigned_abs gain) (unsigned_abs sound) (2 ^ 26) (2 ^ 28) quiet low))
 
   module _ (x y : ℤ) (first : x ≡ to_z w32 (of_z w32 gain)) (second : y ≡ to_z w32 (of_z w32 sound)) where
-    product_held : to_z w64 (of_z w64 x) *ℤ to_z w64 (of_z w64 y) ≡ gain *ℤ sound
+    pub product_held : to_z w64 (of_z w64 x) *ℤ to_z w64 (of_z w64 y) ≡ gain *ℤ sound
     product_held =
         let one : to_z w64 (of_z w64 x) ≡ gain = ap (λ z. to_z w64 (of_z w64 z)) (first ∙ gain_kept) ∙ kept_wide gain (omega (arith, quiet)) in
         let other : to_z w64 (of_z w64 y) ≡ sound = ap (λ z. to_z w64 (of_z w64 z)) (second ∙ sound_kept) ∙ kept_wide sound (omega (arith, low)) in
@@ -66,11 +66,8 @@ module _ (gain sound : ℤ) (quiet : unsigned_abs gain ≤ 2 ^ 26) (low : unsign
     pub product_fits : FitsSigned w64 (to_z w64 (of_z w64 x) *ℤ to_z w64 (of_z w64 y))
     product_fits = rw product_held (fits_signed_from_abs w64 (gain *ℤ sound) (omega (arith, product_in)))
 
-    pub product_kept : to_z w64 (of_z w64 (to_z w64 (of_z w64 x) *ℤ to_z w64 (of_z w64 y))) ≡ gain *ℤ sound
-    product_kept = ap (λ z. to_z w64 (of_z w64 z)) product_held ∙ kept_wide (gain *ℤ sound) (omega (arith, product_in))
-
-    pub product_small : unsigned_abs (to_z w64 (of_z w64 (to_z w64 (of_z w64 x) *ℤ to_z w64 (of_z w64 y)))) ≤ 2 ^ 54
-    product_small = rw product_kept product_in
+    pub product_small : unsigned_abs (to_z w64 (of_z w64 x) *ℤ to_z w64 (of_z w64 y)) ≤ 2 ^ 54
+    product_small = rw product_held product_in
 
 -- small numbers stay small
 pub number_within : (z : ℤ) → unsigned_abs z ≤ 2 ^ 61 → unsigned_abs (to_z w64 (of_z w64 z)) ≤ 2 ^ 61

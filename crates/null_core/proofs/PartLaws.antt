@@ -1,5 +1,5 @@
 -- Laws of a part that is added to the mix.
-use Rattle.std.proofs.Common.{◌≡◌, ℕ, ◌+◌, ◌-◌, ◌<◌, ◌≤◌, min, max, ℤ, pos, ◌+ℤ◌, ◌*ℤ◌, true, false, ◌&&◌, nat_le, nat_lt, if◌then◌else◌, List, length, get_or, slice_range, sym, ◌∙◌, ap, subst, inl, inr, arith}
+use Rattle.std.proofs.Common.{◌≡◌, ℕ, ◌+◌, ◌-◌, ◌<◌, ◌≤◌, min, max, ℤ, pos, ◌+ℤ◌, ◌*ℤ◌, true, false, ◌&&◌, nat_le, nat_lt, if◌then◌else◌, List, length, get_or, slice_range, refl, sym, ◌∙◌, ap, subst, inl, inr, arith}
 use Rattle.std.proofs.lemmas.Bool.{cases_lt, le-leb, le-ltb, lt-ltb}
 use Rattle.std.proofs.lemmas.Bool.Decides.{leb_tells}
 use Rattle.std.proofs.Math.Bool.{and-false}
@@ -31,6 +31,16 @@ module _ (p : PartContent) where
 
   there : (m : ℕ) → p.at ≤ m → m < p.at + p.size → has_place m p ≡ true
   there m above below = ap (λ b. b && nat_lt m (p.at + p.size)) (le-leb p.at m above) ∙ lt-ltb m (p.at + p.size) below
+
+  -- a part that has none of the places adds nothing
+  pub none_added : (from low high : ℕ) (old : List ℤ) → low ≡ max from p.at → high ≡ min (from + length old) (p.at + p.size) → high ≤ low → IsPartAdded p from old old
+  none_added from low high old low_is high_is none = record {
+    long = refl;
+    each = λ i inside. sym (+ℤ_idr (get_or old i (pos 0))) ∙ ap (λ z. get_or old i (pos 0) +ℤ z) (sym (apart (from + i) (elim (cases_lt (from + i) p.at) [
+      | inl below ↦ early (from + i) below
+      | inr above ↦ late (from + i) (omega (arith, low_is, high_is, none, inside, above))
+    ])));
+  }
 
   module _ (from low high : ℕ) (old heard new : List ℤ) (low_is : low ≡ max from p.at) (high_is : high ≡ min (from + length old) (p.at + p.size)) (order : low < high)
       (heard_is : heard ≡ decoded_from p.taps p.bits (p.start + (low - p.at)) (high - low)) (gained : IsGained (gain p.points) (low - p.at) heard (slice_range old (low - from) (high - from)) new) where

@@ -1,6 +1,6 @@
 //! Where a take's own bits are asked for.
 
-ghost use Rattle.std.specs.Prelude.{◌≡◌, ◌++◌, ◌∷◌, [], ℕ, ◌^◌, ◌<◌, ◌≤◌, List, map};
+ghost use Rattle.std.specs.Prelude.{◌≡◌, ◌++◌, ◌∷◌, [], ℕ, ◌^◌, ◌<◌, ◌≤◌, IsTrue, List, map};
 ghost use Rattle.clip_core.specs.Lines.{IsOnLine, line_gain};
 ghost use Rattle.null_core.specs.Alone.{AreHeard, HasLevel, IsLevel, IsLevelUntil, IsPartHeard, IsPartHeardFrom, IsSourceOf};
 ghost use Rattle.null_core.specs.Parts.{PartContent, part_content};
@@ -52,7 +52,7 @@ struct HeardUntil {
 }
 
 // Which gains a gain is among.
-#[derive(Clone, Copy, PartialEq)]
+#[derive(Clone, Copy)]
 enum Level {
     // Below 0.
     Negative,
@@ -174,6 +174,19 @@ fn level_of(gain: i32) -> Level
     }
 }
 
+// Whether a gain has a level.
+fn has_level(gain: i32, level: Level) -> bool
+    ensures { IsTrue result → IsLevel level gain }
+{
+    match level {
+        Level::Negative => gain < 0,
+        Level::Zero => gain == 0,
+        Level::Reduced => 0 < gain && gain < FULL_GAIN,
+        Level::Full => gain == FULL_GAIN,
+        Level::Raised => FULL_GAIN < gain,
+    }
+}
+
 // The place up to which the gain on a line keeps the level that it has at place `k`. Once it leaves a level it doesn't come
 // back to it. The last place of the line is tried first: mostly it has the level as well.
 fn level_until(line: Line, k: usize, level: Level) -> usize
@@ -185,7 +198,7 @@ fn level_until(line: Line, k: usize, level: Level) -> usize
     let mut after = line.until();
     let mut tried = after - 1;
     while after - last > 1 {
-        if level_of(line.gain_at(tried)) == level {
+        if has_level(line.gain_at(tried), level) {
             last = tried;
         } else {
             after = tried;

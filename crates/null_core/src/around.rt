@@ -13,7 +13,7 @@ use std::alloc::AllocError;
 /// Lists the errors that windows read which begin `reach` places before place `first`: 0 outside of the master. If one
 /// is `2^31` or more in absolute value, the first such place is returned, and what is listed is of no use.
 pub(crate) fn list_errors_around(
-    errors: &mut Vec<i32>,
+    errors: &mut Vec<i64>,
     space: &mut MixSpace,
     asked: Asked<'_>,
     bits: &Channel<'_>,

@@ -1,15 +1,15 @@
 //! The null test of files in memory.
 
-ghost use Rattle.std.specs.Prelude.{◌≡◌, ℕ, IfErr, IfOk};
+ghost use Rattle.std.specs.Prelude.{◌≡◌, ℕ, List, IfErr, IfOk};
 ghost use Rattle.clip_core.specs.Contents.{mix_content};
 ghost use Rattle.cut_core.specs.Opening.{file_bytes};
 ghost use Rattle.null_core.specs.Calling.{Accepts, AnswersAccepted, IfAccepted, IsMixedFrom, IsNullFault, IsTakeFault, NullTests, ReadsTake, ReadsTakes};
-ghost use Rattle.null_core.specs.Candidates.{IsHeardOf};
+ghost use Rattle.null_core.specs.Candidates.{HoldsCandidate, IsHeardOf};
 ghost use Rattle.null_core.specs.Files.{IsReadIn};
 ghost use Rattle.null_core.specs.declared.fault.NullFault.TheVariants.{Memory};
 
 use crate::fault::NullFault;
-use crate::master_reading::{judge_candidate, read_master};
+use crate::master_reading::{Candidate, judge_candidate, read_master};
 use crate::mixed::Mixed;
 use crate::reading::read_take;
 use crate::verdict::Heard;
@@ -18,6 +18,7 @@ use chunk_core::Inlet;
 use clip_core::Mix;
 use cut_core::Excerpts;
 use form_core::ReadFault;
+use sound_core::StreamFault;
 use std::alloc::Global;
 
 /// How large the residual is that can be heard of a master: how far it is, as heard, from the mix that a text states,
@@ -43,20 +44,7 @@ pub fn null_test(
     // Which fault it is: the first of the text and the takes.
     ensures refused { IfErr result (IsNullFault mix.now (file_bytes takes.now)) }
 {
-    test_in_order(alloc, mix, takes, master)
-}
-
-// The same, without what follows from its clauses.
-fn test_in_order(
-    alloc: Global,
-    text: &[u8],
-    files: &[Vec<u8>],
-    master: &[u8],
-) -> Result<Result<Heard, ReadFault>, NullFault>
-    ensures found { IfOk result (NullTests text.now (file_bytes files.now) master.now) }
-    ensures refused { IfErr result (IsNullFault text.now (file_bytes files.now)) }
-{
-    let mixed = read_mixed(alloc, text, files)?;
+    let mixed = read_mixed(alloc, mix, takes)?;
     judge_file(alloc, &mixed, master)
 }
 
@@ -82,9 +70,25 @@ fn judge_file(
     ensures found { IfOk result (IsReadIn (IsHeardOf mixed.now) file.now) }
     ensures memory { IfErr result (λ fault. fault ≡ Memory) }
 {
-    match read_master(alloc, mixed, &mut Inlet::new(file)) {
-        Ok(Ok(candidate)) => Ok(Ok(judge_candidate(alloc, mixed, &candidate, &Unwatched)?)),
-        Ok(Err(fault)) => Ok(Err(fault)),
+    let found = read_master(alloc, mixed, &mut Inlet::new(file));
+    judge_found(alloc, mixed, &found)
+}
+
+// What is heard of a master by what its file holds, or the file's first fault.
+fn judge_found(
+    alloc: Global,
+    mixed: &Mixed,
+    found: &Result<Result<Candidate<'_>, ReadFault>, StreamFault>,
+) -> Result<Result<Heard, ReadFault>, NullFault>
+    ensures found { (file : List ℕ) → IfOk found.now (IsReadIn (HoldsCandidate mixed.now) file) → IfOk result (IsReadIn (IsHeardOf mixed.now) file) }
+    ensures memory { IfErr result (λ fault. fault ≡ Memory) }
+{
+    match found {
+        Ok(Ok(candidate)) => match judge_candidate(alloc, mixed, candidate, &Unwatched) {
+            Ok(heard) => Ok(Ok(heard)),
+            Err(_) => Err(NullFault::Memory),
+        },
+        Ok(Err(fault)) => Ok(Err(*fault)),
         Err(_) => Err(NullFault::Memory),
     }
 }
@@ -105,7 +109,8 @@ fn read_takes(alloc: Global, mix: &Mix, files: &[Vec<u8>]) -> Result<Vec<Excerpt
 fn take_of(alloc: Global, mix: &Mix, number: usize, file: &[u8]) -> Result<Excerpts, NullFault>
     ensures { ReadsTake (mix_content mix.now) number file.now result }
 {
-    match read_take(alloc, mix, number, &mut Inlet::new(file)) {
+    let found = read_take(alloc, mix, number, &mut Inlet::new(file));
+    match found {
         Ok(Ok(take)) => Ok(take),
         Ok(Err(ReadFault::Memory)) | Err(_) => Err(NullFault::Memory),
         Ok(Err(fault)) => Err(NullFault::TakeUnread(number, fault)),

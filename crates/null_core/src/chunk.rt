@@ -28,7 +28,7 @@ pub(crate) struct Workspace {
     /// What the mix is made in.
     pub space: MixSpace,
     /// The errors that the windows read.
-    pub errors: Vec<i32>,
+    pub errors: Vec<i64>,
     /// The residuals.
     pub sums: Vec<i64>,
 }

@@ -27,7 +27,7 @@ const SHIFT: u32 = 23;
 /// Appends the errors of the places from `from` up to `to`. If one is `2^31` or more in absolute value, the first such
 /// place is returned, and what was appended is of no use. Err is out of memory.
 pub(crate) fn push_errors(
-    errors: &mut Vec<i32>,
+    errors: &mut Vec<i64>,
     space: &mut MixSpace,
     asked: Asked<'_>,
     bits: &Channel<'_>,
@@ -46,7 +46,7 @@ pub(crate) fn push_errors(
 
 // The same where this is the mix.
 fn push_quiet(
-    errors: &mut Vec<i32>,
+    errors: &mut Vec<i64>,
     asked: Asked<'_>,
     bits: &Channel<'_>,
     from: usize,
@@ -69,7 +69,7 @@ fn push_quiet(
 }
 
 // The error at a place where this is the mix, unless it is too large.
-fn quiet_error(asked: Asked<'_>, bits: &Channel<'_>, place: usize, mix: i64) -> Option<i32>
+fn quiet_error(asked: Asked<'_>, bits: &Channel<'_>, place: usize, mix: i64) -> Option<i64>
     requires unit { asked.unit ≤ 2 ^ 28 }
     requires inside { place < length bits.now }
     requires mix { mix ≡ mix_at (map part_content asked.parts.now) place }
@@ -80,7 +80,7 @@ fn quiet_error(asked: Asked<'_>, bits: &Channel<'_>, place: usize, mix: i64) -> 
     if error.unsigned_abs() >= LOUD {
         return None;
     }
-    Some(error as i32)
+    Some(error)
 }
 
 // The error of a bit where this is the mix.

@@ -10,7 +10,7 @@ use mix_core::ProjectFault;
 use std::alloc::AllocError;
 
 /// Why takes don't fit a mix: the first fault that applies. Numbers count from 0.
-#[derive(Clone, Copy, Debug, PartialEq, Eq)]
+#[derive(Clone, Copy)]
 pub enum MixedFault {
     /// The take of this number has another sample rate or number of channels than take 0.
     TakeMismatch(usize),
@@ -31,7 +31,7 @@ impl From<AllocError> for MixedFault {
 }
 
 /// Why a master can't be compared with a mix: the first fault that applies. Numbers count from 0.
-#[derive(Clone, Copy, Debug, PartialEq, Eq)]
+#[derive(Clone, Copy, Debug)]
 pub enum NullFault {
     /// The text states no mix. This is its first fault.
     Mix(ProjectFault),

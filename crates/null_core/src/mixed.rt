@@ -1,6 +1,6 @@
 //! A mix with what it reads of its takes.
 
-ghost use Rattle.std.specs.Prelude.{◌≡◌, ◌-◌, ◌^◌, ◌<◌, ◌≤◌, ◌<ℤ◌, All, IfErr, IfOk, map, pos};
+ghost use Rattle.std.specs.Prelude.{◌≡◌, ◌-◌, ◌^◌, ◌<◌, ◌≤◌, ◌<ℤ◌, All, IfErr, IfOk, length, map, pos};
 ghost use Rattle.clip_core.specs.Contents.{mix_content};
 ghost use Rattle.clip_core.specs.Mixes as mixes;
 ghost use Rattle.clip_core.specs.Mixes.{AreTaps};
@@ -23,7 +23,7 @@ use crate::stretch::Stretch;
 use crate::watch::Watch;
 use clip_core::{Mix, mix_length, total};
 use cut_core::Excerpts;
-use dsd_bits::{Recording, stretches_of};
+use dsd_bits::{Bits, Recording, stretches_of};
 use heard_core::{Audible, Decoder};
 use std::alloc::{AllocError, Global};
 use std::marker::Model;
@@ -37,15 +37,29 @@ pub fn take_excerpts(
 ) -> Result<Excerpts, AllocError>
     ensures { IfOk result (λ h. excerpts_content h ≡ excerpts_of (mix_content mix.now) number recording) }
 {
-    let ranges = ranges_of(alloc, mix, number)?;
-    let stretches = stretches_of(alloc, recording.channels(), &ranges)?;
+    let stretches = stretches_read(alloc, mix, number, &recording)?;
     let count = recording.count();
-    let recording = recording.into_silent(alloc)?;
-    Ok(Excerpts {
-        recording,
-        count,
-        stretches,
-    })
+    match recording.into_silent(alloc) {
+        Ok(recording) => Ok(Excerpts {
+            recording,
+            count,
+            stretches,
+        }),
+        Err(fault) => Err(fault),
+    }
+}
+
+// The bits that a mix reads of a recording, its take of a number.
+fn stretches_read(
+    alloc: Global,
+    mix: &Mix,
+    number: usize,
+    recording: &Recording,
+) -> Result<Vec<Vec<Bits>>, AllocError>
+    ensures { IfOk result (λ made. map (λ stretch. stretch.items) made.items ≡ (excerpts_of (mix_content mix.now) number recording.now).stretches) }
+{
+    let ranges = ranges_of(alloc, mix, number)?;
+    stretches_of(alloc, recording.channels(), &ranges)
 }
 
 /// A mix with what it reads of its takes, ready to be compared with a master. The takes have the same sample rate and
@@ -56,6 +70,15 @@ pub struct Mixed {
     mix: Mix,
     takes: Vec<Excerpts>,
     decoders: Vec<Decoder>,
+    audible: Audible,
+}
+
+// The low-passes of a mix.
+#[derive(Drop)]
+struct LowPasses {
+    // That of each list of taps.
+    decoders: Vec<Decoder>,
+    // That which passes what can be heard.
     audible: Audible,
 }
 
@@ -83,15 +106,15 @@ impl Mixed {
         ensures fit { IfOk result (λ _. TakesFit (mix_content mix) takes.items) }
         ensures fault { IfErr result (IsFaultOfTakes (mix_content mix) takes.items) }
     {
-        fits(&mix, &takes)?;
-        let decoders = decoders_of(alloc, &mix.decoders)?;
-        let audible = Audible::new(alloc, &mix.audible)?;
-        Ok(Mixed {
-            mix,
-            takes,
-            decoders,
-            audible,
-        })
+        match low_passes_of(alloc, &mix, &takes) {
+            Ok(passes) => Ok(Mixed {
+                mix,
+                takes,
+                decoders: passes.decoders,
+                audible: passes.audible,
+            }),
+            Err(fault) => Err(fault),
+        }
     }
 
     /// The clips as a channel has them, in their order. Of its take each has the bits that were read for it, or for a
@@ -167,6 +190,20 @@ fn tap_sum(taps: &[i32]) -> u64
     ensures bound { result < 2 ^ 31 }
 {
     total(taps).unsigned_abs()
+}
+
+// The low-passes of a mix, if its takes fit it.
+fn low_passes_of(alloc: Global, mix: &Mix, takes: &[Excerpts]) -> Result<LowPasses, MixedFault>
+    requires { length takes.now ≡ length (mix_content mix.now).takes }
+    ensures decoders { IfOk result (λ passes. passes.decoders.items ≡ (mix_content mix.now).decoders) }
+    ensures audible { IfOk result (λ passes. passes.audible ≡ (mix_content mix.now).audible) }
+    ensures fit { IfOk result (λ _. TakesFit (mix_content mix.now) takes.now) }
+    ensures fault { IfErr result (IsFaultOfTakes (mix_content mix.now) takes.now) }
+{
+    fits(mix, takes)?;
+    let decoders = decoders_of(alloc, &mix.decoders)?;
+    let audible = Audible::new(alloc, &mix.audible)?;
+    Ok(LowPasses { decoders, audible })
 }
 
 // The decoder of each list of taps.

@@ -121,15 +121,5 @@ fn with_sound(mixed: i64, gain: i32, sound: i32) -> i64
     requires sound { unsigned_abs sound ≤ 2 ^ 28 }
     ensures { result ≡ mixed +ℤ (gain *ℤ sound) }
 {
-    mixed + times(gain, sound)
-}
-
-// Sound times a gain.
-fn times(gain: i32, sound: i32) -> i64
-    requires gain { unsigned_abs gain ≤ 2 ^ 26 }
-    requires sound { unsigned_abs sound ≤ 2 ^ 28 }
-    ensures value { result ≡ gain *ℤ sound }
-    ensures bound { unsigned_abs result ≤ 2 ^ 54 }
-{
-    i64::from(gain) * i64::from(sound)
+    mixed + i64::from(gain) * i64::from(sound)
 }

@@ -19,7 +19,7 @@ pub(crate) struct Peak {
 
 /// The greatest residual of the windows that begin at each `step`-th error, one for each place of `sums`. What `sums` has
 /// is written over.
-pub(crate) fn peak_of(audible: &Audible, errors: &[i32], step: usize, sums: &mut [i64]) -> Peak
+pub(crate) fn peak_of(audible: &Audible, errors: &[i64], step: usize, sums: &mut [i64]) -> Peak
     requires some { 0 < length sums.old }
     requires within { (i : ℕ) → i < length sums.old → i * step + length audible.now ≤ length errors.now }
     requires small { All IsSmall errors.now }

@@ -171,7 +171,11 @@ fn has_stretches(alloc: Global, row: &Row<'_>) -> Result<bool, NullFault> {
 #[test]
 fn finds_stretches(rt: HostRuntime) {
     for row in &ROWS {
-        assert!(rt; has_stretches(rt.alloc(), row) == Ok(true), "{}", row.clips);
+        assert!(rt;
+            has_stretches(rt.alloc(), row).unwrap_or(false),
+            "{}",
+            row.clips
+        );
     }
 }
 
@@ -228,7 +232,7 @@ fn hears_one_channel(rt: HostRuntime) -> Result<(), Fail> {
 fn hears_each_number_of_channels(rt: HostRuntime) {
     for number in 1..7 {
         assert!(rt;
-            hears_halves(rt.alloc(), number) == Ok(true),
+            hears_halves(rt.alloc(), number).unwrap_or(false),
             "{number} channels"
         );
     }
@@ -250,7 +254,7 @@ fn accepts_take(alloc: Global, number: usize) -> Result<bool, NullFault>
 fn accepts_takes_of_each_number_of_channels(rt: HostRuntime) {
     for number in 1..7 {
         assert!(rt;
-            accepts_take(rt.alloc(), number) == Ok(true),
+            accepts_take(rt.alloc(), number).unwrap_or(false),
             "{number} channels"
         );
     }
@@ -303,12 +307,12 @@ fn rejects_channels(alloc: Global, number: usize, channels: usize) -> Result<boo
 fn rejects_misfits_of_each_number_of_channels(rt: HostRuntime) {
     for number in 1..7 {
         assert!(rt;
-            rejects_half(rt.alloc(), number) == Ok(true),
+            rejects_half(rt.alloc(), number).unwrap_or(false),
             "{number} channels"
         );
         let other = number % 6 + 1;
         assert!(rt;
-            rejects_channels(rt.alloc(), number, other) == Ok(true),
+            rejects_channels(rt.alloc(), number, other).unwrap_or(false),
             "{number} channels"
         );
     }

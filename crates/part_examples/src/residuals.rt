@@ -8,11 +8,11 @@ use std::alloc::{AllocError, Global};
 use std::test::Fail;
 
 // The errors of sixteen places, and a place without one on each side.
-const ERRORS: [i32; 18] = [0, 2, 4, -8, 8, -4, -4, 8, -8, 4, 4, -8, 8, -4, -4, 8, -6, 0];
+const ERRORS: [i64; 18] = [0, 2, 4, -8, 8, -4, -4, 8, -8, 4, 4, -8, 8, -4, -4, 8, -6, 0];
 
 const RESIDUALS: [i64; 16] = [8, 2, -4, 4, -4, -4, 4, -4, 4, 4, -4, 4, -4, -4, 6, -4];
 
-fn are_small(errors: &[i32]) -> bool
+fn are_small(errors: &[i64]) -> bool
     ensures { IsTrue result → All IsSmall errors.now }
 {
     errors.iter().all(|error| error.unsigned_abs() < 1 << 31)

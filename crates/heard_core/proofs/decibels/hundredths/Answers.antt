@@ -1,3 +1,4 @@
+use Rattle.dsd_bits.proofs.ExitLaws.{no_value}
 use Rattle.std.proofs.Common.{◌≡◌, ◌∙◌, ℤ, pos, negsuc, ◌-ℤ◌, arith, subst, sym, to_z, of_z, w64}
 use Rattle.std.proofs.lemmas.Int.{ints, to_z-of_z}
 use Rattle.heard_core.specs.Levels.{IsAtMost, limit}
@@ -33,4 +34,16 @@ returns c =
     record {
       enough = c.loop-low.invariant.high_is;
       least = subst (λ (k : ℤ). IsAtMost c.args.value c.args.full k → ⊥) low c.loop-low.invariant.not_low;
+    }
+
+pub returns-in_err-is_at_level : goal.returns-in_err-is_at_level
+returns-in_err-is_at_level c = no_value _ _ c.from_residual.result c.from_residual.ensures.1
+
+pub loop-low-preserved-then-branch : goal.loop-low-preserved-then-branch
+loop-low-preserved-then-branch c =
+    let middle : to_z w64 (of_z w64 c.between-middle.result) ≡ c.between-middle.result = to_z-of_z w64 c.between-middle.result (record { sfits = c.between-middle.type_inv }) in
+    record {
+      order = rw middle c.between-middle.ensures.above;
+      not_low = c.loop-low.invariant.not_low;
+      high_is = c.in_ok-is_at_level.ensures.0 c.if-branch.true;
     }

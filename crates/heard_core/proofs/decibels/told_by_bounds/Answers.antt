@@ -5,4 +5,4 @@ use Rattle.heard_core.proofs.decibels.told_by_bounds.Goals as goal
 
 pub returns : goal.returns
 returns c =
-    order_told c.in_ok-bounds_of.field-0 c.in_ok-bounds_of-2.field-0 (strength c.args.x * 10 ^ c.args.tens) (strength c.args.y * 10 ^ c.args.more_tens) c.is_at_most_by.result c.in_ok-bounds_of.ensures c.in_ok-bounds_of-2.ensures c.is_at_most_by.ensures
+    order_told c.bounds_of.result c.bounds_of-2.result (strength c.args.x * 10 ^ c.args.tens) (strength c.args.y * 10 ^ c.args.more_tens) c.is_at_most_by.result c.bounds_of.ensures c.bounds_of-2.ensures c.is_at_most_by.ensures

@@ -1,3 +1,4 @@
+use Rattle.dsd_bits.proofs.ExitLaws.{no_value}
 use Rattle.std.proofs.Common.{◌+◌, ◌*◌, ◌^◌, ◌∙◌, ◌++◌, [], ◌∷◌, arith, ap}
 use Rattle.std.proofs.lemmas.List.{take-append-le, take_all}
 use Rattle.heard_core.specs.Naturals.{base, natural}
@@ -14,3 +15,6 @@ returns-in_ok-push c =
     ∙ ap (λ n. natural xs + carry * base ^ n) c.multiply_limbs-carry.ensures.len
     ∙ c.multiply_limbs-carry.ensures.value
     ∙ ap (λ ys. natural ys * c.args.factor) c.as_mut_slice.ensures.value
+
+pub returns-in_err-push : goal.returns-in_err-push
+returns-in_err-push c = no_value _ _ c.from_residual.result c.from_residual.ensures.1

@@ -1,3 +1,4 @@
+use Rattle.dsd_bits.proofs.ExitLaws.{no_value}
 use Rattle.std.proofs.Common.{[], ◌∷◌, ◌++◌, ◌∙◌, List, ap, arith, sym}
 use Rattle.std.proofs.lemmas.List.FromFn.{map-range_with_len_more}
 use Rattle.heard_core.specs.Pieces.{piece}
@@ -18,3 +19,6 @@ loop-k-preserved c =
     c.in_ok-push_piece.ensures
     ∙ ap (λ (xs : List Piece). xs ++ piece taps k ∷ []) c.loop-k.invariant
     ∙ sym (map-range_with_len_more (piece taps) 0 k k (omega arith))
+
+pub returns-in_err-push_piece : goal.returns-in_err-push_piece
+returns-in_err-push_piece c = no_value _ _ c.from_residual.result c.from_residual.ensures.1

@@ -12,13 +12,13 @@ pub loop-w-preserved : goal.loop-w-preserved
 loop-w-preserved g c =
     let w = c.loop-w.w in
     let now = c.loop-w.sums in
-    let ts = take 8 c.args.taps.now in
+    let ts = take 4 c.args.taps.now in
     record {
-      long = length-set now w c.add_eight.result ∙ c.loop-w.invariant.long;
+      long = length-set now w c.add_four.result ∙ c.loop-w.invariant.long;
       done = below_more _ _
           (λ v h. let ne : v ≢ w = omega arith in rw get_or-set_other (c.loop-w.invariant.done v h))
-          (one_added w _ (dot ts (drop (w * c.args.step) c.args.errors.now)) c.args.sums.now now c.add_eight.result (omega (arith, c.loop-w.invariant.long))
-          (dot_rest ts (w * c.args.step) c.args.errors.now) (c.loop-w.invariant.rest w (omega arith)) c.add_eight.ensures);
+          (one_added w _ (dot ts (drop (w * c.args.step) c.args.errors.now)) c.args.sums.now now c.add_four.result (omega (arith, c.loop-w.invariant.long))
+          (dot_rest ts (w * c.args.step) c.args.errors.now) (c.loop-w.invariant.rest w (omega arith)) c.add_four.ensures);
       rest = λ v h. let ne : v ≢ w = omega arith in rw get_or-set_other (c.loop-w.invariant.rest v (omega arith));
     }
 
@@ -28,8 +28,8 @@ returns-clause-sums g c = λ w h. c.loop-w.invariant.done w (omega arith)
 pub overflow_mul-start : goal.overflow_mul-start
 overflow_mul-start g c = record { fits = omega (arith, c.requires.errors c.loop-w.w c.loop-w-test.true) }
 
-pub add_eight-requires : goal.add_eight-requires
-add_eight-requires g c =
+pub add_four-requires : goal.add_four-requires
+add_four-requires g c =
     let es = c.args.errors.now in
     let p = c.loop-w.w * c.args.step in
     record {

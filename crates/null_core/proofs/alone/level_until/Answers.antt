@@ -1,4 +1,4 @@
-use Rattle.std.proofs.Common.{◌≡◌, ℕ, ◌+◌, ◌-◌, ◌/◌, ◌<◌, ℤ, true, arith, rules, subst, to_z, of_z, w32, ◌∙◌}
+use Rattle.std.proofs.Common.{◌≡◌, ℕ, ◌+◌, ◌-◌, ◌/◌, ◌<◌, IsTrue, arith, subst, to_z, of_z, w32, ◌∙◌}
 use Rattle.clip_core.specs.declared.line.Line.{Line}
 use Rattle.clip_core.specs.Lines.{line_gain}
 use Rattle.clip_core.proofs.LineLaws.{kept}
@@ -7,7 +7,7 @@ use Rattle.null_core.specs.Alone.{IsLevel}
 use Rattle.null_core.proofs.AloneLaws.{level_to}
 use Rattle.null_core.proofs.alone.level_until.Invariants.{IsBracket}
 use Rattle.null_core.proofs.alone.level_until.Goals as goal
-use Rattle.null_core.proofs.alone.level_until.Goals.{After-eq, then-eq, else-eq}
+use Rattle.null_core.proofs.alone.level_until.Goals.{After-has_level, then-has_level, else-has_level}
 
 -- half of what is left
 halved : (n : ℕ) → 1 < n → (0 < n / 2) × (n / 2 < n)
@@ -43,11 +43,10 @@ module _ (line : Line) (k : ℕ) (level : Level) (last tried after : ℕ) (kept 
   less_lowered = omega (arith, kept.between, kept.below, some)
 
 -- the level at the place that was tried
-level_is : (c : After-eq) → c.eq.result ≡ true → IsLevel c.args.level (line_gain c.args.line c.loop-after.tried)
-level_is c same =
-    let found : c.level_of.result ≡ c.args.level = search (rules, c.eq.ensures, same) in
+level_is : (c : After-has_level) → IsTrue c.has_level.result → IsLevel c.args.level (line_gain c.args.line c.loop-after.tried)
+level_is c has =
     let gain : to_z w32 (of_z w32 c.gain_at.result) ≡ line_gain c.args.line c.loop-after.tried = kept c.gain_at.result (omega (arith, c.gain_at.ensures.bound)) ∙ c.gain_at.ensures.value in
-    subst (λ (l : Level). IsLevel l (line_gain c.args.line c.loop-after.tried)) found (subst (λ (g : ℤ). IsLevel c.level_of.result g) gain c.level_of.ensures)
+    subst (IsLevel c.args.level) gain (c.has_level.ensures has)
 
 pub overflow_sub-tried : goal.overflow_sub-tried
 overflow_sub-tried c = omega (arith, c.requires.on.not_ended, c.until-after.ensures.value)
@@ -73,17 +72,17 @@ gain_at-requires c =
 pub loop-after-preserved : goal.loop-after-preserved
 loop-after-preserved c =
     let loop = c.loop-after in
-    elim c.if-eq.branch [
-      | then-eq w ↦ rw (w.last-is, w.after-is) (raised c.args.line c.args.k c.args.level loop.last loop.tried loop.after loop.invariant c.loop-after-test.true (level_is (goal.at.loop-after-preserved c).After-eq w.if-eq.true))
-      | else-eq w ↦ rw (w.last-is, w.after-is) (lowered c.args.line c.args.k c.args.level loop.last loop.tried loop.after loop.invariant c.loop-after-test.true)
+    elim c.if-has_level.branch [
+      | then-has_level w ↦ rw (w.last-is, w.after-is) (raised c.args.line c.args.k c.args.level loop.last loop.tried loop.after loop.invariant c.loop-after-test.true (level_is (goal.at.loop-after-preserved c).After-has_level w.if-has_level.true))
+      | else-has_level w ↦ rw (w.last-is, w.after-is) (lowered c.args.line c.args.k c.args.level loop.last loop.tried loop.after loop.invariant c.loop-after-test.true)
     ]
 
 pub loop-after-smaller : goal.loop-after-smaller
 loop-after-smaller c =
     let loop = c.loop-after in
-    elim c.if-eq.branch [
-      | then-eq w ↦ rw (w.last-is, w.after-is) (less_raised c.args.line c.args.k c.args.level loop.last loop.tried loop.after loop.invariant c.loop-after-test.true)
-      | else-eq w ↦ rw (w.last-is, w.after-is) (less_lowered c.args.line c.args.k c.args.level loop.last loop.tried loop.after loop.invariant c.loop-after-test.true)
+    elim c.if-has_level.branch [
+      | then-has_level w ↦ rw (w.last-is, w.after-is) (less_raised c.args.line c.args.k c.args.level loop.last loop.tried loop.after loop.invariant c.loop-after-test.true)
+      | else-has_level w ↦ rw (w.last-is, w.after-is) (less_lowered c.args.line c.args.k c.args.level loop.last loop.tried loop.after loop.invariant c.loop-after-test.true)
     ]
 
 pub returns : goal.returns

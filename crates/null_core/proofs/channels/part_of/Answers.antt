@@ -1,5 +1,6 @@
 use Rattle.std.proofs.Common.{◌≡◌, ◌∙◌, ◌-◌, [], ap, get_or, length, map, subst, sym, arith, pos, ◌-ℤ◌, of_z, to_z, w64}
 use Rattle.std.proofs.lemmas.List.{get_or_read_under}
+use Rattle.dsd_bits.specs.declared.stretches.BitRange.{BitRange}
 use Rattle.clip_core.specs.Clips.{ClipContent, points_of}
 use Rattle.clip_core.specs.Contents.{mix_content}
 use Rattle.clip_core.specs.Gains.{ArePoints}
@@ -10,7 +11,7 @@ use Rattle.null_core.specs.Likeness.{IsExcerptOf}
 use Rattle.null_core.specs.Parts.{IsPart}
 use Rattle.null_core.specs.Reading.{HasBits, MixedContent, bits_at, mixed_of}
 use Rattle.null_core.proofs.ErrorLaws.{same_w64}
-use Rattle.null_core.proofs.ReadingLaws.{has_bits, held_fits, held_part, is_excerpt}
+use Rattle.null_core.proofs.ReadingLaws.{has_bits, held_fits, held_part, is_excerpt, starts_before}
 use Rattle.null_core.proofs.channels.part_of.Goals as goal
 use Rattle.null_core.proofs.channels.part_of.Goals.{After-clip_range, After-holder-held}
 
@@ -81,3 +82,11 @@ returns-clause-part c takes read =
     let mixed = mixed_of (mix_content c.args.mix.now) c.args.takes.now in
     subst (IsExcerptOf (part_of (mix_content c.args.mix.now) takes c.args.channel (clip_at (mix_content c.args.mix.now) c.args.clip))) (sym (is_held here))
     (is_excerpt mixed c.requires.mixed takes read c.args.mix.now.limits c.args.channel c.args.clip c.holder-held.result c.requires.clip c.requires.channel c.holder-held.ensures)
+
+pub bounds-decoders-here : goal.bounds-decoders-here
+bounds-decoders-here c = omega (arith, c.clip_at-here.ensures.fits.decoder_is_there, ap length c.requires.decoders)
+
+pub overflow_sub-result : goal.overflow_sub-result
+overflow_sub-result c =
+    let before = starts_before (mixed_of (mix_content c.args.mix.now) c.args.takes.now) c.requires.mixed c.requires.mixed.takes c.requires.mixed.read c.args.mix.now.limits c.args.channel c.args.clip c.holder-held.result c.requires.clip c.requires.channel c.holder-held.ensures in
+    omega (arith, before, ap (λ (k : ClipContent). k.start) c.clip_at-here.ensures.value, ap (λ (r : BitRange). r.start) c.clip_range.ensures)

@@ -1,6 +1,6 @@
 use Rattle.std.proofs.Common.{◌≡◌, ◌+◌, ◌-◌, map, pos, length, get_or, ◌∙◌, subst, arith}
 use Rattle.null_core.specs.Parts.{asked_content, mix_at, part_content}
-use Rattle.null_core.proofs.ErrorLaws.{AreSoFar, none_so_far, one_more, same_w32, same_w64, listed_at}
+use Rattle.null_core.proofs.ErrorLaws.{AreSoFar, none_so_far, one_more, same_w64, listed_at}
 use Rattle.null_core.proofs.errors.push_quiet.Goals as goal
 
 pub loop-i-init : goal.loop-i-init
@@ -24,7 +24,7 @@ quiet_error-requires-clause-small c =
 pub loop-i-preserved : goal.loop-i-preserved
 loop-i-preserved c =
     let more = one_more (asked_content c.args.asked) c.args.bits.now c.args.from c.args.errors.now.items c.loop-i.i c.loop-i.errors.items c.loop-i.invariant c.in-Some.error c.in-Some.ensures.value c.in-Some.ensures.quiet in
-    rw (c.in_ok-push-in-Some.ensures.items, same_w32 c.in-Some.error c.in-Some.ensures.quiet) more
+    rw (c.in_ok-push-in-Some.ensures.items, same_w64 c.in-Some.error (omega (arith, c.in-Some.ensures.quiet))) more
 
 pub returns-in-None : goal.returns-in-None
 returns-in-None c = record {

@@ -1,6 +1,6 @@
 use Rattle.std.proofs.Common.{◌∙◌, ◌<◌, pos, get_or, length, sym, arith}
 use Rattle.clip_core.specs.Lines.{line_gain}
-use Rattle.null_core.proofs.GainLaws.{gained_more, next_within, sum_with_it}
+use Rattle.null_core.proofs.GainLaws.{gained_all, gained_more, gained_none, next_within, sum_with_it}
 use Rattle.null_core.proofs.KeptLaws.{gain_within, sound_within}
 use Rattle.null_core.proofs.mixing.add_line.Goals as goal
 
@@ -35,3 +35,23 @@ with_sound-requires-in-loop-i-else-is_level c =
       gain = gain_within c.gain_at.result c.gain_at.ensures.bound;
       sound = sound_within (get_or c.args.sound.now loop.i (pos 0)) (c.requires.sound loop.i c.loop-i-else-is_level-test.true);
     }
+
+pub loop-i-init : goal.loop-i-init
+loop-i-init c = gained_none (line_gain c.args.line) c.args.k c.args.sound.now c.args.mixed.now
+
+pub loop-i-else-is_level-init : goal.loop-i-else-is_level-init
+loop-i-else-is_level-init c = gained_none (line_gain c.args.line) c.args.k c.args.sound.now c.args.mixed.now
+
+pub bounds-mixed-i : goal.bounds-mixed-i
+bounds-mixed-i c = omega (arith, c.loop-i.invariant.long, c.loop-i-test.true, c.requires.long)
+
+pub bounds-mixed-i-in-loop-i-else-is_level : goal.bounds-mixed-i-in-loop-i-else-is_level
+bounds-mixed-i-in-loop-i-else-is_level c = omega (arith, c.loop-i-else-is_level.invariant.long, c.loop-i-else-is_level-test.true, c.requires.long)
+
+pub returns-after-loop-i : goal.returns-after-loop-i
+returns-after-loop-i c = gained_all (line_gain c.args.line) c.args.k c.args.sound.now c.args.mixed.now c.loop-i.i c.loop-i.mixed c.loop-i.invariant (omega (arith, c.loop-i-test.false, c.requires.long))
+
+pub returns-after-loop-i-else-is_level : goal.returns-after-loop-i-else-is_level
+returns-after-loop-i-else-is_level c =
+    let loop = c.loop-i-else-is_level in
+    gained_all (line_gain c.args.line) c.args.k c.args.sound.now c.args.mixed.now loop.i loop.mixed loop.invariant (omega (arith, c.loop-i-else-is_level-test.false, c.requires.long))

@@ -1,4 +1,4 @@
-use Rattle.std.proofs.Common.{◌≡◌, ◌∙◌, ◌+◌, ◌∷◌, [], Bool, Global, List, Ok, Err, Vec, ap, arith, get_or, length, map, refl, subst, sym}
+use Rattle.std.proofs.Common.{◌≡◌, ◌∙◌, ◌+◌, ◌++◌, ◌∷◌, [], Bool, Global, List, Ok, Err, Vec, ap, arith, get_or, length, map, refl, subst, sym}
 use Rattle.std.proofs.lemmas.List.{get_or_read_under, map-append}
 use Rattle.dsd_bits.proofs.ExitLaws.{no_value}
 use Rattle.null_core.specs.declared.stretch.Stretch.{Stretch}
@@ -22,7 +22,7 @@ loop-channel-init g c = rw c.new-stretches.ensures.items (none_judged c.args.mix
 pub loop-channel-preserved : goal.loop-channel-preserved
 loop-channel-preserved g c =
     let here = (goal.at.loop-channel-preserved g c).In_ok-found in
-    let pushed = ap (map items) c.in_ok-push-in-Ok.ensures.items ∙ map-append items c.loop-channel.stretches.items (c.in-Ok.found ∷ []) in
+    let pushed = ap (map items) {y = c.loop-channel.stretches.items ++ c.in-Ok.found ∷ []} c.in_ok-push-in-Ok.ensures.items ∙ map-append items c.loop-channel.stretches.items (c.in-Ok.found ∷ []) in
     subst (AreJudgedTo c.args.mixed.now c.args.channels.now (c.loop-channel.channel + 1)) (sym pushed)
     (more_judged c.args.mixed.now c.args.channels.now c.loop-channel.channel (map items c.loop-channel.stretches.items) c.in-Ok.found.items c.loop-channel.invariant
     (subst (λ (bits : List Bool). JudgesChannelOf c.args.mixed.now c.loop-channel.channel bits (Ok c.in-Ok.found.items)) (bits_are g here)

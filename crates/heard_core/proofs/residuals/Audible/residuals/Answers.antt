@@ -52,7 +52,7 @@ pub put_windows-requires-in-loop-i-clause-within : goal.put_windows-requires-in-
 put_windows-requires-in-loop-i-clause-within c = λ i h. omega (arith, c.requires.within i (omega (arith, h, c.loop-i.auto.sums, c.loop-group.auto.sums)), as_many (goal.at.put_windows-requires-in-loop-i-clause-within c).After-as_slice-taps)
 
 pub loop-group-preserved : goal.loop-group-preserved
-loop-group-preserved c = λ k h. elim (cases_lt k (4 * c.loop-group.group)) [
+loop-group-preserved c = λ k h. elim (cases_lt k (8 * c.loop-group.group)) [
   | inl before ↦ c.put_windows.ensures.kept k before ∙ c.loop-group.invariant k before
   | inr after ↦ c.put_windows.ensures.put k after (omega arith)
 ]

@@ -5,7 +5,8 @@ use Rattle.std.proofs.lemmas.Grind.{flat_map-append}
 use Rattle.std.proofs.lemmas.List.{append-nil}
 use Rattle.std.proofs.lemmas.List.Elements.{All-append, All-cons, All-nil}
 use Rattle.std.proofs.lemmas.List.Folds.{list_any-append}
-use Rattle.words_core.specs.Lines.{IsItemOf, Item, Line, end_in, end_words, ends_of, has_check, is_check_item, item_words, line_words, name_in, names_of, start_in, starts_of}
+use Rattle.words_core.specs.Lines.{IsItemOf, Item, Line, end_words, has_flag, is_flag, item_words, line_words, name_in, names_of, value_in, values_of}
+use Rattle.words_core.specs.declared.options.OptionName.{OptionName}
 
 -- a command line with one more item
 abbrev pub with_item : Line → Item → Line
@@ -28,14 +29,11 @@ module _ (line : Line) (item : Item) where
   pub names_more : line.after_end ≡ None → names_of (with_item line item) ≡ names_of line ++ name_in item
   names_more none = items_more_end name_in line.items item (unwrap_or line.after_end []) (ap (λ (o : Option (List (List ℕ))). unwrap_or o []) none)
 
-  pub starts_more : starts_of (with_item line item) ≡ starts_of line ++ start_in item
-  starts_more = items_more start_in line.items item
+  pub values_more : (option : OptionName) → values_of option (with_item line item) ≡ values_of option line ++ value_in option item
+  values_more option = items_more (value_in option) line.items item
 
-  pub ends_more : ends_of (with_item line item) ≡ ends_of line ++ end_in item
-  ends_more = items_more end_in line.items item
-
-  pub check_more : has_check (with_item line item) ≡ (has_check line || (is_check_item item || false))
-  check_more = list_any-append is_check_item line.items (item ∷ [])
+  pub flag_more : (option : OptionName) → has_flag option (with_item line item) ≡ (has_flag option line || (is_flag option item || false))
+  flag_more option = list_any-append (is_flag option) line.items (item ∷ [])
 
   pub may_come_more : All (IsItemOf line.command) line.items → IsItemOf line.command item → All (IsItemOf line.command) (line.items ++ item ∷ [])
   may_come_more each one = All-append (IsItemOf line.command) line.items (item ∷ []) each (All-cons (IsItemOf line.command) item [] one (All-nil (IsItemOf line.command)))

@@ -1,24 +1,200 @@
 -- What one more word of a command line leaves read.
-use Rattle.std.proofs.Common.{◌≡◌, ◌↔◌, ◌∙◌, ◌+◌, ◌++◌, ◌<◌, ◌≤◌, ◌∷◌, ◌⊎◌, ◌||◌, [], All, Bool, Contains, Err, IfErr, IfOk, IsTrue, List, None, Ok, OnOk, Option, Result, Some, add-one, ap, append_assoc, arith, codes, drop, false, get_or, inl, inr, length, map, nat_eq, refl, subst, sym, take, true, true≢false, unwrap_or, ℕ}
+use Rattle.std.proofs.Common.{◌≡◌, ◌↔◌, ◌∙◌, ◌+◌, ◌++◌, ◌<◌, ◌≤◌, ◌∷◌, ◌⊎◌, ◌||◌, [], All, Bool, Contains, Err, IfErr, IfOk, IsTrue, List, None, Ok, OnOk, Option, Result, Some, add-one, ap, append_assoc, arith, codes, drop, false, get_or, inl, inr, length, map, nat_eq, refl, subst, sym, take, true, true≢false, unwrap_or, ℕ, if◌then◌else◌}
 use Rattle.std.specs.Borrow.{Bor}
 use Rattle.std.specs.List.{IsAnyAnswer, flat_map}
 use Rattle.std.specs.Cmp.Lexicographic.{other_text, pointwise, same_text}
 use Rattle.std.proofs.lemmas.List.{append-nil, get_or-map, length-map, map-append, take_all, take_more}
-use Rattle.std.proofs.lemmas.List.Elements.{All-nil}
+use Rattle.std.proofs.lemmas.List.Elements.{All-cons, All-nil}
 use Rattle.place_core.specs.declared.place.Place.{Place}
-use Rattle.words_core.specs.Asked.{AreNamesOf, AreOptionsOf, HasPlaces, IsGiven, IsUnasked, IsUnread, LineAsks, NamesPlace, TakesForm, commands}
-use Rattle.words_core.specs.Lines.{IsItemOf, IsName, IsOptionOf, IsPlaceWord, Item, Line, end_in, end_words, ends_of, has_check, is_check_item, item_words, line_words, name_in, names_of, start_in, starts_of}
-use Rattle.words_core.specs.Lines.{Name, Check, From, To}
-use Rattle.words_core.specs.Reading.{AddsName, AddsPlace, IsAwaited, IsMisused, IsNext, IsReadAs, IsReadFrom, IsReadUpTo, KeepsOptions, ReadAsks, ReadRefused, ReadsWord, texts, waiting_words}
+use Rattle.words_core.specs.Asked.{AreGiven, AreNamesOf, HasPlaces, IsGiven, IsUnasked, IsNamed, IsUnread, LineAsks, NamesPlace, TakesForm, commands}
+use Rattle.words_core.specs.Lines.{IsItemOf, IsName, IsOptionOf, IsTaken, IsValueWord, Item, Line, Takes, TakesValue, end_words, has_flag, is_flag, item_words, line_words, name_in, names_of, text_of, value_in, values_of}
+use Rattle.words_core.specs.Lines.{Name, Flag, Valued}
+use Rattle.words_core.specs.Reading.{AddsName, AddsValue, AreNone, IsAwaited, IsFree, IsMisused, IsNext, IsReadAs, IsReadFrom, IsReadUpTo, ReadAsks, ReadRefused, ReadsWord, SetsFile, SetsFlag, SetsPlace, SetsValue, texts, waiting_words}
+use Rattle.words_core.specs.declared.options.OptionName.{OptionName}
+use Rattle.words_core.specs.declared.options.OptionName.TheVariants as option_names
+use Rattle.words_core.specs.declared.options.Options.{Options}
+use Rattle.words_core.specs.declared.options.Taken.{Taken}
+use Rattle.words_core.specs.declared.options.Taken.TheVariants as taken
+use Rattle.words_core.specs.declared.options.Taken.TheVariants.{Nothing}
 use Rattle.words_core.specs.declared.fault.Misfit.TheVariants.{Names}
 use Rattle.words_core.specs.declared.fault.WordsFault.{WordsFault}
 use Rattle.words_core.specs.declared.fault.WordsFault.TheVariants.{Memory, NoText, UnknownForm, WrongUsage}
 use Rattle.words_core.specs.declared.task.Task.{Task}
-use Rattle.words_core.specs.declared.task.Task.TheVariants as tasks
 use Rattle.words_core.specs.declared.reading.Words.{Words}
 use Rattle.words_core.specs.declared.reading.Next.{Next}
-use Rattle.words_core.specs.declared.reading.Next.TheVariants.{Any, PlaceOf, NameOnly}
-use Rattle.words_core.proofs.LineLaws.{check_more, ends_more, may_come_more, names_more, or_false, or_true, starts_more, with_item, words_more}
+use Rattle.words_core.specs.declared.reading.Next.TheVariants.{Any, ValueOf, NameOnly}
+use Rattle.words_core.proofs.LineLaws.{flag_more, may_come_more, names_more, or_false, or_true, values_more, with_item, words_more}
+
+-- ---- what follows an option is one thing
+abbrev number_of : Taken → ℕ
+number_of Nothing = 0
+number_of taken.Place = 1
+number_of taken.File = 2
+
+place_not_nothing : taken.Place ≡ Nothing → ⊥
+place_not_nothing is = let e : 1 ≡ 0 = ap number_of is in omega (arith, e)
+
+file_not_nothing : taken.File ≡ Nothing → ⊥
+file_not_nothing is = let e : 2 ≡ 0 = ap number_of is in omega (arith, e)
+
+place_not_file : taken.Place ≡ taken.File → ⊥
+place_not_file is = let e : 1 ≡ 2 = ap number_of is in omega (arith, e)
+
+-- ---- what options say of a command line with one more item
+module _ (line : Line) (item : Item) where
+  values_still : (option : OptionName) → value_in option item ≡ [] → values_of option (with_item line item) ≡ values_of option line
+  values_still option none = values_more line item option ∙ ap (λ more. values_of option line ++ more) none ∙ append-nil (values_of option line)
+
+  place_still : (option : OptionName) (place : Option Place) → value_in option item ≡ [] → IsGiven (values_of option line) place → IsGiven (values_of option (with_item line item)) place
+  place_still option place none = subst (λ (values : List (List ℕ)). IsGiven values place) (sym (values_still option none))
+
+  file_still : (option : OptionName) (file : Option (Bor (List ℕ))) → value_in option item ≡ [] → IsNamed (values_of option line) file → IsNamed (values_of option (with_item line item)) file
+  file_still option file none = subst (λ (values : List (List ℕ)). IsNamed values file) (sym (values_still option none))
+
+  flag_still : (option : OptionName) (flag : Bool) → is_flag option item ≡ false → flag ≡ has_flag option line → flag ≡ has_flag option (with_item line item)
+  flag_still option flag none was = was ∙ sym (flag_more line item option ∙ ap (λ (b : Bool). (has_flag option line || (b || false))) none ∙ or_false (has_flag option line))
+
+  flag_there : (option : OptionName) → is_flag option item ≡ true → true ≡ has_flag option (with_item line item)
+  flag_there option there = sym (flag_more line item option ∙ ap (λ (b : Bool). (has_flag option line || (b || false))) there ∙ or_true (has_flag option line))
+
+  place_there : (option : OptionName) (word : List ℕ) (place : Place) → values_of option line ≡ [] → value_in option item ≡ word ∷ [] → NamesPlace word (Some place)
+      → IsGiven (values_of option (with_item line item)) (Some place)
+  place_there option word place none there named = (word, values_more line item option ∙ ap (λ values. values ++ value_in option item) none ∙ there, named)
+
+  file_there : (option : OptionName) (word : List ℕ) (file : Bor (List ℕ)) → values_of option line ≡ [] → value_in option item ≡ word ∷ [] → file.now ≡ word
+      → IsNamed (values_of option (with_item line item)) (Some file)
+  file_there option word file none there is = values_more line item option ∙ ap (λ values. values ++ value_in option item) none ∙ there ∙ ap (λ w. w ∷ []) (sym is)
+
+module _ (line : Line) (given : Options) (was : AreGiven line given) where
+  name_given : (word : List ℕ) → AreGiven (with_item line (Name word)) given
+  name_given word = record {
+    from = place_still line (Name word) option_names.From given.from refl was.from;
+    to = place_still line (Name word) option_names.To given.to refl was.to;
+    previous = file_still line (Name word) option_names.Previous given.previous refl was.previous;
+    next = file_still line (Name word) option_names.Next given.next refl was.next;
+    speakers = flag_still line (Name word) option_names.Speakers given.speakers refl was.speakers;
+    dop = flag_still line (Name word) option_names.Dop given.dop refl was.dop;
+    check = flag_still line (Name word) option_names.Check given.check refl was.check;
+  }
+
+  speakers_given : AreGiven (with_item line (Flag option_names.Speakers)) (record given { speakers = true })
+  speakers_given = record {
+    from = place_still line (Flag option_names.Speakers) option_names.From given.from refl was.from;
+    to = place_still line (Flag option_names.Speakers) option_names.To given.to refl was.to;
+    previous = file_still line (Flag option_names.Speakers) option_names.Previous given.previous refl was.previous;
+    next = file_still line (Flag option_names.Speakers) option_names.Next given.next refl was.next;
+    speakers = flag_there line (Flag option_names.Speakers) option_names.Speakers refl;
+    dop = flag_still line (Flag option_names.Speakers) option_names.Dop given.dop refl was.dop;
+    check = flag_still line (Flag option_names.Speakers) option_names.Check given.check refl was.check;
+  }
+
+  dop_given : AreGiven (with_item line (Flag option_names.Dop)) (record given { dop = true })
+  dop_given = record {
+    from = place_still line (Flag option_names.Dop) option_names.From given.from refl was.from;
+    to = place_still line (Flag option_names.Dop) option_names.To given.to refl was.to;
+    previous = file_still line (Flag option_names.Dop) option_names.Previous given.previous refl was.previous;
+    next = file_still line (Flag option_names.Dop) option_names.Next given.next refl was.next;
+    speakers = flag_still line (Flag option_names.Dop) option_names.Speakers given.speakers refl was.speakers;
+    dop = flag_there line (Flag option_names.Dop) option_names.Dop refl;
+    check = flag_still line (Flag option_names.Dop) option_names.Check given.check refl was.check;
+  }
+
+  check_given : AreGiven (with_item line (Flag option_names.Check)) (record given { check = true })
+  check_given = record {
+    from = place_still line (Flag option_names.Check) option_names.From given.from refl was.from;
+    to = place_still line (Flag option_names.Check) option_names.To given.to refl was.to;
+    previous = file_still line (Flag option_names.Check) option_names.Previous given.previous refl was.previous;
+    next = file_still line (Flag option_names.Check) option_names.Next given.next refl was.next;
+    speakers = flag_still line (Flag option_names.Check) option_names.Speakers given.speakers refl was.speakers;
+    dop = flag_still line (Flag option_names.Check) option_names.Dop given.dop refl was.dop;
+    check = flag_there line (Flag option_names.Check) option_names.Check refl;
+  }
+
+  from_given : (is_joined : Bool) (word : List ℕ) (place : Place) → values_of option_names.From line ≡ [] → NamesPlace word (Some place)
+      → AreGiven (with_item line (Valued option_names.From is_joined word)) (record given { from = Some place })
+  from_given is_joined word place none named = record {
+    from = place_there line (Valued option_names.From is_joined word) option_names.From word place none refl named;
+    to = place_still line (Valued option_names.From is_joined word) option_names.To given.to refl was.to;
+    previous = file_still line (Valued option_names.From is_joined word) option_names.Previous given.previous refl was.previous;
+    next = file_still line (Valued option_names.From is_joined word) option_names.Next given.next refl was.next;
+    speakers = flag_still line (Valued option_names.From is_joined word) option_names.Speakers given.speakers refl was.speakers;
+    dop = flag_still line (Valued option_names.From is_joined word) option_names.Dop given.dop refl was.dop;
+    check = flag_still line (Valued option_names.From is_joined word) option_names.Check given.check refl was.check;
+  }
+
+  to_given : (is_joined : Bool) (word : List ℕ) (place : Place) → values_of option_names.To line ≡ [] → NamesPlace word (Some place)
+      → AreGiven (with_item line (Valued option_names.To is_joined word)) (record given { to = Some place })
+  to_given is_joined word place none named = record {
+    from = place_still line (Valued option_names.To is_joined word) option_names.From given.from refl was.from;
+    to = place_there line (Valued option_names.To is_joined word) option_names.To word place none refl named;
+    previous = file_still line (Valued option_names.To is_joined word) option_names.Previous given.previous refl was.previous;
+    next = file_still line (Valued option_names.To is_joined word) option_names.Next given.next refl was.next;
+    speakers = flag_still line (Valued option_names.To is_joined word) option_names.Speakers given.speakers refl was.speakers;
+    dop = flag_still line (Valued option_names.To is_joined word) option_names.Dop given.dop refl was.dop;
+    check = flag_still line (Valued option_names.To is_joined word) option_names.Check given.check refl was.check;
+  }
+
+  previous_given : (is_joined : Bool) (word : List ℕ) (file : Bor (List ℕ)) → values_of option_names.Previous line ≡ [] → file.now ≡ word
+      → AreGiven (with_item line (Valued option_names.Previous is_joined word)) (record given { previous = Some file })
+  previous_given is_joined word file none is = record {
+    from = place_still line (Valued option_names.Previous is_joined word) option_names.From given.from refl was.from;
+    to = place_still line (Valued option_names.Previous is_joined word) option_names.To given.to refl was.to;
+    previous = file_there line (Valued option_names.Previous is_joined word) option_names.Previous word file none refl is;
+    next = file_still line (Valued option_names.Previous is_joined word) option_names.Next given.next refl was.next;
+    speakers = flag_still line (Valued option_names.Previous is_joined word) option_names.Speakers given.speakers refl was.speakers;
+    dop = flag_still line (Valued option_names.Previous is_joined word) option_names.Dop given.dop refl was.dop;
+    check = flag_still line (Valued option_names.Previous is_joined word) option_names.Check given.check refl was.check;
+  }
+
+  next_given : (is_joined : Bool) (word : List ℕ) (file : Bor (List ℕ)) → values_of option_names.Next line ≡ [] → file.now ≡ word
+      → AreGiven (with_item line (Valued option_names.Next is_joined word)) (record given { next = Some file })
+  next_given is_joined word file none is = record {
+    from = place_still line (Valued option_names.Next is_joined word) option_names.From given.from refl was.from;
+    to = place_still line (Valued option_names.Next is_joined word) option_names.To given.to refl was.to;
+    previous = file_still line (Valued option_names.Next is_joined word) option_names.Previous given.previous refl was.previous;
+    next = file_there line (Valued option_names.Next is_joined word) option_names.Next word file none refl is;
+    speakers = flag_still line (Valued option_names.Next is_joined word) option_names.Speakers given.speakers refl was.speakers;
+    dop = flag_still line (Valued option_names.Next is_joined word) option_names.Dop given.dop refl was.dop;
+    check = flag_still line (Valued option_names.Next is_joined word) option_names.Check given.check refl was.check;
+  }
+
+  -- an option that takes nothing
+  flag_given : (option : OptionName) (new : Options) → IsTaken option Nothing → SetsFlag option given new → AreGiven (with_item line (Flag option)) new
+  flag_given option_names.Speakers new nothing sets = subst (AreGiven (with_item line (Flag option_names.Speakers))) (sym sets) speakers_given
+  flag_given option_names.Dop new nothing sets = subst (AreGiven (with_item line (Flag option_names.Dop))) (sym sets) dop_given
+  flag_given option_names.Check new nothing sets = subst (AreGiven (with_item line (Flag option_names.Check))) (sym sets) check_given
+  flag_given option_names.From new nothing sets = absurd (place_not_nothing (sym nothing))
+  flag_given option_names.To new nothing sets = absurd (place_not_nothing (sym nothing))
+  flag_given option_names.Previous new nothing sets = absurd (file_not_nothing (sym nothing))
+  flag_given option_names.Next new nothing sets = absurd (file_not_nothing (sym nothing))
+
+  -- an option that takes a place
+  place_given : (option : OptionName) (is_joined : Bool) (word : List ℕ) (place : Place) (new : Options) → IsTaken option taken.Place → values_of option line ≡ []
+      → NamesPlace word (Some place) → SetsPlace option place given new → AreGiven (with_item line (Valued option is_joined word)) new
+  place_given option_names.From is_joined word place new takes none named sets = subst (AreGiven (with_item line (Valued option_names.From is_joined word))) (sym sets) (from_given is_joined word place none named)
+  place_given option_names.To is_joined word place new takes none named sets = subst (AreGiven (with_item line (Valued option_names.To is_joined word))) (sym sets) (to_given is_joined word place none named)
+  place_given option_names.Previous is_joined word place new takes none named sets = absurd (place_not_file takes)
+  place_given option_names.Next is_joined word place new takes none named sets = absurd (place_not_file takes)
+  place_given option_names.Speakers is_joined word place new takes none named sets = absurd (place_not_nothing takes)
+  place_given option_names.Dop is_joined word place new takes none named sets = absurd (place_not_nothing takes)
+  place_given option_names.Check is_joined word place new takes none named sets = absurd (place_not_nothing takes)
+
+  -- an option that takes a file
+  file_given : (option : OptionName) (is_joined : Bool) (word : List ℕ) (file : Bor (List ℕ)) (new : Options) → IsTaken option taken.File → values_of option line ≡ []
+      → file.now ≡ word → SetsFile option file given new → AreGiven (with_item line (Valued option is_joined word)) new
+  file_given option_names.Previous is_joined word file new takes none is sets = subst (AreGiven (with_item line (Valued option_names.Previous is_joined word))) (sym sets) (previous_given is_joined word file none is)
+  file_given option_names.Next is_joined word file new takes none is sets = subst (AreGiven (with_item line (Valued option_names.Next is_joined word))) (sym sets) (next_given is_joined word file none is)
+  file_given option_names.From is_joined word file new takes none is sets = absurd (place_not_file (sym takes))
+  file_given option_names.To is_joined word file new takes none is sets = absurd (place_not_file (sym takes))
+  file_given option_names.Speakers is_joined word file new takes none is sets = absurd (file_not_nothing takes)
+  file_given option_names.Dop is_joined word file new takes none is sets = absurd (file_not_nothing takes)
+  file_given option_names.Check is_joined word file new takes none is sets = absurd (file_not_nothing takes)
+
+  -- an option that takes a value
+  value_given : (option : OptionName) (is_joined : Bool) (word : List ℕ) (new : Options) → values_of option line ≡ [] → SetsValue option word given new
+      → AreGiven (with_item line (Valued option is_joined word)) new
+  value_given option is_joined word new none (inl sets) = place_given option is_joined word sets.1.0 new sets.0 none sets.1.1 sets.1.2
+  value_given option is_joined word new none (inr sets) = file_given option is_joined word sets.1.0 new sets.0 none sets.1.1 sets.1.2
 
 -- ---- what is read of a command line with one more item
 module _ (line : Line) (old : Words) (was : IsReadAs line old) (open_end : line.after_end ≡ None) where
@@ -26,62 +202,45 @@ module _ (line : Line) (old : Words) (was : IsReadAs line old) (open_end : line.
   names_still : (item : Item) → name_in item ≡ [] → texts old.names.items ≡ names_of (with_item line item)
   names_still item none = was.names ∙ sym (names_more line item open_end ∙ ap (λ more. names_of line ++ more) none ∙ append-nil (names_of line))
 
-  starts_still : (item : Item) → start_in item ≡ [] → starts_of (with_item line item) ≡ starts_of line
-  starts_still item none = starts_more line item ∙ ap (λ more. starts_of line ++ more) none ∙ append-nil (starts_of line)
-
-  ends_still : (item : Item) → end_in item ≡ [] → ends_of (with_item line item) ≡ ends_of line
-  ends_still item none = ends_more line item ∙ ap (λ more. ends_of line ++ more) none ∙ append-nil (ends_of line)
-
-  from_still : (item : Item) → start_in item ≡ [] → IsGiven (starts_of (with_item line item)) old.from
-  from_still item none = subst (λ (places : List (List ℕ)). IsGiven places old.from) (sym (starts_still item none)) was.from
-
-  to_still : (item : Item) → end_in item ≡ [] → IsGiven (ends_of (with_item line item)) old.to
-  to_still item none = subst (λ (places : List (List ℕ)). IsGiven places old.to) (sym (ends_still item none)) was.to
-
-  check_still : (item : Item) → is_check_item item ≡ false → old.is_check ≡ has_check (with_item line item)
-  check_still item none = was.check ∙ sym (check_more line item ∙ ap (λ (b : Bool). (has_check line || (b || false))) none ∙ or_false (has_check line))
-
   pub name_read : (word : List ℕ) (new : Words) → AddsName old word new → IsReadAs (with_item line (Name word)) new
   name_read word new adds = record {
     command = subst (λ (c : Bor (List ℕ)). c.now ≡ line.command) (sym adds.command) was.command;
     names = adds.names ∙ ap (λ names. names ++ word ∷ []) was.names ∙ sym (names_more line (Name word) open_end);
-    from = subst (IsGiven (starts_of (with_item line (Name word)))) (sym adds.from) (from_still (Name word) refl);
-    to = subst (IsGiven (ends_of (with_item line (Name word)))) (sym adds.to) (to_still (Name word) refl);
-    check = adds.check ∙ check_still (Name word) refl;
+    options = subst (AreGiven (with_item line (Name word))) (sym adds.options) (name_given line old.options was.options word);
   }
 
-  pub check_read : IsReadAs (with_item line Check) (record old { is_check = true })
-  check_read = record {
+  pub flag_read : (option : OptionName) (given : Options) → IsTaken option Nothing → SetsFlag option old.options given
+      → IsReadAs (with_item line (Flag option)) (record old { options = given })
+  flag_read option given nothing sets = record {
     command = was.command;
-    names = names_still Check refl;
-    from = from_still Check refl;
-    to = to_still Check refl;
-    check = sym (check_more line Check ∙ or_true (has_check line));
+    names = names_still (Flag option) refl;
+    options = flag_given line old.options was.options option given nothing sets;
   }
 
-  pub from_read : (is_joined : Bool) (word : List ℕ) (place : Place) → starts_of line ≡ [] → NamesPlace word (Some place)
-      → IsReadAs (with_item line (From is_joined word)) (record old { from = Some place })
-  from_read is_joined word place none named = record {
+  pub value_read : (option : OptionName) (is_joined : Bool) (word : List ℕ) (given : Options) → values_of option line ≡ [] → SetsValue option word old.options given
+      → IsReadAs (with_item line (Valued option is_joined word)) (record old { options = given })
+  value_read option is_joined word given none sets = record {
     command = was.command;
-    names = names_still (From is_joined word) refl;
-    from = (word, starts_more line (From is_joined word) ∙ ap (λ places. places ++ word ∷ []) none, named);
-    to = to_still (From is_joined word) refl;
-    check = check_still (From is_joined word) refl;
+    names = names_still (Valued option is_joined word) refl;
+    options = value_given line old.options was.options option is_joined word given none sets;
   }
 
-  pub to_read : (is_joined : Bool) (word : List ℕ) (place : Place) → ends_of line ≡ [] → NamesPlace word (Some place)
-      → IsReadAs (with_item line (To is_joined word)) (record old { to = Some place })
-  to_read is_joined word place none named = record {
-    command = was.command;
-    names = names_still (To is_joined word) refl;
-    from = from_still (To is_joined word) refl;
-    to = (word, ends_more line (To is_joined word) ∙ ap (λ places. places ++ word ∷ []) none, named);
-    check = check_still (To is_joined word) refl;
-  }
+-- the names after `--` are no options
+ended_given : (line : Line) (after_end : Option (List (List ℕ))) (given : Options) → AreGiven line given
+    → AreGiven (record { command = line.command; items = line.items; after_end = after_end }) given
+ended_given line after_end given was = record {
+  from = was.from;
+  to = was.to;
+  previous = was.previous;
+  next = was.next;
+  speakers = was.speakers;
+  dop = was.dop;
+  check = was.check;
+}
 
 -- what the next word may be says nothing of what was read
 pub same_read : (line : Line) (old : Words) (next : Next) → IsReadAs line old → IsReadAs line (record old { next = next })
-same_read line old next was = record { command = was.command; names = was.names; from = was.from; to = was.to; check = was.check }
+same_read line old next was = record { command = was.command; names = was.names; options = was.options }
 
 -- ---- what is read up to one more word
 -- the words of one more item, of which some were read before
@@ -109,31 +268,28 @@ module _ (words : List (List ℕ)) (word : List ℕ) (old : Words) (was : IsRead
   name_ends new may adds = item_ends words (word ∷ []) old new was (Name word) open_end may (adds.next ∙ any) (nothing_waits (word ∷ []))
       (name_read was.line old was.is_read open_end word new adds)
 
-  pub check_ends : was.line.command ≡ codes "sum" → word ≡ codes "--check" → IsReadUpTo (words ++ word ∷ []) (record old { is_check = true })
-  check_ends command is = item_ends words (word ∷ []) old (record old { is_check = true }) was Check open_end command any
-      (nothing_waits (word ∷ []) ∙ ap (λ w. w ∷ []) is) (check_read was.line old was.is_read open_end)
+  pub flag_ends : (option : OptionName) (given : Options) → Takes was.line.command option → IsTaken option Nothing → word ≡ codes "--" ++ text_of option
+      → SetsFlag option old.options given → IsReadUpTo (words ++ word ∷ []) (record old { options = given })
+  flag_ends option given takes nothing is sets = item_ends words (word ∷ []) old (record old { options = given }) was (Flag option) open_end (takes, nothing) any
+      (nothing_waits (word ∷ []) ∙ ap (λ w. w ∷ []) is) (flag_read was.line old was.is_read open_end option given nothing sets)
 
-  -- an option and its place in one word
-  pub joined_ends : (option place_word : List ℕ) (new : Words) → was.line.command ≡ codes "play" → IsAwaited option was.line
-      → word ≡ (codes "--" ++ option) ++ codes "=" ++ place_word → AddsPlace old option place_word new → IsReadUpTo (words ++ word ∷ []) new
-  joined_ends option place_word new command (inl from) is adds = subst (IsReadUpTo (words ++ word ∷ [])) (sym (adds.start from.0))
-      (item_ends words (word ∷ []) old (record old { from = Some adds.place }) was (From true place_word) open_end (command, tt) any
-      (nothing_waits (word ∷ []) ∙ ap (λ w. w ∷ []) (is ∙ ap (λ o. (codes "--" ++ o) ++ codes "=" ++ place_word) from.0))
-      (from_read was.line old was.is_read open_end true place_word adds.place from.1 adds.named))
-  joined_ends option place_word new command (inr to) is adds = subst (IsReadUpTo (words ++ word ∷ [])) (sym (adds.end to.0))
-      (item_ends words (word ∷ []) old (record old { to = Some adds.place }) was (To true place_word) open_end (command, tt) any
-      (nothing_waits (word ∷ []) ∙ ap (λ w. w ∷ []) (is ∙ ap (λ o. (codes "--" ++ o) ++ codes "=" ++ place_word) to.0))
-      (to_read was.line old was.is_read open_end true place_word adds.place to.1 adds.named))
+  -- an option and its value in one word
+  pub joined_ends : (option : OptionName) (value_word : List ℕ) (new : Words) → IsAwaited option was.line
+      → word ≡ (codes "--" ++ text_of option) ++ codes "=" ++ value_word → AddsValue old option value_word new → IsReadUpTo (words ++ word ∷ []) new
+  joined_ends option value_word new awaited is (given, sets, changed) = subst (IsReadUpTo (words ++ word ∷ [])) (sym changed)
+      (item_ends words (word ∷ []) old (record old { options = given }) was (Valued option true value_word) open_end (awaited.taken, awaited.value, tt) any
+      (nothing_waits (word ∷ []) ∙ ap (λ w. w ∷ []) is)
+      (value_read was.line old was.is_read open_end option true value_word given awaited.absent sets))
 
-  -- an option whose place is to come
-  pub option_waits : (option : Bor (List ℕ)) → was.line.command ≡ codes "play" → IsAwaited option.now was.line
-      → word ≡ codes "--" ++ option.now → IsReadUpTo (words ++ word ∷ []) (record old { next = PlaceOf option })
-  option_waits option command awaited is = record {
+  -- an option whose value is to come
+  pub option_waits : (option : OptionName) → IsAwaited option was.line → word ≡ codes "--" ++ text_of option
+      → IsReadUpTo (words ++ word ∷ []) (record old { next = ValueOf option })
+  option_waits option awaited is = record {
     line = was.line;
     words_are = ap (λ ws. ws ++ word ∷ []) (was.words_are ∙ ap (λ n. line_words was.line ++ waiting_words n) any ∙ append-nil (line_words was.line)) ∙ ap (λ w. line_words was.line ++ w ∷ []) is;
     may_come = was.may_come;
-    next = (open_end, command, awaited);
-    is_read = same_read was.line old (PlaceOf option) was.is_read;
+    next = (open_end, awaited);
+    is_read = same_read was.line old (ValueOf option) was.is_read;
   }
 
   -- `--`
@@ -148,32 +304,21 @@ module _ (words : List (List ℕ)) (word : List ℕ) (old : Words) (was : IsRead
     is_read = record {
       command = was.is_read.command;
       names = was.is_read.names ∙ ap (λ (end : Option (List (List ℕ))). flat_map name_in was.line.items ++ unwrap_or end []) open_end;
-      from = was.is_read.from;
-      to = was.is_read.to;
-      check = was.is_read.check;
+      options = ended_given was.line (Some []) old.options was.is_read.options;
     };
   }
 
--- where a place is to come
-module _ (words : List (List ℕ)) (word : List ℕ) (option : Bor (List ℕ)) (old : Words) (was : IsReadUpTo words old) (waits : old.next ≡ PlaceOf option) where
-  then_place : (was.line.after_end ≡ None) × (was.line.command ≡ codes "play") × IsAwaited option.now was.line
-  then_place = subst (λ (n : Next). IsNext n was.line) waits was.next
+-- where a value is to come
+module _ (words : List (List ℕ)) (word : List ℕ) (option : OptionName) (old : Words) (was : IsReadUpTo words old) (waits : old.next ≡ ValueOf option) where
+  then_value : (was.line.after_end ≡ None) × IsAwaited option was.line
+  then_value = subst (λ (n : Next). IsNext n was.line) waits was.next
 
-  both_words : (name : List ℕ) → option.now ≡ name → waiting_words old.next ++ word ∷ [] ≡ (codes "--" ++ name) ∷ word ∷ []
-  both_words name is = ap (λ n. waiting_words n ++ word ∷ []) waits ∙ ap (λ o. (codes "--" ++ o) ∷ word ∷ []) is
-
-  place_from : (awaited : IsAwaited option.now was.line) (new : Words) → IsPlaceWord false word → AddsPlace (record old { next = Any }) option.now word new → IsReadUpTo (words ++ word ∷ []) new
-  place_from (inl from) new may adds = subst (IsReadUpTo (words ++ word ∷ [])) (sym (adds.start from.0))
-      (item_ends words (word ∷ []) old (record old { next = Any; from = Some adds.place }) was (From false word) then_place.0 (then_place.1, may) refl
-      (both_words (codes "from") from.0)
-      (from_read was.line (record old { next = Any }) (same_read was.line old Any was.is_read) then_place.0 false word adds.place from.1 adds.named))
-  place_from (inr to) new may adds = subst (IsReadUpTo (words ++ word ∷ [])) (sym (adds.end to.0))
-      (item_ends words (word ∷ []) old (record old { next = Any; to = Some adds.place }) was (To false word) then_place.0 (then_place.1, may) refl
-      (both_words (codes "to") to.0)
-      (to_read was.line (record old { next = Any }) (same_read was.line old Any was.is_read) then_place.0 false word adds.place to.1 adds.named))
-
-  pub place_ends : (new : Words) → IsPlaceWord false word → AddsPlace (record old { next = Any }) option.now word new → IsReadUpTo (words ++ word ∷ []) new
-  place_ends new may adds = place_from then_place.2 new may adds
+  pub value_ends : (new : Words) → IsValueWord false word → (TakesValue option → AddsValue (record old { next = Any }) option word new) → IsReadUpTo (words ++ word ∷ []) new
+  value_ends new may adds = let (given, sets, changed) = adds then_value.1.value in subst (IsReadUpTo (words ++ word ∷ [])) (sym changed)
+      (item_ends words (word ∷ []) old (record old { next = Any; options = given }) was (Valued option false word) then_value.0
+      (then_value.1.taken, then_value.1.value, may) refl
+      (ap (λ n. waiting_words n ++ word ∷ []) waits)
+      (value_read was.line (record old { next = Any }) (same_read was.line old Any was.is_read) then_value.0 option false word given then_value.1.absent sets))
 
 -- after `--`
 module _ (words : List (List ℕ)) (word : List ℕ) (old : Words) (was : IsReadUpTo words old) (ended : old.next ≡ NameOnly) where
@@ -194,16 +339,15 @@ module _ (words : List (List ℕ)) (word : List ℕ) (old : Words) (was : IsRead
       command = subst (λ (c : Bor (List ℕ)). c.now ≡ was.line.command) (sym adds.command) was.is_read.command;
       names = adds.names ∙ ap (λ names. names ++ word ∷ []) (was.is_read.names ∙ ap (λ (end : Option (List (List ℕ))). flat_map name_in was.line.items ++ unwrap_or end []) after.1)
           ∙ append_assoc (flat_map name_in was.line.items) after.0 (word ∷ []);
-      from = subst (IsGiven (starts_of was.line)) (sym adds.from) was.is_read.from;
-      to = subst (IsGiven (ends_of was.line)) (sym adds.to) was.is_read.to;
-      check = adds.check ∙ was.is_read.check;
+      options = subst (AreGiven (record { command = was.line.command; items = was.line.items; after_end = Some (after.0 ++ word ∷ []) })) (sym adds.options)
+          (ended_given was.line (Some (after.0 ++ word ∷ [])) old.options was.is_read.options);
     };
   }
 
 -- ---- from the first word to the last
 -- a command alone was read
-pub begins : (command : List ℕ) (read : Words) → read.command.now ≡ command → read.names.items ≡ [] → read.from ≡ None → read.to ≡ None → read.is_check ≡ false → read.next ≡ Any → IsReadUpTo (command ∷ []) read
-begins command read is names from to check next = record {
+pub begins : (command : List ℕ) (read : Words) → read.command.now ≡ command → read.names.items ≡ [] → AreNone read.options → read.next ≡ Any → IsReadUpTo (command ∷ []) read
+begins command read is names none next = record {
   line = record { command = command; items = []; after_end = None };
   words_are = ap (λ n. (command ∷ []) ++ waiting_words n) (sym next);
   may_come = All-nil (IsItemOf command);
@@ -211,9 +355,15 @@ begins command read is names from to check next = record {
   is_read = record {
     command = is;
     names = ap texts names;
-    from = subst (IsGiven []) (sym from) refl;
-    to = subst (IsGiven []) (sym to) refl;
-    check = check;
+    options = record {
+      from = subst (IsGiven []) (sym none.from) refl;
+      to = subst (IsGiven []) (sym none.to) refl;
+      previous = subst (IsNamed []) (sym none.previous) refl;
+      next = subst (IsNamed []) (sym none.next) refl;
+      speakers = none.speakers;
+      dop = none.dop;
+      check = none.check;
+    };
   };
 }
 
@@ -258,32 +408,68 @@ all_words {S} f words rest i read count end was nothing = all_read (map f words)
     (subst (λ (ws : List S). IsReadUpTo (map f ws) read) (take_all (i + 1) words (omega (arith, count, end))) was) nothing
 
 -- ---- options
--- an option of `play` that isn't there yet
-pub awaits : (line : Line) (old : Words) (option : List ℕ) → IsReadAs line old → IsOptionOf old.command.now option → (option ≡ codes "check" → ⊥)
-    → (option ≡ codes "from" → old.from ≡ None) → (option ≡ codes "to" → old.to ≡ None) → (line.command ≡ codes "play") × IsAwaited option line
-awaits line old option was (inl (play, inl from)) other start end = (sym was.command ∙ play, inl (from, subst (IsGiven (starts_of line)) (start from) was.from))
-awaits line old option was (inl (play, inr to)) other start end = (sym was.command ∙ play, inr (to, subst (IsGiven (ends_of line)) (end to) was.to))
-awaits line old option was (inr (sum, check)) other start end = absurd (other check)
-
--- texts of other lengths differ
-from_is_not_check : codes "from" ≡ codes "check" → ⊥
-from_is_not_check is = let e : 4 ≡ 5 = ap length is in omega (arith, e)
-
-to_is_not_check : codes "to" ≡ codes "check" → ⊥
-to_is_not_check is = let e : 2 ≡ 5 = ap length is in omega (arith, e)
-
--- `--check` is an option of `sum`
-pub checks : (command option : List ℕ) → IsOptionOf command option → option ≡ codes "check" → command ≡ codes "sum"
-checks command option (inl (play, inl from)) is = absurd (from_is_not_check (sym from ∙ is))
-checks command option (inl (play, inr to)) is = absurd (to_is_not_check (sym to ∙ is))
-checks command option (inr (sum, check)) is = sum
+-- an option that isn't there yet
+pub awaits : (line : Line) (old : Words) (option : OptionName) → IsReadAs line old → Takes old.command.now option → TakesValue option → IsFree option old.options → IsAwaited option line
+awaits line old option was takes value free = record {
+  taken = subst (λ command. Takes command option) was.command takes;
+  value = value;
+  absent = none_there line old.options was.options option value free;
+}
+  where
+    none_there : (line : Line) (given : Options) (is : AreGiven line given) (option : OptionName) → TakesValue option → IsFree option given → values_of option line ≡ []
+    none_there line given is option_names.From value free = subst (IsGiven (values_of option_names.From line)) free is.from
+    none_there line given is option_names.To value free = subst (IsGiven (values_of option_names.To line)) free is.to
+    none_there line given is option_names.Previous value free = subst (IsNamed (values_of option_names.Previous line)) free is.previous
+    none_there line given is option_names.Next value free = subst (IsNamed (values_of option_names.Next line)) free is.next
+    none_there line given is option_names.Speakers (inl place) free = absurd (place_not_nothing place)
+    none_there line given is option_names.Speakers (inr file) free = absurd (file_not_nothing file)
+    none_there line given is option_names.Dop (inl place) free = absurd (place_not_nothing place)
+    none_there line given is option_names.Dop (inr file) free = absurd (file_not_nothing file)
+    none_there line given is option_names.Check (inl place) free = absurd (place_not_nothing place)
+    none_there line given is option_names.Check (inr file) free = absurd (file_not_nothing file)
 
 -- an option without hyphens is not empty
-pub option_is : (command option word : List ℕ) → IsOptionOf command option → (option ≡ []) ⊎ (word ≡ codes "--" ++ option) → word ≡ codes "--" ++ option
-option_is command option word of (inr is) = is
-option_is command option word (inl (play, inl from)) (inl none) = absurd (let e : 4 ≡ 0 = ap length (sym from ∙ none) in omega (arith, e))
-option_is command option word (inl (play, inr to)) (inl none) = absurd (let e : 2 ≡ 0 = ap length (sym to ∙ none) in omega (arith, e))
-option_is command option word (inr (sum, check)) (inl none) = absurd (let e : 5 ≡ 0 = ap length (sym check ∙ none) in omega (arith, e))
+some_text : (option : OptionName) → 0 < length (text_of option)
+some_text option_names.From = omega arith
+some_text option_names.To = omega arith
+some_text option_names.Previous = omega arith
+some_text option_names.Next = omega arith
+some_text option_names.Speakers = omega arith
+some_text option_names.Dop = omega arith
+some_text option_names.Check = omega arith
+
+pub option_is : (option : OptionName) (name word : List ℕ) → name ≡ text_of option → (name ≡ []) ⊎ (word ≡ codes "--" ++ name) → word ≡ codes "--" ++ text_of option
+option_is option name word is (inl none) = absurd (let e : length (text_of option) ≡ 0 = ap length (sym is ∙ none) in let some = some_text option in omega (arith, e, some))
+option_is option name word is (inr written) = written ∙ ap (λ n. codes "--" ++ n) is
+
+-- the option that a text is
+abbrev option_of : List ℕ → OptionName
+option_of text = if pointwise nat_eq text (codes "from") then option_names.From
+    else if pointwise nat_eq text (codes "to") then option_names.To
+    else if pointwise nat_eq text (codes "previous") then option_names.Previous
+    else if pointwise nat_eq text (codes "next") then option_names.Next
+    else if pointwise nat_eq text (codes "speakers") then option_names.Speakers
+    else if pointwise nat_eq text (codes "dop") then option_names.Dop
+    else option_names.Check
+
+option_read : (option : OptionName) → option_of (text_of option) ≡ option
+option_read option_names.From = refl
+option_read option_names.To = refl
+option_read option_names.Previous = refl
+option_read option_names.Next = refl
+option_read option_names.Speakers = refl
+option_read option_names.Dop = refl
+option_read option_names.Check = refl
+
+-- the options in the table
+pub play_options : (command : List ℕ) → command ≡ codes "play" → All (IsOptionOf command) (codes "from" ∷ codes "to" ∷ codes "speakers" ∷ [])
+play_options command is =
+    All-cons (IsOptionOf command) (codes "from") (codes "to" ∷ codes "speakers" ∷ []) (option_names.From, refl, inl (is, tt))
+    (All-cons (IsOptionOf command) (codes "to") (codes "speakers" ∷ []) (option_names.To, refl, inl (is, tt))
+    (All-cons (IsOptionOf command) (codes "speakers") [] (option_names.Speakers, refl, inl (is, tt)) (All-nil (IsOptionOf command))))
+
+pub sum_options : (command : List ℕ) → command ≡ codes "sum" → All (IsOptionOf command) (codes "check" ∷ [])
+sum_options command is = All-cons (IsOptionOf command) (codes "check") [] (option_names.Check, refl, inr (inr (is, refl))) (All-nil (IsOptionOf command))
 
 -- one of a command's options
 pub option_found : (command : List ℕ) (known : List (Bor (List ℕ))) (option : Bor (List ℕ)) (k : ℕ) → All (IsOptionOf command) (texts known) → k < length known
@@ -319,17 +505,13 @@ misused words rest command Memory is known same = tt
 misused words rest command _ is known same = absurd same
 
 -- ---- the task
-options_asked : (line : Line) (read : Words) (task : Task) → IsReadAs line read → KeepsOptions read task → AreOptionsOf task line
-options_asked line read (tasks.Play project input output) was keeps = (subst (IsGiven (starts_of line)) keeps.0 was.from, subst (IsGiven (ends_of line)) keeps.1 was.to)
-options_asked line read (tasks.PlayPart project input output from to) was keeps = (subst (IsGiven (starts_of line)) keeps.0 was.from, subst (IsGiven (ends_of line)) keeps.1 was.to)
-options_asked line read (tasks.Sum is_check files) was keeps = keeps ∙ was.check
-options_asked line read _ was keeps = tt
-
 line_asks : (line : Line) (read : Words) (task : Task) → IsReadAs line read → ReadAsks read.command.now read task → LineAsks line task
 line_asks line read task was asks = record {
   command = sym was.command ∙ asks.command_is;
   names = subst (AreNamesOf task) was.names asks.names;
-  options = options_asked line read task was asks.options;
+  given = read.options;
+  are_given = was.options;
+  options = asks.options;
 }
 
 line_refused : (line : Line) (read : Words) (fault : WordsFault) → IsReadAs line read → ReadRefused read.command.now read fault → IsUnasked line fault

@@ -1,21 +1,25 @@
 -- What the words of a command line ask for, and why they ask for nothing.
-use Rattle.std.specs.Prelude.{◌≡◌, ◌≢◌, ◌⊎◌, ⊤, ℕ, List, [], ◌∷◌, Option, None, Some, Result, Ok, Err, Contains, codes, length, map, slice_index}
+use Rattle.std.specs.Prelude.{◌≡◌, ◌≢◌, ◌⊎◌, ⊤, ℕ, Bool, true, false, List, [], ◌∷◌, Option, None, Some, Result, Ok, Err, Contains, codes, length, map, slice_index}
 use Rattle.std.specs.Borrow.{Bor}
 use Rattle.form_core.specs.FormNames.{form_named}
 use Rattle.place_core.specs.Places.{IsNumbered}
 use Rattle.place_core.specs.Times.{IsTimed}
 use Rattle.place_core.specs.declared.place.Place.{Place}
 use Rattle.place_core.specs.declared.place.Place.TheVariants.{Frame, Mark}
-use Rattle.words_core.specs.Lines.{IsLineOf, Line, ends_of, has_check, names_of, starts_of}
+use Rattle.words_core.specs.Lines.{IsLineOf, Line, has_flag, names_of, values_of}
 use Rattle.words_core.specs.declared.fault.Misfit.TheVariants.{Names}
 use Rattle.words_core.specs.declared.fault.WordsFault.{WordsFault}
 use Rattle.words_core.specs.declared.fault.WordsFault.TheVariants.{Memory, NoCommand, NoText, UnknownCommand, UnknownForm, WrongUsage}
+use Rattle.words_core.specs.declared.options.OptionName.TheVariants as option_names
+use Rattle.words_core.specs.declared.options.Options.{Options}
 use Rattle.words_core.specs.declared.task.Task.{Task}
-use Rattle.words_core.specs.declared.task.Task.TheVariants.{Check, Convert, Edit, Info, NullTest, Play, PlayPart, Sum}
+use Rattle.words_core.specs.declared.task.Task.TheVariants.{Check, Convert, ConvertDop, Edit, Info, NullTest, Play, PlayBetween, PlayDop, PlayPart, Sum}
 
--- a part that is asked for begins at a place or ends at one, or both
+-- a part that is asked for begins at a place or ends at one, or both, and what is played between others has one before
+-- it or one after it, or both
 abbrev pub HasPlaces : Task → Type 0
-HasPlaces (PlayPart project input output from to) = from ≡ None → to ≡ None → ⊥
+HasPlaces (PlayPart project input output from to speakers) = from ≡ None → to ≡ None → ⊥
+HasPlaces (PlayBetween project input output previous next speakers) = previous ≡ None → next ≡ None → ⊥
 HasPlaces _ = ⊤
 
 -- ---- what is asked for
@@ -30,11 +34,29 @@ abbrev pub IsGiven : List (List ℕ) → Option Place → Type 0
 IsGiven places None = places ≡ []
 IsGiven places (Some place) = (word : List ℕ) × (places ≡ word ∷ []) × NamesPlace word (Some place)
 
+-- an option is there once and names this file, or isn't there
+abbrev pub IsNamed : List (List ℕ) → Option (Bor (List ℕ)) → Type 0
+IsNamed files None = files ≡ []
+IsNamed files (Some file) = files ≡ file.now ∷ []
+
+-- this is what the options of a command line say
+pub record AreGiven (line : Line) (given : Options) : Type 0 where
+  pub from : IsGiven (values_of option_names.From line) given.from
+  pub to : IsGiven (values_of option_names.To line) given.to
+  pub previous : IsNamed (values_of option_names.Previous line) given.previous
+  pub next : IsNamed (values_of option_names.Next line) given.next
+  pub speakers : given.speakers ≡ has_flag option_names.Speakers line
+  pub dop : given.dop ≡ has_flag option_names.Dop line
+  pub check : given.check ≡ has_flag option_names.Check line
+
 -- the command that a task is
 abbrev pub command_of : Task → List ℕ
-command_of (Play project input output) = codes "play"
-command_of (PlayPart project input output from to) = codes "play"
-command_of (Convert form input output) = codes "convert"
+command_of (Play project input output speakers) = codes "play"
+command_of (PlayPart project input output from to speakers) = codes "play"
+command_of (PlayBetween project input output previous next speakers) = codes "play"
+command_of (PlayDop input output) = codes "play"
+command_of (Convert form input output speakers) = codes "convert"
+command_of (ConvertDop form input output) = codes "convert"
 command_of (Edit form project master cert) = codes "edit"
 command_of (Check project master cert) = codes "check"
 command_of (NullTest mix master) = codes "nulltest"
@@ -43,27 +65,46 @@ command_of (Sum is_check files) = codes "sum"
 
 -- the names are those of a task's files in the order of its words, for `convert` and `edit` after the name of its form
 abbrev pub AreNamesOf : Task → List (List ℕ) → Type 0
-AreNamesOf (Play project input output) names = names ≡ project.now ∷ input.now ∷ output.now ∷ []
-AreNamesOf (PlayPart project input output from to) names = names ≡ project.now ∷ input.now ∷ output.now ∷ []
-AreNamesOf (Convert form input output) names = (name : List ℕ) × (names ≡ name ∷ input.now ∷ output.now ∷ []) × (form_named name ≡ Some form)
+AreNamesOf (Play project input output speakers) names = names ≡ project.now ∷ input.now ∷ output.now ∷ []
+AreNamesOf (PlayPart project input output from to speakers) names = names ≡ project.now ∷ input.now ∷ output.now ∷ []
+AreNamesOf (PlayBetween project input output previous next speakers) names = names ≡ project.now ∷ input.now ∷ output.now ∷ []
+AreNamesOf (PlayDop input output) names = names ≡ input.now ∷ output.now ∷ []
+AreNamesOf (Convert form input output speakers) names = (name : List ℕ) × (names ≡ name ∷ input.now ∷ output.now ∷ []) × (form_named name ≡ Some form)
+AreNamesOf (ConvertDop form input output) names = (name : List ℕ) × (names ≡ name ∷ input.now ∷ output.now ∷ []) × (form_named name ≡ Some form)
 AreNamesOf (Edit form project master cert) names = (name : List ℕ) × (names ≡ name ∷ project.now ∷ master.now ∷ cert.now ∷ []) × (form_named name ≡ Some form)
 AreNamesOf (Check project master cert) names = names ≡ project.now ∷ master.now ∷ cert.now ∷ []
 AreNamesOf (NullTest mix master) names = names ≡ mix.now ∷ master.now ∷ []
 AreNamesOf (Info file) names = names ≡ file.now ∷ []
 AreNamesOf (Sum is_check files) names = names ≡ map (λ (file : Bor (List ℕ)). file.now) files.now
 
--- the options are those of a task: the places of a part, none if all is played, and whether `sum` is to check
-abbrev pub AreOptionsOf : Task → Line → Type 0
-AreOptionsOf (Play project input output) line = (starts_of line ≡ []) × (ends_of line ≡ [])
-AreOptionsOf (PlayPart project input output from to) line = IsGiven (starts_of line) from × IsGiven (ends_of line) to
-AreOptionsOf (Sum is_check files) line = is_check ≡ has_check line
-AreOptionsOf _ line = ⊤
+-- options say these places and neighbours, and whether there are the flags of `play`
+pub record AreOfPlay (given : Options) (start stop : Option Place) (before after : Option (Bor (List ℕ))) (is_spoken is_dop : Bool) : Type 0 where
+  pub from : given.from ≡ start
+  pub to : given.to ≡ stop
+  pub previous : given.previous ≡ before
+  pub next : given.next ≡ after
+  pub speakers : given.speakers ≡ is_spoken
+  pub dop : given.dop ≡ is_dop
+
+-- the options are those of a task: the places of a part, the files before and after what is played, and which flags are
+-- there
+abbrev pub AreOptionsOf : Task → Options → Type 0
+AreOptionsOf (Play project input output speakers) given = AreOfPlay given None None None None speakers false
+AreOptionsOf (PlayPart project input output from to speakers) given = AreOfPlay given from to None None speakers false
+AreOptionsOf (PlayBetween project input output previous next speakers) given = AreOfPlay given None None previous next speakers false
+AreOptionsOf (PlayDop input output) given = AreOfPlay given None None None None false true
+AreOptionsOf (Convert form input output speakers) given = (given.speakers ≡ speakers) × (given.dop ≡ false)
+AreOptionsOf (ConvertDop form input output) given = (given.speakers ≡ false) × (given.dop ≡ true)
+AreOptionsOf (Sum is_check files) given = given.check ≡ is_check
+AreOptionsOf _ given = ⊤
 
 -- a command line asks for a task
 pub record LineAsks (line : Line) (task : Task) : Type 0 where
   pub command : line.command ≡ command_of task
   pub names : AreNamesOf task (names_of line)
-  pub options : AreOptionsOf task line
+  pub given : Options
+  pub are_given : AreGiven line given
+  pub options : AreOptionsOf task given
 
 -- words are a command line that asks for a task
 abbrev pub AsksFor : List (List ℕ) → Task → Type 0

@@ -32,4 +32,8 @@ pub enum Misfit<'a> {
     NoPlace(&'a str),
     /// What this option has, the second, is no place.
     NotPlace(&'a str, &'a str),
+    /// No word comes after this option that could name its file.
+    NoFile(&'a str),
+    /// These two options can't be together.
+    Apart(&'a str, &'a str),
 }

@@ -23,7 +23,7 @@ mod task;
 mod words;
 
 pub use fault::{Misfit, WordsFault};
-pub use options::options_of;
+pub use options::{OptionName, Options, Taken, named, options_of};
 pub use reading::Words;
 pub use task::Task;
 pub use words::{COMMANDS, NAMES, split_explain};

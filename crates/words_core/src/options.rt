@@ -1,31 +1,258 @@
 //! The options of commands.
 
-ghost use Rattle.std.specs.Prelude.{◌≡◌, ◌⊎◌, ◌++◌, [], All, MatchOption, codes, false, true};
-ghost use Rattle.words_core.specs.Lines.{IsName, IsOptionOf};
-ghost use Rattle.words_core.specs.Reading.{texts};
+ghost use Rattle.std.specs.Prelude.{◌≡◌, ◌⊎◌, ◌++◌, [], All, IfNone, IfSome, MatchOption, codes, false, true};
+ghost use Rattle.words_core.specs.Lines.{IsName, IsOptionOf, IsTaken, Takes, TakesNothing, TakesValue, text_of};
+ghost use Rattle.words_core.specs.Reading.{AreNone, AreTogether, HasNoNeighbour, HasNoPart, IsFree, SetsFile, SetsFlag, SetsPlace, texts};
 
-/// The options of `play`, without their hyphens. Each names a place of a part.
-pub const PLACES: [&str; 2] = ["from", "to"];
+use place_core::Place;
+
+/// The options of `play`, without their hyphens.
+const PLAY: [&str; 3] = ["from", "to", "speakers"];
 
 /// The word after which all words are names.
 pub(crate) const END: &str = "--";
 
-/// The options of a command, without their hyphens. Those of `play` take a place each, that of `sum` takes nothing.
+/// An option.
+#[derive(Clone, Copy)]
+pub enum OptionName {
+    /// Where a part begins, a place.
+    From,
+    /// Where a part ends, a place.
+    To,
+    /// What is played before, a file.
+    Previous,
+    /// What is played after, a file.
+    Next,
+    /// Say which channel is which speaker's.
+    Speakers,
+    /// One-bit sound in PCM samples (DoP).
+    Dop,
+    /// Judge by lists.
+    Check,
+}
+
+/// What follows an option.
+#[derive(Clone, Copy)]
+pub enum Taken {
+    /// Nothing.
+    Nothing,
+    /// A place.
+    Place,
+    /// The name of a file.
+    File,
+}
+
+/// What the options of a command line say.
+#[derive(Clone, Copy)]
+pub struct Options<'a> {
+    /// The place of `--from`.
+    pub from: Option<Place>,
+    /// The place of `--to`.
+    pub to: Option<Place>,
+    /// The file of `--previous`.
+    pub previous: Option<&'a str>,
+    /// The file of `--next`.
+    pub next: Option<&'a str>,
+    /// Whether `--speakers` is there.
+    pub speakers: bool,
+    /// Whether `--dop` is there.
+    pub dop: bool,
+    /// Whether `--check` is there.
+    pub check: bool,
+}
+
+impl<'a> Options<'a> {
+    /// What no options say.
+    pub(crate) fn none() -> Options<'a>
+        ensures { AreNone result }
+    {
+        Options {
+            from: None,
+            to: None,
+            previous: None,
+            next: None,
+            speakers: false,
+            dop: false,
+            check: false,
+        }
+    }
+
+    /// Whether an option was there before.
+    pub(crate) fn has(&self, option: OptionName) -> bool
+        ensures { result ≡ false → IsFree option self.now }
+    {
+        match option {
+            OptionName::From => self.from.is_some(),
+            OptionName::To => self.to.is_some(),
+            OptionName::Previous => self.previous.is_some(),
+            OptionName::Next => self.next.is_some(),
+            OptionName::Speakers => self.speakers,
+            OptionName::Dop => self.dop,
+            OptionName::Check => self.check,
+        }
+    }
+
+    /// Two options that can't be together, if there are such: a part is not played between others, and with `--dop`
+    /// nothing else is asked for.
+    pub(crate) fn apart(&self) -> Option<(OptionName, OptionName)>
+        ensures { IfNone result (AreTogether self.now) }
+    {
+        let other = match (self.part(), self.neighbour()) {
+            (Some(part), Some(neighbour)) => return Some((part, neighbour)),
+            (Some(part), None) => Some(part),
+            (None, neighbour) => neighbour,
+        };
+        match (self.dop, other, self.speakers) {
+            (true, Some(other), _) => Some((OptionName::Dop, other)),
+            (true, None, true) => Some((OptionName::Dop, OptionName::Speakers)),
+            _ => None,
+        }
+    }
+
+    // The first option that names a place.
+    fn part(&self) -> Option<OptionName>
+        ensures { IfNone result (HasNoPart self.now) }
+    {
+        if self.from.is_some() {
+            Some(OptionName::From)
+        } else if self.to.is_some() {
+            Some(OptionName::To)
+        } else {
+            None
+        }
+    }
+
+    // The first option that names a file.
+    fn neighbour(&self) -> Option<OptionName>
+        ensures { IfNone result (HasNoNeighbour self.now) }
+    {
+        if self.previous.is_some() {
+            Some(OptionName::Previous)
+        } else if self.next.is_some() {
+            Some(OptionName::Next)
+        } else {
+            None
+        }
+    }
+
+    /// Notes an option that takes nothing.
+    pub(crate) fn set_flag(&mut self, option: OptionName)
+        ensures { SetsFlag option self.old self.new }
+    {
+        match option {
+            OptionName::Speakers => self.speakers = true,
+            OptionName::Dop => self.dop = true,
+            OptionName::Check => self.check = true,
+            _ => {}
+        }
+    }
+
+    /// Notes the place of an option.
+    pub(crate) fn set_place(&mut self, option: OptionName, place: Place)
+        ensures { SetsPlace option place self.old self.new }
+    {
+        match option {
+            OptionName::From => self.from = Some(place),
+            OptionName::To => self.to = Some(place),
+            _ => {}
+        }
+    }
+
+    /// Notes the file of an option.
+    pub(crate) fn set_file(&mut self, option: OptionName, file: &'a str)
+        ensures { SetsFile option file.entry self.old self.new }
+    {
+        match option {
+            OptionName::Previous => self.previous = Some(file),
+            OptionName::Next => self.next = Some(file),
+            _ => {}
+        }
+    }
+}
+
+impl OptionName {
+    /// The text of the option, without its hyphens.
+    pub fn text(self) -> &'static str
+        ensures { result.now ≡ text_of self }
+    {
+        match self {
+            OptionName::From => "from",
+            OptionName::To => "to",
+            OptionName::Previous => "previous",
+            OptionName::Next => "next",
+            OptionName::Speakers => "speakers",
+            OptionName::Dop => "dop",
+            OptionName::Check => "check",
+        }
+    }
+
+    /// Whether nothing follows the option.
+    pub(crate) fn is_flag(self) -> bool
+        ensures flag { result ≡ true → TakesNothing self }
+        ensures value { result ≡ false → TakesValue self }
+    {
+        match self.takes() {
+            Taken::Nothing => true,
+            Taken::Place => false,
+            Taken::File => false,
+        }
+    }
+
+    /// What follows the option.
+    pub fn takes(self) -> Taken
+        ensures { IsTaken self result }
+    {
+        match self {
+            OptionName::From | OptionName::To => Taken::Place,
+            OptionName::Previous | OptionName::Next => Taken::File,
+            OptionName::Speakers | OptionName::Dop | OptionName::Check => Taken::Nothing,
+        }
+    }
+}
+
+/// The options of a command, without their hyphens.
 pub fn options_of(command: &str) -> &'static [&'static str]
     ensures { All (IsOptionOf command.now) (texts result.now) }
 {
     match command {
-        "play" => &PLACES,
+        "play" => &PLAY,
         "sum" => &["check"],
         _ => &[],
     }
 }
 
-/// Whether a command has an option.
-pub(crate) fn is_option_of(command: &str, option: &str) -> bool
+/// The option of a command that is written so, without its hyphens.
+pub(crate) fn option_named(command: &str, name: &str) -> Option<OptionName>
+    ensures { IfSome result (λ option. (name.now ≡ text_of option) × Takes command.now option) }
+{
+    if is_option_of(command, name) {
+        named(name)
+    } else {
+        None
+    }
+}
+
+// Whether a command has an option.
+fn is_option_of(command: &str, option: &str) -> bool
     ensures { result ≡ true → IsOptionOf command.now option.now }
 {
     options_of(command).contains(&option)
+}
+
+/// The option with this text.
+pub fn named(name: &str) -> Option<OptionName>
+    ensures { IfSome result (λ option. name.now ≡ text_of option) }
+{
+    match name {
+        "from" => Some(OptionName::From),
+        "to" => Some(OptionName::To),
+        "previous" => Some(OptionName::Previous),
+        "next" => Some(OptionName::Next),
+        "speakers" => Some(OptionName::Speakers),
+        "dop" => Some(OptionName::Dop),
+        "check" => Some(OptionName::Check),
+        _ => None,
+    }
 }
 
 /// Whether a word is taken for an option, or ends them.

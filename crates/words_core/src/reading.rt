@@ -1,15 +1,16 @@
 //! The words of a command, read word by word.
 
-ghost use Rattle.std.specs.Prelude.{◌≡◌, ◌↔◌, [], IfErr, IfNone, IfOk, IfSome, IsTrue, OnOk, None, Contains, codes, false, map, string_bytes};
+ghost use Rattle.std.specs.Prelude.{◌≡◌, ◌↔◌, [], IfErr, IfNone, IfOk, IfSome, IsTrue, OnOk, Contains, map, string_bytes};
 ghost use Rattle.words_core.specs.Asked.{IsUnread, commands};
-ghost use Rattle.words_core.specs.Reading.{AddsName, AddsPlace, IsMisused, IsReadFrom, ReadsWord, texts, waiting_words};
+ghost use Rattle.words_core.specs.Lines.{TakesValue};
+ghost use Rattle.words_core.specs.Reading.{AddsName, AddsValue, IsMisused, IsReadFrom, ReadsWord, texts, waiting_words};
 ghost use Rattle.words_core.specs.declared.fault.WordsFault.TheVariants as faults;
 ghost use Rattle.words_core.specs.declared.reading.Next.TheVariants as nexts;
 
 use crate::fault::{Misfit, WordsFault};
-use crate::options::{END, is_option, is_option_of, parts_of};
+use crate::options::{END, OptionName, Options, Taken, is_option, option_named, parts_of};
 use crate::words::NAMES;
-use place_core::{Place, place_named};
+use place_core::place_named;
 use std::alloc::Global;
 
 /// The words of a command, which were read.
@@ -17,22 +18,20 @@ use std::alloc::Global;
 pub struct Words<'a> {
     pub(crate) command: &'a str,
     pub(crate) names: Vec<&'a str>,
-    pub(crate) from: Option<Place>,
-    pub(crate) to: Option<Place>,
-    pub(crate) is_check: bool,
+    pub(crate) options: Options<'a>,
     /// The first word that is not UTF-8.
     pub(crate) no_text: Option<&'a str>,
     // What the next word may be.
-    next: Next<'a>,
+    next: Next,
 }
 
 // What the next word of a command may be.
 #[derive(Clone, Copy)]
-enum Next<'a> {
+enum Next {
     // A name or an option.
     Any,
-    // The place of this option.
-    PlaceOf(&'a str),
+    // The value of this option.
+    ValueOf(OptionName),
     // A name alone, after `--`.
     NameOnly,
 }
@@ -73,9 +72,7 @@ impl<'a> Words<'a> {
         let mut read = Words {
             command,
             names: Vec::new(alloc),
-            from: None,
-            to: None,
-            is_check: false,
+            options: Options::none(),
             no_text,
             next: Next::Any,
         };
@@ -83,19 +80,19 @@ impl<'a> Words<'a> {
             read.take(word.as_str())?;
         }
         match read.awaited() {
-            Some(option) => Err(read.wrong(Misfit::NoPlace(option))),
+            Some(option) => Err(read.wrong(lacking(option))),
             None => Ok(read),
         }
     }
 
-    // The option whose place is to come.
-    fn awaited(&self) -> Option<&'a str>
+    // The option whose value is to come.
+    fn awaited(&self) -> Option<OptionName>
         ensures { IfNone result (waiting_words self.now.next ≡ []) }
     {
         match self.next {
             Next::Any => None,
             Next::NameOnly => None,
-            Next::PlaceOf(option) => Some(option),
+            Next::ValueOf(option) => Some(option),
         }
     }
 
@@ -112,7 +109,7 @@ impl<'a> Words<'a> {
         ensures faults { IfErr result (IsMisused self.old.command.now) }
     {
         match self.next {
-            Next::PlaceOf(option) => self.next_place(option, word),
+            Next::ValueOf(option) => self.next_value(option, word),
             Next::NameOnly => self.name(word),
             Next::Any => self.any(word),
         }
@@ -150,65 +147,62 @@ impl<'a> Words<'a> {
         ensures faults { IfErr result (IsMisused self.old.command.now) }
     {
         let (name, value) = parts_of(word);
-        if !is_option_of(self.command, name) {
+        let Some(option) = option_named(self.command, name) else {
             return Err(self.wrong(Misfit::NoOption(word)));
+        };
+        if self.options.has(option) {
+            return Err(self.wrong(Misfit::Twice(option.text())));
         }
-        if self.has(name) {
-            return Err(self.wrong(Misfit::Twice(name)));
-        }
+        let is_flag = option.is_flag();
         match value {
-            Some(_) if name == "check" => Err(self.wrong(Misfit::Valued(name))),
-            Some(value) => self.place(name, value),
-            None if name == "check" => {
-                self.is_check = true;
+            Some(_) if is_flag => Err(self.wrong(Misfit::Valued(option.text()))),
+            Some(value) => self.value(option, value),
+            None if is_flag => {
+                self.options.set_flag(option);
                 Ok(())
             }
             None => {
-                self.next = Next::PlaceOf(name);
+                self.next = Next::ValueOf(option);
                 Ok(())
             }
         }
     }
 
-    // Whether an option was there before.
-    fn has(&self, option: &str) -> bool
-        ensures start { result ≡ false → option.now ≡ codes "from" → self.now.from ≡ None }
-        ensures end { result ≡ false → option.now ≡ codes "to" → self.now.to ≡ None }
-    {
-        match option {
-            "from" => self.from.is_some(),
-            "to" => self.to.is_some(),
-            _ => self.is_check,
-        }
-    }
-
-    // Notes the place that is the word after an option. One that begins with `--` is taken for the next option.
-    fn next_place(&mut self, option: &'a str, word: &'a str) -> Result<(), WordsFault<'a>>
-        ensures read { self.old.next ≡ nexts.PlaceOf option.entry → OnOk result (ReadsWord self.old word.now self.new) }
+    // Notes the value that is the word after an option. One that begins with `--` is taken for the next option.
+    fn next_value(&mut self, option: OptionName, word: &'a str) -> Result<(), WordsFault<'a>>
+        ensures read { self.old.next ≡ nexts.ValueOf option → OnOk result (ReadsWord self.old word.now self.new) }
         ensures faults { IfErr result (IsMisused self.old.command.now) }
     {
         if word.starts_with(END) {
-            Err(self.wrong(Misfit::NoPlace(option)))
+            Err(self.wrong(lacking(option)))
         } else {
             self.next = Next::Any;
-            self.place(option, word)
+            self.value(option, word)
         }
     }
 
-    // Notes the place of an option.
-    fn place(&mut self, option: &'a str, word: &'a str) -> Result<(), WordsFault<'a>>
-        ensures read { OnOk result (AddsPlace self.old option.now word.now self.new) }
+    // Notes the value of an option.
+    fn value(&mut self, option: OptionName, word: &'a str) -> Result<(), WordsFault<'a>>
+        ensures read { OnOk result (TakesValue option → AddsValue self.old option word.now self.new) }
         ensures faults { IfErr result (IsMisused self.old.command.now) }
     {
-        let Some(place) = place_named(word) else {
-            return Err(self.wrong(Misfit::NotPlace(option, word)));
-        };
-        if option == "from" {
-            self.from = Some(place);
-        } else {
-            self.to = Some(place);
+        match option.takes() {
+            Taken::Place => match place_named(word) {
+                Some(place) => self.options.set_place(option, place),
+                None => return Err(self.wrong(Misfit::NotPlace(option.text(), word))),
+            },
+            Taken::File => self.options.set_file(option, word),
+            Taken::Nothing => {}
         }
         Ok(())
+    }
+}
+
+// That no value comes after an option.
+fn lacking<'a>(option: OptionName) -> Misfit<'a> {
+    match option.takes() {
+        Taken::File => Misfit::NoFile(option.text()),
+        _ => Misfit::NoPlace(option.text()),
     }
 }
 

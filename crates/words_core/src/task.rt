@@ -3,7 +3,8 @@
 use form_core::Form;
 use place_core::Place;
 
-/// What a command line asks for, with the names of the files.
+/// What a command line asks for, with the names of the files. Those of `play` and `convert` say whether `--speakers` is
+/// there.
 #[derive(Clone, Copy)]
 pub enum Task<'a> {
     /// `play PROJECT IN OUT`
@@ -11,6 +12,7 @@ pub enum Task<'a> {
         project: &'a str,
         input: &'a str,
         output: &'a str,
+        speakers: bool,
     },
     /// `play --from T --to T PROJECT IN OUT`, with one of both or both
     PlayPart {
@@ -19,9 +21,31 @@ pub enum Task<'a> {
         output: &'a str,
         from: Option<Place>,
         to: Option<Place>,
+        speakers: bool,
+    },
+    /// `play --previous FILE --next FILE PROJECT IN OUT`, with one of both or both
+    PlayBetween {
+        project: &'a str,
+        input: &'a str,
+        output: &'a str,
+        previous: Option<&'a str>,
+        next: Option<&'a str>,
+        speakers: bool,
+    },
+    /// `play --dop IN OUT`
+    PlayDop {
+        input: &'a str,
+        output: &'a str,
     },
     /// `convert FORM IN OUT`
     Convert {
+        form: Form,
+        input: &'a str,
+        output: &'a str,
+        speakers: bool,
+    },
+    /// `convert --dop FORM IN OUT`
+    ConvertDop {
         form: Form,
         input: &'a str,
         output: &'a str,

@@ -1,17 +1,19 @@
 //! What the words of a command line ask for.
 
-ghost use Rattle.std.specs.Prelude.{◌≡◌, ◌⊎◌, ◌↔◌, ◌∷◌, [], ℕ, Err, List, IfErr, IfOk, IsSomeAnd, IsTrue, codes, drop, false, length, slice_get, string_bytes, true};
+ghost use Rattle.std.specs.Prelude.{◌≡◌, ◌⊎◌, ◌↔◌, ◌∷◌, [], ℕ, Err, List, Some, IfErr, IfOk, IsSomeAnd, IsTrue, codes, drop, false, length, slice_get, string_bytes, true};
 ghost use Rattle.std.specs.Borrow.{Bor};
-ghost use Rattle.words_core.specs.Asked.{AreNamesOf, HasPlaces, IsUnasked, LineAsks, TakesForm, command_of};
+ghost use Rattle.form_core.specs.FormNames.{form_named};
+ghost use Rattle.words_core.specs.Asked.{AreNamesOf, AreOptionsOf, HasPlaces, IsUnasked, LineAsks, TakesForm, command_of};
 ghost use Rattle.words_core.specs.Lines.{Line};
-ghost use Rattle.words_core.specs.Reading.{IsReadAs, KeepsOptions, ReadAsks, ReadRefused};
+ghost use Rattle.words_core.specs.Reading.{AreTogether, IsReadAs, ReadAsks, ReadRefused};
 ghost use Rattle.words_core.specs.declared.fault.Misfit.TheVariants as misfits;
 ghost use Rattle.words_core.specs.declared.fault.WordsFault.TheVariants as faults;
 
 use crate::fault::{Misfit, WordsFault};
+use crate::options::Options;
 use crate::reading::Words;
 use crate::task::Task;
-use form_core::form_named;
+use form_core::{Form, form_named};
 
 /// The commands but `sum`, each with the names of its words in order.
 pub const COMMANDS: [(&str, &[&str]); 6] = [
@@ -89,15 +91,14 @@ impl Words<'_> {
         ensures asked { IfOk result (ReadAsks (codes "convert") self.now) }
         ensures refused { IfErr result (ReadRefused (codes "convert") self.now) }
     {
+        if self.options.dop && self.options.speakers {
+            return Err(self.wrong(Misfit::Apart("dop", "speakers")));
+        }
         let [name, input, output] = self.names.as_slice() else {
             return Err(self.miscounted());
         };
         match form_named(*name) {
-            Some(form) => Ok(Task::Convert {
-                form,
-                input: *input,
-                output: *output,
-            }),
+            Some(form) => Ok(self.converting(form, *input, *output)),
             None => Err(WordsFault::UnknownForm("convert", *name)),
         }
     }
@@ -106,10 +107,31 @@ impl Words<'_> {
         ensures asked { IfOk result (ReadAsks (codes "play") self.now) }
         ensures refused { IfErr result (ReadRefused (codes "play") self.now) }
     {
+        if let Some((first, second)) = self.options.apart() {
+            return Err(self.wrong(Misfit::Apart(first.text(), second.text())));
+        }
+        if self.options.dop {
+            return self.play_dop_task();
+        }
         let [project, input, output] = self.names.as_slice() else {
             return Err(self.miscounted());
         };
         Ok(self.playing(*project, *input, *output))
+    }
+
+    fn play_dop_task(&self) -> Result<Task<'_>, WordsFault<'_>>
+        requires dop { self.now.options.dop ≡ true }
+        requires together { AreTogether self.now.options }
+        ensures asked { IfOk result (ReadAsks (codes "play") self.now) }
+        ensures refused { IfErr result (ReadRefused (codes "play") self.now) }
+    {
+        let [input, output] = self.names.as_slice() else {
+            return Err(self.miscounted());
+        };
+        Ok(Task::PlayDop {
+            input: *input,
+            output: *output,
+        })
     }
 
     fn edit_task(&self) -> Result<Task<'_>, WordsFault<'_>>
@@ -165,7 +187,7 @@ impl Words<'_> {
             return Err(self.miscounted());
         }
         Ok(Task::Sum {
-            is_check: self.is_check,
+            is_check: self.options.check,
             files: self.names.as_slice(),
         })
     }
@@ -177,25 +199,69 @@ impl Words<'_> {
         self.wrong(Misfit::Names(self.names.len()))
     }
 
-    // The task to play all or a part.
-    fn playing<'b>(&self, project: &'b str, input: &'b str, output: &'b str) -> Task<'b>
+    // The task to convert.
+    fn converting<'b>(&self, form: Form, input: &'b str, output: &'b str) -> Task<'b>
+        requires together { self.now.options.dop ≡ true → self.now.options.speakers ≡ false }
+        ensures names { (name : List ℕ) → form_named name ≡ Some form → AreNamesOf result (name ∷ input.now ∷ output.now ∷ []) }
+        ensures options { AreOptionsOf result self.now.options }
+        ensures places { HasPlaces result }
+        ensures command { codes "convert" ≡ command_of result }
+    {
+        if self.options.dop {
+            Task::ConvertDop {
+                form,
+                input,
+                output,
+            }
+        } else {
+            Task::Convert {
+                form,
+                input,
+                output,
+                speakers: self.options.speakers,
+            }
+        }
+    }
+
+    // The task to play all, a part, or all between others.
+    fn playing<'b>(&'b self, project: &'b str, input: &'b str, output: &'b str) -> Task<'b>
+        requires plain { self.now.options.dop ≡ false }
+        requires together { AreTogether self.now.options }
         ensures names { AreNamesOf result (project.now ∷ input.now ∷ output.now ∷ []) }
-        ensures options { KeepsOptions self.now result }
+        ensures options { AreOptionsOf result self.now.options }
         ensures places { HasPlaces result }
         ensures command { codes "play" ≡ command_of result }
     {
-        match (self.from, self.to) {
-            (None, None) => Task::Play {
+        let Options {
+            from,
+            to,
+            previous,
+            next,
+            speakers,
+            ..
+        } = self.options;
+        match (from, to, previous, next) {
+            (None, None, None, None) => Task::Play {
                 project,
                 input,
                 output,
+                speakers,
             },
-            (from, to) => Task::PlayPart {
+            (from, to, None, None) => Task::PlayPart {
                 project,
                 input,
                 output,
                 from,
                 to,
+                speakers,
+            },
+            (_, _, previous, next) => Task::PlayBetween {
+                project,
+                input,
+                output,
+                previous,
+                next,
+                speakers,
             },
         }
     }

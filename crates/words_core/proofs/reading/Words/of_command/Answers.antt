@@ -14,7 +14,7 @@ returns-then-not-is_command-clause-faults c = (
 
 pub loop-word-init : goal.loop-word-init
 loop-word-init c = begun string_bytes c.args.words.now c.in-Some.rest.now c.in-Some.command.now c.as_str-command.result.now _ c.in-Some.ensures.cases.0 c.as_str-command.ensures.value
-    (begins c.as_str-command.result.now _ refl (search rules) refl refl refl refl)
+    (begins c.as_str-command.result.now _ refl (search rules) c.none.ensures refl)
 
 pub loop-word-preserved : goal.loop-word-preserved
 loop-word-preserved c = one_more string_bytes c.args.words.now c.in-Some.rest.now c.in-Some.command.now c.loop-word.word-index c.word-item.result c.loop-word.read c.take.new.self

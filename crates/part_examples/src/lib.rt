@@ -7,6 +7,8 @@
 #![tactic(auto)]
 
 #[cfg(test)]
+mod between;
+#[cfg(test)]
 mod bits;
 #[cfg(test)]
 mod bridges;

@@ -22,3 +22,5 @@ pub mod FaultLaws
 pub mod WaveLaws
 pub mod SinkLaws
 pub mod FileLaws
+pub mod JoinLaws
+pub mod ReachLaws

@@ -14,3 +14,6 @@ pub mod Pieces
 pub mod Playing
 pub mod Pace
 pub mod Sinks
+pub mod Between
+pub mod Joining
+pub mod Reaches

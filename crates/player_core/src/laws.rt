@@ -3,6 +3,7 @@
 ghost use Rattle.player_core.specs.Laws.{FileHasSize, FramesFill, PrefixComesFirst, NothingIsDue, SoundIsPlayed};
 ghost use Rattle.player_core.specs.Parts.{PartHasFrames, PartsMeet, WholeIsPart};
 ghost use Rattle.player_core.specs.Playing.{PartIsPlayed, WholeIsAll};
+ghost use Rattle.player_core.specs.Reaches.{HeadIsEnough, TailIsEnough, TracksMeet};
 
 use wave_core::parts_join;
 
@@ -61,4 +62,21 @@ pub fn part_is_played()
 /// The law of a whole recording: its range of frames is all that is played of it, and no sound lacks frames of that.
 pub fn whole_is_all()
     ensures { WholeIsAll }
+{}
+
+/// The law of what is before: of the channels before a recording the bits from a frame on are enough, before which the
+/// recording's first frame reads none.
+pub fn tail_is_enough()
+    ensures { TailIsEnough }
+{}
+
+/// The law of what is after: of the channels after a recording as many bits are enough as the filter's delay.
+pub fn head_is_enough()
+    ensures { HeadIsEnough }
+{}
+
+/// The law of tracks: what is played of a recording between its neighbours, and then of the next one between its own,
+/// is what is played of both in the recording that all make.
+pub fn tracks_meet()
+    ensures { TracksMeet }
 {}

@@ -12,6 +12,11 @@
 //! sound, and those that follow it in a DSDIFF form, or the tag of a DSF file. A file that holds no recording is
 //! refused with its first fault.
 //!
+//! [`play_between`] plays a file as a part of the recording that it makes with the sound before and after it: the frames
+//! whose place lies in the file's own sound. Its sink (`joining.rt`) feeds the player what is before, each part of the
+//! sound with a byte of each channel in turn, and what is after. Of what is before and after, it is given only what the
+//! filter reaches ([`tail_is_enough`], [`head_is_enough`]). Tracks that follow each other meet ([`tracks_meet`]).
+//!
 //! The words of the contracts:
 //!
 //! - `frames d channels` is the samples of channels, frame by frame, `tile_of` some of them channel by channel
@@ -32,6 +37,8 @@
 //!   decimator, `Applies d range file fault` that a fault applies (`specs/Playing.antt`).
 //! - `PlaysTo` says that what an inlet's file plays was written to an outlet, `PlaysReadTo` the same of the bytes that
 //!   were read, and `WritesPrefixTo` that a prefix of it was written (`specs/Playing.antt`).
+//! - `joined before own after` is the channels of three recordings, joined, `between_pcm` what is played of the second
+//!   (`specs/Between.antt`), and `PlaysBetween d rate before after file bytes` the WAVE text of that for a file.
 //! - `Lags` says that what was written lags what was read by at most 131,072 bytes of the sound, as `KeepsUpBy` defines
 //!   it (`specs/Pace.antt`).
 //! - `OnOutlet held old new P` says that P holds of the bytes before and after a call (`specs/Outlets.antt`).
@@ -66,7 +73,9 @@
 //! ```
 #![tactic(auto)]
 
+mod between;
 mod groups;
+mod joining;
 mod laws;
 mod parts;
 mod pausing;
@@ -79,10 +88,12 @@ mod spec;
 mod wave;
 mod wave_file;
 
+pub use between::play_between;
+pub use joining::Neighbours;
 pub use laws::{
-    file_has_its_size, frames_fill_the_data, frames_of_a_prefix_come_first,
+    file_has_its_size, frames_fill_the_data, frames_of_a_prefix_come_first, head_is_enough,
     nothing_is_due_at_first, part_has_its_frames, part_is_played, parts_meet, sound_is_played,
-    whole_is_a_part, whole_is_all,
+    tail_is_enough, tracks_meet, whole_is_a_part, whole_is_all,
 };
 pub use parts::PartPlayer;
 pub use pausing::PausedPart;

@@ -91,6 +91,22 @@ impl<'a, 't, W: Write> SoundSink for PlayingSink<'a, 't, W> {
     }
 
     fn take(&mut self, _alloc: Global, _part: SoundPart, bytes: &[u8]) -> Result<(), StreamFault> {
+        self.push(bytes)
+    }
+}
+
+impl<'a, 't, W: Write> PlayingSink<'a, 't, W> {
+    ghost use Rattle.std.specs.Prelude.{IfErr, OnOk, length};
+    ghost use Rattle.player_core.specs.Joining.{MayTake, PushesOn, RefusesPush};
+    ghost use Rattle.sound_core.specs.Faults.{IsWritingFault};
+
+    /// Takes the next bytes of the sound.
+    pub(crate) fn push(&mut self, bytes: &[u8]) -> Result<(), StreamFault>
+        requires few { MayTake W.contents self.old (length bytes.now) }
+        ensures has { OnOk result (PushesOn W.contents self.old self.new bytes.now) }
+        ensures fault { IfErr result IsWritingFault }
+        ensures refused { IfErr result (RefusesPush W.contents self.old self.new bytes.now) }
+    {
         match &mut *self.player {
             Some(player) => {
                 if player.is_complete() {

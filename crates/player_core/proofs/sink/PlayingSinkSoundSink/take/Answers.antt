@@ -1,36 +1,15 @@
-use Rattle.std.proofs.Common.{arith, refl}
-use Rattle.sound_core.proofs.FaultLaws.{fault_is}
+use Rattle.std.proofs.Common.{arith}
+use Rattle.std.proofs.lemmas.Result.{IfErr-weaker}
 use Rattle.sound_core.proofs.TakingLaws.{part_within}
-use Rattle.player_core.proofs.SinkLaws.{all_fed, came_few, fed_few, feeding_all, playing_on, playing_refuses, passed_on}
+use Rattle.player_core.specs.Joining.{PushesOn}
+use Rattle.player_core.proofs.JoinLaws.{on_ok}
 use Rattle.player_core.proofs.sink.PlayingSinkSoundSink.take.Goals as goal
 
-pub returns-then-is_complete-clause-has : goal.returns-then-is_complete-clause-has
-returns-then-is_complete-clause-has g c = λ first before fed is.
-    passed_on g.W.Write.contents first c.args.self.now c.args._part.sound before is c.in-Some.player c.in-Some.is (c.is_complete.ensures.complete c.if-is_complete.true) c.args.bytes.now _ refl refl refl refl refl refl
-
-pub put_due-requires-clause-few : goal.put_due-requires-clause-few
-put_due-requires-clause-few g c =
-    let fed = c.requires.fed in
-    let early = c.is_complete.ensures.incomplete c.if-is_complete.false in
-    fed_few g.W.Write.contents fed.0 c.args.self.now c.args._part.sound fed.1 (feeding_all g.W.Write.contents fed.0 c.args.self.now c.args._part.sound fed.1 fed.3 c.in-Some.player c.in-Some.is early) c.in-Some.player c.in-Some.is c.args.bytes.now (omega (arith, part_within c.args._part fed.1 fed.2, c.requires.size))
-
-pub returns-in_err-put_due-in-Some-clause-refused : goal.returns-in_err-put_due-in-Some-clause-refused
-returns-in_err-put_due-in-Some-clause-refused g c =
-    let put = c.in_err-put_due-in-Some.ensures in
-    let early = c.is_complete.ensures.incomplete c.if-is_complete.false in
-    rw (fault_is c.from_residual.result _ c.from_residual.ensures.1) (λ first before fed is.
-    playing_refuses g.W.Write.contents first c.args.self.now c.args._part.sound before (feeding_all g.W.Write.contents first c.args.self.now c.args._part.sound before is c.in-Some.player c.in-Some.is early) c.in-Some.player c.in-Some.is _ c.args.bytes.now refl c.in_err-put_due-in-Some.field-0.0 put.fault put.prefix put.failures)
-
-pub overflow_add-self : goal.overflow_add-self
-overflow_add-self g c =
-    let fed = c.requires.fed in
-    let early = c.is_complete.ensures.incomplete c.if-is_complete.false in
-    omega (arith, came_few g.W.Write.contents fed.0 c.args.self.now c.args._part.sound fed.1 (feeding_all g.W.Write.contents fed.0 c.args.self.now c.args._part.sound fed.1 fed.3 c.in-Some.player c.in-Some.is early) c.in-Some.player c.in-Some.is c.args.bytes.now (omega (arith, part_within c.args._part fed.1 fed.2, c.requires.size)))
+pub push-requires : goal.push-requires
+push-requires g c = let fed = c.requires.fed in record { few = (fed.0, c.args._part.sound, fed.1, fed.3, omega (arith, part_within c.args._part fed.1 fed.2, c.requires.size)) }
 
 pub returns-clause-has : goal.returns-clause-has
-returns-clause-has g c =
-    let put = c.in_ok-put_due-in-Some.ensures in
-    let early = c.is_complete.ensures.incomplete c.if-is_complete.false in
-    λ first before fed is.
-    all_fed g.W.Write.contents first _ c.args._part.sound _
-    (playing_on g.W.Write.contents first c.args.self.now c.args._part.sound before (feeding_all g.W.Write.contents first c.args.self.now c.args._part.sound before is c.in-Some.player c.in-Some.is early) c.in-Some.player c.in-Some.is _ c.args.bytes.now refl refl refl refl c.put_due.new.player refl put.player put.same put.ok (omega (arith, put.failures)))
+returns-clause-has g c = on_ok c.push.result _ _ (λ (pushes : PushesOn g.W.Write.contents c.args.self.now c.push.new.self c.args.bytes.now) first before fed is. pushes first c.args._part.sound before is) c.push.ensures.has
+
+pub returns-clause-refused : goal.returns-clause-refused
+returns-clause-refused g c = IfErr-weaker c.push.result _ _ (λ f refuses first before fed is. refuses first c.args._part.sound before is) c.push.ensures.refused

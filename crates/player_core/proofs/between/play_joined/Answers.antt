@@ -1,0 +1,35 @@
+use Rattle.chunk_core.specs.Inlets.{inlet_reader}
+use Rattle.sound_core.specs.Outlines.{around_of}
+use Rattle.player_core.proofs.FaultLaws.{fault_is}
+use Rattle.player_core.proofs.JoinLaws.{end_requires, file_played, given_played, same_end}
+use Rattle.player_core.proofs.between.play_joined.Goals as goal
+
+pub finish_joined-requires : goal.finish_joined-requires
+finish_joined-requires g c = record { all = end_requires g.W.Write.contents c.args.sink.now c.read_named.new.sink c.read_named.new.sink (around_of c.in_ok-outline.outline) c.in_ok-outline.ensures.ok.0 g.R.Read.remaining c.args.inlet.now c.read_named.new.inlet c.in_ok-outline.ensures.any_reader }
+
+pub returns-in_err-outline-clause-named : goal.returns-in_err-outline-clause-named
+returns-in_err-outline-clause-named g c = rw (fault_is c.from_residual.result _ c.from_residual.ensures.1) c.in_err-outline.ensures.named
+
+pub returns-in-Ok : goal.returns-in-Ok
+returns-in-Ok g c =
+    let old = c.args.sink.now in
+    let mid = c.read_named.new.sink in
+    let new = c.finish_joined.new.sink in
+    let held = g.W.Write.contents in
+    let left = g.R.Read.remaining in
+    let o = around_of c.in_ok-outline.outline in
+    let taken = c.in_ok-outline.ensures in
+    let stated = taken.ok.0 in
+    let law = c.part_is_played.ensures in
+    let least = c.requires.least in
+    let i = c.args.inlet.now in
+    let j = c.read_named.new.inlet in
+    let n = c.in-Ok.count in
+    let ends = c.in-Ok.ensures.ok in
+    record {
+      same = same_end held old mid new o stated left i j taken.any_reader n ends;
+      ok = file_played held old mid new o stated law least n ends (left (inlet_reader i)) taken.ok;
+      any_reader = given_played held old mid new o stated law least n ends left i j taken.any_reader;
+      named = tt;
+      reads = c.read_named.ensures.reads;
+    }

@@ -1,0 +1,111 @@
+-- What is played of a recording between others, to which it is joined.
+use Rattle.std.specs.Prelude.{◌≡◌, ℕ, ◌+◌, ◌*◌, ◌/◌, ◌%◌, ◌≤◌, ◌^◌, Bool, List, [], ◌++◌, length, map, Option, Some, slice_index_or}
+use Rattle.std.specs.List.{range_with_len}
+use Rattle.std.specs.Int.{div_ceil}
+use Rattle.dsd_bits.specs.declared.interleaving.Interleaving.{Interleaving}
+use Rattle.dsd_bits.specs.declared.interleaving.Interleaving.TheVariants.{Bytes, Blocks}
+use Rattle.dsd_bits.specs.declared.sound.Sound.{Sound}
+use Rattle.dsd_bits.specs.Channels.{count_of}
+use Rattle.dsd_bits.specs.Contents.{Content}
+use Rattle.dsd_bits.specs.Lacing.{unlaced_all}
+use Rattle.fir_core.specs.Decimator.{Decimator}
+use Rattle.interleave_core.specs.Reinterleaving.{reinterleaved}
+use Rattle.sound_core.specs.Files.{HoldsRecording}
+use Rattle.wave_core.specs.Contents.{Pcm}
+use Rattle.wave_core.specs.Texts.{wave_text}
+use Rattle.player_core.specs.Playing.{part_pcm}
+use Rattle.player_core.specs.declared.joining.JoiningSink.{JoiningSink}
+use Rattle.player_core.specs.declared.joining.Neighbours.{Neighbours}
+use Rattle.player_core.specs.declared.range.FrameRange.{FrameRange}
+use Rattle.player_core.specs.declared.sink.PlayingSink.{PlayingSink}
+use Rattle.player_core.specs.Sinks.{IsPlaying}
+
+-- the channels of three recordings joined: each channel's bits before, its own and those after; a recording that isn't
+-- there has no channels
+abbrev pub joined : List (List Bool) → List (List Bool) → List (List Bool) → List (List Bool)
+joined before own after = map (λ c. slice_index_or before c [] ++ (slice_index_or own c [] ++ slice_index_or after c [])) (range_with_len 0 (length own))
+
+-- the first frame whose place, its number times the factor, comes after `count` bits
+abbrev pub frame_after : Decimator → ℕ → ℕ
+frame_after d count = div_ceil count d.factor
+
+-- the samples of a recording between others: of the frames of all joined those whose place lies in the recording
+abbrev pub between_pcm : Content → Decimator → List (List Bool) → List (List Bool) → Pcm
+between_pcm r d before after = part_pcm (record r { channels = joined before r.channels after }) d
+    (frame_after d (count_of before)) (frame_after d (count_of before + count_of r.channels))
+
+-- the file holds a recording of whole bytes, whose rate the factor divides, and these bytes are the WAVE text of its
+-- samples between others, which have as many channels and its rate
+pub record PlaysBetween (d : Decimator) (rate : ℕ) (before after : List (List Bool)) (file bytes : List ℕ) : Type 0 where
+  pub recording : Content
+  pub file_holds : HoldsRecording file recording
+  pub rate_same : recording.rate ≡ rate
+  pub number_before : length before ≡ length recording.channels
+  pub number_after : length after ≡ length recording.channels
+  pub whole : count_of recording.channels % 8 ≡ 0
+  pub rate_divided : recording.rate % d.factor ≡ 0
+  pub text : wave_text (between_pcm recording d before after) ≡ Some bytes
+
+-- ---- sound bytes before and after
+-- the channels before a sound
+abbrev pub channels_before : Neighbours → List (List Bool)
+channels_before around = unlaced_all around.before.now around.channels
+
+-- the channels after a sound
+abbrev pub channels_after : Neighbours → List (List Bool)
+channels_after around = unlaced_all around.after.now around.channels
+
+-- how many bits each channel has before a sound
+abbrev pub bits_before : Neighbours → ℕ
+bits_before around = 8 * (length around.before.now / around.channels)
+
+-- how many bits each channel has after a sound
+abbrev pub bits_after : Neighbours → ℕ
+bits_after around = 8 * (length around.after.now / around.channels)
+
+-- a sound joined to its neighbours, with a byte of each channel in turn
+abbrev pub joined_of : Neighbours → Sound → Sound
+joined_of around s = record {
+  rate = s.rate;
+  channels = s.channels;
+  count = bits_before around + (s.count + bits_after around);
+  start = 0;
+  size = length around.before.now + (s.count / 8 * s.channels + length around.after.now);
+  interleaving = Bytes;
+}
+
+-- a sound can be joined to its neighbours, and this is the joined one: they have the same rate and channels, and all
+-- end with whole bytes
+pub record IsJoined (around : Neighbours) (s j : Sound) : Type 0 where
+  pub rate : s.rate ≡ around.rate
+  pub channels : s.channels ≡ around.channels
+  pub whole : s.count % 8 ≡ 0
+  pub before_whole : length around.before.now ≡ length around.before.now / around.channels * around.channels
+  pub after_whole : length around.after.now ≡ length around.after.now / around.channels * around.channels
+  pub few : bits_before around + (s.count + bits_after around) ≤ 2 ^ 36
+  pub is : j ≡ joined_of around s
+
+-- the frames of a joined sound whose place lies in the sound itself
+abbrev pub own_range : Decimator → Neighbours → Sound → FrameRange
+own_range d around s = record { start = frame_after d (bits_before around); stop = Some (frame_after d (bits_before around + s.count)) }
+
+-- sound bytes of `count` bits of each channel, with a byte of each channel in turn
+abbrev pub framed : Interleaving → ℕ → ℕ → List ℕ → List ℕ
+framed Bytes channels count bytes = bytes
+framed (Blocks order) channels count bytes = reinterleaved (Blocks order) Bytes channels count bytes
+
+-- the first `done` bits of each channel of a sound, with a byte of each channel in turn
+abbrev pub in_frames : Sound → ℕ → List ℕ → List ℕ
+in_frames s done bytes = framed s.interleaving s.channels done bytes
+
+-- a sink that plays, with other frames
+abbrev pub with_range : {W : Type 0} → PlayingSink W → FrameRange → PlayingSink W
+with_range p range = record p { range = range }
+
+-- after these bytes of a sound, the sink of the joined sound has what is before it, and these in frames
+pub record IsJoining {W : Type 0} (held : W → Option (List ℕ)) (first now : JoiningSink W) (s : Sound) (done : ℕ) (bytes : List ℕ) : Type 0 where
+  pub around : now.around ≡ first.around
+  pub reference : now.playing.ghost_name ≡ first.playing.ghost_name
+  pub joined : Sound
+  pub is_joined : IsJoined first.around s joined
+  pub playing : IsPlaying held (with_range first.playing.now (own_range first.playing.now.taps.now first.around s)) now.playing.now joined (first.around.before.now ++ in_frames s done bytes)

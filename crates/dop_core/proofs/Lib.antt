@@ -1,0 +1,11 @@
+pub mod AgainLaws
+pub mod ChunkLaws
+pub mod FaultLaws
+pub mod FileLaws
+pub mod MarkerLaws
+pub mod PlayLaws
+pub mod RelationLaws
+pub mod RoundTrip
+pub mod SampleLaws
+pub mod SoundLaws
+pub mod WriteLaws

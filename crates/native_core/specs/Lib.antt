@@ -1,0 +1,2 @@
+pub mod Native
+pub mod Runs

@@ -1,5 +1,6 @@
 pub mod ConvertLaws
 pub mod DigestLaws
+pub mod DopLaws
 pub mod ExcerptLaws
 pub mod FindingLaws
 pub mod PlayLaws
@@ -12,3 +13,4 @@ pub mod ReportLaws
 pub mod PartLaws
 pub mod GapLaws
 pub mod SkippedLaws
+pub mod SpeakLaws

@@ -1,12 +1,15 @@
 pub mod Converting
 pub mod Digesting
+pub mod DopConverting
+pub mod DopPlaying
 pub mod Excerpts
 pub mod Faults
 pub mod Gaps
-pub mod Outlining
 pub mod Opening
+pub mod Outlining
 pub mod PartPlaying
 pub mod Playing
 pub mod Reporting
 pub mod Sources
+pub mod Speaking
 pub mod Summing

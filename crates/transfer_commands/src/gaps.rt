@@ -115,8 +115,8 @@ fn bytes_up_to(sound: &Sound, bit: u64) -> u64
     (bit / 8 / size + 1).saturating_mul(group)
 }
 
-// How many neighbouring bytes of a channel there are: one, or a block.
-fn neighbours(sound: &Sound) -> u64
+/// How many neighbouring bytes of a channel there are: one, or a block.
+pub(crate) fn neighbours(sound: &Sound) -> u64
     ensures size { result ≡ part_size sound.now.interleaving }
     ensures known { (1 ≤ result) × (result ≤ 4096) }
 {

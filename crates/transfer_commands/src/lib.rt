@@ -3,6 +3,7 @@
 //!
 //! - [`play_file`] reads a project, opens a recording, and writes its WAVE file piece by piece.
 //! - [`play_part_file`] does so with a part of the recording, which it finds first by reading the recording through.
+//! - [`play_speakers_file`] does so too, and names the loudspeakers of the channels in the WAVE file.
 //! - [`convert_file`] reads a recording through, and only then creates the file in the other form. What can't be read
 //!   again it holds.
 //! - [`open_file`] reads a recording to report what it holds.
@@ -31,6 +32,7 @@
 //! ```
 #![tactic(auto)]
 
+mod convert_dop;
 mod converting;
 mod digesting;
 mod excerpts;
@@ -41,16 +43,21 @@ mod laws;
 mod opened;
 mod outlining;
 mod parts;
+mod play_dop;
 mod playing;
 mod reporting;
 mod sources;
+mod speaking;
 mod summing;
 
+pub use convert_dop::{DopConvertFault, convert_dop_file};
 pub use converting::convert_file;
 pub use fault::CommandFault;
 pub use laws::kept_sound_has_same_sums;
 pub use parts::{PartFault, play_part_file};
+pub use play_dop::play_dop_file;
 pub use playing::play_file;
 pub use reporting::{Reported, open_file};
 pub use sources::{Sources, source_excerpts};
+pub use speaking::play_speakers_file;
 pub use summing::{Sums, sum_file};

@@ -65,20 +65,20 @@ impl From<SpanFault> for PartFault {
     }
 }
 
-// A part that is played: the project's text, how many bits make a frame, the first frame, and the first after it.
+/// A part that is played: the project's text, how many bits make a frame, the first frame, and the first after it.
 #[derive(Clone, Copy)]
-struct Part<'a> {
-    project: &'a [u8],
-    factor: u32,
-    start: usize,
-    stop: usize,
+pub(crate) struct Part<'a> {
+    pub(crate) project: &'a [u8],
+    pub(crate) factor: u32,
+    pub(crate) start: usize,
+    pub(crate) stop: usize,
 }
 
-// A part that was found, and its file, of which the prefix was read.
+/// A part that was found, and its file, of which the prefix was read.
 #[derive(Drop)]
-struct FoundPart<'a, R> {
-    part: Part<'a>,
-    opened: OpenedFile<R>,
+pub(crate) struct FoundPart<'a, R> {
+    pub(crate) part: Part<'a>,
+    pub(crate) opened: OpenedFile<R>,
 }
 
 /// Reads the project, finds the part in the recording, creates the WAVE file and plays the part to it. Returns how many
@@ -107,8 +107,8 @@ pub fn play_part_file<F: Folder>(
     Ok(play_to(alloc, folder, source_of(found), output)?)
 }
 
-// The part of a file that a span names, by a project's text, and the file, opened to be played.
-fn find_part<'a, F: Folder>(
+/// The part of a file that a span names, by a project's text, and the file, opened to be played.
+pub(crate) fn find_part<'a, F: Folder>(
     alloc: Global,
     folder: &mut F,
     project: &'a [u8],

@@ -116,8 +116,8 @@ fn play_source<F: Folder>(
     play_reader(alloc, project, range, Cursor::new(prefix).chain(rest), wave)
 }
 
-// Plays a reader's file to a writer, and returns that.
-fn play_reader<R: Read + Drop, W: Write>(
+/// Plays a reader's file to a writer, and returns that.
+pub(crate) fn play_reader<R: Read + Drop, W: Write>(
     alloc: Global,
     project: &[u8],
     range: FrameRange,

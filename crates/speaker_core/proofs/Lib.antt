@@ -1,0 +1,4 @@
+pub mod GroupLaws
+pub mod PatchLaws
+pub mod ReadingLaws
+pub mod WritingLaws

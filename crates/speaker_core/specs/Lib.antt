@@ -1,0 +1,5 @@
+pub mod Patches
+pub mod Patched
+pub mod Reordered
+pub mod Reordering
+pub mod Speakers

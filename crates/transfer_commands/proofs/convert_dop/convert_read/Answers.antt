@@ -1,0 +1,21 @@
+use Rattle.std.proofs.Common.{◌∙◌, Err, ap, subst, sym}
+use Rattle.std.proofs.lemmas.Result.{err_from_is_err_and}
+use Rattle.folder_core.specs.Files.{IsPutInPart}
+use Rattle.transfer_commands.specs.DopConverting.{ConvertDopComesTo}
+use Rattle.transfer_commands.proofs.DopLaws.{dop_unwritten}
+use Rattle.transfer_commands.proofs.convert_dop.convert_read.Goals as goal
+
+pub returns-in_err-write_file : goal.returns-in_err-write_file
+returns-in_err-write_file g c = λ input read.
+    let p = err_from_is_err_and c.from_residual.result c.from_residual.ensures.1 in
+    let old = g.F.Folder.view c.args.folder.now in
+    let new = g.F.Folder.view c.write_file.new.folder in
+    let output = c.args.output.now in
+    subst (ConvertDopComesTo c.args.form input output old new) (sym (p.1 ∙ ap Err p.2)) (dop_unwritten c.args.form input output old new c.in_err-write_file.field-0.0 c.in_err-write_file.ensures.fault (record {
+      recording = c.in-Ok.recording;
+      reads = record { file = c.args.file.now; file_read = read; has = c.in-Ok.ensures.exact };
+      bytes = c.in-Ok-write_in.bytes.items;
+      text = c.in-Ok-write_in.ensures.text;
+      part = subst (IsPutInPart output old new) c.deref.ensures.value c.in_err-write_file.ensures.refused;
+      others = c.in_err-write_file.ensures.others;
+    }))

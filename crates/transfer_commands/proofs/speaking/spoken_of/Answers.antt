@@ -1,0 +1,5 @@
+use Rattle.transfer_commands.proofs.SpeakLaws.{in_two_parts}
+use Rattle.transfer_commands.proofs.speaking.spoken_of.Goals as goal
+
+pub returns-clause-left : goal.returns-clause-left
+returns-clause-left g c = λ left. in_two_parts c.in_ok-head.head.items c.in_ok-head.tail.items c.args.found.opened.prefix.items (left c.args.found.opened.file) c.in_ok-head.ensures.parts

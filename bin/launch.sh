@@ -109,7 +109,7 @@ plays_by_wish() {
             program\ *) play_before='' && continue ;;
             --from\ * | --to\ *) play_before='' && continue ;;
             " --from" | " --to") play_before="$play_argument" && continue ;;
-            " --from="* | " --to="*) continue ;;
+            " --from="* | " --to="* | " --speakers") continue ;;
             " --") play_before=names && continue ;;
             " --plus6") play_louder=yes play_drops="$play_drops$play_place " && continue ;;
             " --explain") play_explains=--explain play_drops="$play_drops$play_place " && continue ;;
@@ -242,7 +242,7 @@ run_child() {
     child_first='' child_second='' child_before=''
     for child_name; do
         case "$child_before:$child_name" in
-            --from:* | --to:* | *:--from | *:--to | *:--from=* | *:--to=*) ;;
+            --from:* | --to:* | *:--from | *:--to | *:--from=* | *:--to=* | *:--speakers) ;;
             *) child_first="$child_second" child_second="$child_name" ;;
         esac
         child_before="$child_name"

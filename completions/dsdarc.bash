@@ -83,7 +83,7 @@ _dsdarc() {
             width=2
             case "${COMP_WORDS[next]}" in
                 --from | --to) ;;
-                --plus6) width=1 ;;
+                --plus6 | --speakers) width=1 ;;
                 *) break ;;
             esac
             if [ "$width" -eq 2 ] && [ "${COMP_WORDS[next + 1]-}" = @ ]; then width=3; fi
@@ -97,7 +97,7 @@ _dsdarc() {
         case "$cur" in
             --*)
                 compopt +o filenames +o default 2>/dev/null
-                _dsdarc_words --from --to --plus6
+                _dsdarc_words --from --to --speakers --plus6
                 return
                 ;;
         esac

@@ -459,7 +459,7 @@ SUMS: tuple[Any, ...] = (
 
 ALL_COMMANDS = "the commands are info, convert, play, edit, check, nulltest, sum; dsdarc --help prints the usage"
 
-PLAY_USAGE = "; usage: dsdarc play [--from T] [--to T] [--plus6] PROJECT IN OUT"
+PLAY_USAGE = "; usage: dsdarc play [--from T] [--to T] [--speakers] [--plus6] PROJECT IN OUT"
 SUM_USAGE = "; usage: dsdarc sum [--check] FILE.."
 FROM_0_TO_59 = "; after a colon come minutes or seconds from 0 to 59"
 A_PLACE = "takes a time (90, 1:30 or 1:02:03.5), a frame (@123456) or a mark of a DSDIFF file (#3)"

@@ -30,7 +30,7 @@
 //! ends with the status of the outcome, or of the fault that it couldn't be printed.
 //!
 //! ```text
-//! let task = Task::Convert { form: Form::Dsf, input: "in.dff", output: "out.dsf" };
+//! let task = Task::Convert { form: Form::Dsf, input: "in.dff", output: "out.dsf", speakers: false };
 //! match perform(alloc, task, &mut folder) {
 //!     Ok(outcome) => outcome_line(alloc, &outcome)?,   // converted dropped 0; status(&outcome) is 0
 //!     Err(sums) => ..                                   // only for Task::Sum

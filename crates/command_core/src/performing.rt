@@ -1,7 +1,7 @@
 //! Commands over the files of a folder.
 
 ghost use Rattle.std.specs.Prelude.{◌≡◌, IfErr, IfOk, OnErr};
-ghost use Rattle.command_core.specs.Commands.{CheckComesTo, EditComesTo, TaskComesTo, cut_into};
+ghost use Rattle.command_core.specs.Commands.{CheckComesTo, EditComesTo, PlaysAs, PlaysPartAs, TaskComesTo, cut_into};
 ghost use Rattle.command_core.specs.Outcomes.{outcome_of, part_outcome_of, tested_outcome, verdict_of};
 ghost use Rattle.command_core.specs.declared.outcome.Outcome.TheVariants as outcomes;
 ghost use Rattle.words_core.specs.declared.task.Task.TheVariants as tasks;
@@ -18,7 +18,7 @@ use null_commands::{TestFault, Tested, null_test_files};
 use std::alloc::Global;
 use transfer_commands::{
     CommandFault, PartFault, Reported, convert_file, open_file, play_file, play_part_file,
-    source_excerpts,
+    play_speakers_file, source_excerpts,
 };
 use transfer_core::Span;
 use words_core::Task;
@@ -44,6 +44,8 @@ pub struct SumTask<'a> {
 ///   piece.
 /// - `PlayPart`: The recording is read through as for `Info`, to find the part. Then it is played as by `Play`, and
 ///   what lies before the part is dropped. One that can't be opened again is played in the same opening.
+/// - Either with `speakers`: the recording is also read through as for `Info` before that, for its loudspeakers, and can't
+///   be one that can't be opened again.
 /// - `Convert` and `Check`: see below.
 ///
 /// `Check` reads a master once, and its certificate while the master is judged. Both are read to their ends, whatever
@@ -78,21 +80,29 @@ pub fn perform<'a, F: Folder>(
             project,
             input,
             output,
-        } => Ok(played(play_file(alloc, folder, project, input, output))),
+            speakers,
+        } => Ok(play_all(alloc, folder, project, input, output, speakers)),
         Task::PlayPart {
             project,
             input,
             output,
             from,
             to,
+            speakers,
         } => {
-            let span = Span { from, to };
-            Ok(played_part(play_part_file(alloc, folder, project, input, output, span)))
+            let part = PartTask {
+                project,
+                input,
+                output,
+                span: Span { from, to },
+            };
+            Ok(play_some(alloc, folder, part, speakers))
         }
         Task::Convert {
             form,
             input,
             output,
+            ..
         } => Ok(converted(convert_file(alloc, folder, form, input, output))),
         Task::Edit {
             form,
@@ -106,8 +116,65 @@ pub fn perform<'a, F: Folder>(
             cert,
         } => Ok(judged(check_files(alloc, folder, project, master, cert))),
         Task::NullTest { mix, master } => Ok(tested(null_test_files(alloc, folder, mix, master))),
+        Task::PlayBetween { .. } | Task::PlayDop { .. } | Task::ConvertDop { .. } => {
+            Ok(Outcome::WrongWords)
+        }
         Task::Info { file } => Ok(reported(open_file(alloc, folder, file))),
         Task::Sum { is_check, files } => Err(SumTask { is_check, files }),
+    }
+}
+
+// A part that is asked for.
+#[derive(Clone, Copy)]
+struct PartTask<'a> {
+    project: &'a str,
+    input: &'a str,
+    output: &'a str,
+    span: Span,
+}
+
+// Plays all of a file, with the loudspeakers of its channels if they are asked for.
+fn play_all<F: Folder>(
+    alloc: Global,
+    folder: &mut F,
+    project: &str,
+    input: &str,
+    output: &str,
+    speakers: bool,
+) -> Outcome
+    ensures { PlaysAs speakers project.now input.now output.now (F.view folder.old) (F.view folder.new) result }
+{
+    if speakers {
+        let all = Span {
+            from: None,
+            to: None,
+        };
+        played_part(play_speakers_file(alloc, folder, project, input, output, all))
+    } else {
+        played(play_file(alloc, folder, project, input, output))
+    }
+}
+
+// Plays a part of a file, with the loudspeakers of its channels if they are asked for.
+fn play_some<F: Folder>(
+    alloc: Global,
+    folder: &mut F,
+    part: PartTask<'_>,
+    speakers: bool,
+) -> Outcome
+    ensures { PlaysPartAs speakers part.entry.project.now part.entry.input.now part.entry.output.now part.entry.span
+        (F.view folder.old) (F.view folder.new) result }
+{
+    let PartTask {
+        project,
+        input,
+        output,
+        span,
+    } = part;
+    if speakers {
+        played_part(play_speakers_file(alloc, folder, project, input, output, span))
+    } else {
+        played_part(play_part_file(alloc, folder, project, input, output, span))
     }
 }
 

@@ -22,6 +22,7 @@ pub(crate) fn project_of(task: Task<'_>) -> Option<&str> {
     match task {
         Task::Play { project, .. }
         | Task::PlayPart { project, .. }
+        | Task::PlayBetween { project, .. }
         | Task::Edit { project, .. }
         | Task::Check { project, .. } => Some(project),
         _ => None,
@@ -32,9 +33,12 @@ pub(crate) fn project_of(task: Task<'_>) -> Option<&str> {
 pub(crate) fn input_of(task: Task<'_>) -> Option<File<'_>> {
     match task {
         Task::Info { file } => Some((file, "FILE")),
-        Task::Convert { input, .. } | Task::Play { input, .. } | Task::PlayPart { input, .. } => {
-            Some((input, "IN"))
-        }
+        Task::Convert { input, .. }
+        | Task::ConvertDop { input, .. }
+        | Task::Play { input, .. }
+        | Task::PlayPart { input, .. }
+        | Task::PlayBetween { input, .. }
+        | Task::PlayDop { input, .. } => Some((input, "IN")),
         _ => None,
     }
 }
@@ -44,7 +48,10 @@ pub(crate) fn output_of(task: Task<'_>, step: Step) -> Option<File<'_>> {
     match (task, step) {
         (Task::Play { output, .. }, _) => Some((output, "OUT")),
         (Task::PlayPart { output, .. }, _) => Some((output, "OUT")),
+        (Task::PlayBetween { output, .. }, _) => Some((output, "OUT")),
+        (Task::PlayDop { output, .. }, _) => Some((output, "OUT")),
         (Task::Convert { output, .. }, _) => Some((output, "OUT")),
+        (Task::ConvertDop { output, .. }, _) => Some((output, "OUT")),
         (Task::Edit { master, .. }, Step::First) => Some((master, "MASTER")),
         (Task::Check { master, .. }, Step::First) => Some((master, "MASTER")),
         (Task::Edit { cert, .. }, Step::Second) => Some((cert, "CERT")),

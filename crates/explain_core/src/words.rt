@@ -4,7 +4,7 @@ use crate::line::Line;
 use form_core::{Form, name_of};
 use std::alloc::Global;
 use strsim::osa_distance;
-use words_core::{COMMANDS, Misfit, NAMES, WordsFault, options_of};
+use words_core::{COMMANDS, Misfit, NAMES, Taken, WordsFault, named, options_of};
 
 impl Line {
     /// Adds a name to those of which this number came before.
@@ -62,6 +62,11 @@ impl Line {
                 self.quote("no place comes after --", option, ", which ");
                 self.push(PLACE);
             }
+            Misfit::NoFile(option) => self.quote("no name of a file comes after --", option, ""),
+            Misfit::Apart(first, second) => {
+                self.quote("--", first, " and ");
+                self.quote("--", second, " can't be together");
+            }
             Misfit::NotPlace(option, word) => {
                 self.quote("\"", word, "\" is no place: ");
                 self.quote("--", option, " ");
@@ -92,11 +97,12 @@ impl Line {
 
     fn say_usage(&mut self, command: &str) {
         self.quote("; usage: dsdarc ", command, "");
-        let after = match command {
-            "sum" => "]",
-            _ => " T]",
-        };
         for option in options_of(command) {
+            let after = match named(option).map(|option| option.takes()) {
+                Some(Taken::Place) => " T]",
+                Some(Taken::File) => " FILE]",
+                _ => "]",
+            };
             self.quote(" [--", option, after);
         }
         if command == "play" {

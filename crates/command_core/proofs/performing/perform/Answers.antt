@@ -1,7 +1,7 @@
 use Rattle.command_core.proofs.performing.perform.Goals as goal
 
 pub returns-in-Play : goal.returns-in-Play
-returns-in-Play g c = record { done = rw c.in-Play.is (c.play_file.result, c.played.ensures, c.play_file.ensures); sums = tt; same = tt }
+returns-in-Play g c = record { done = rw c.in-Play.is c.play_all.ensures; sums = tt; same = tt }
 
 pub returns-in-Convert : goal.returns-in-Convert
 returns-in-Convert g c = record { done = rw c.in-Convert.is (c.convert_file.result, c.converted.ensures, c.convert_file.ensures); sums = tt; same = tt }
@@ -19,4 +19,4 @@ pub returns-in-Info : goal.returns-in-Info
 returns-in-Info g c = record { done = rw c.in-Info.is (c.open_file.result, c.reported.ensures, c.open_file.ensures); sums = tt; same = tt }
 
 pub returns-in-PlayPart : goal.returns-in-PlayPart
-returns-in-PlayPart g c = record { done = rw c.in-PlayPart.is (c.play_part_file.result, c.played_part.ensures, c.play_part_file.ensures); sums = tt; same = tt }
+returns-in-PlayPart g c = record { done = rw c.in-PlayPart.is c.play_some.ensures; sums = tt; same = tt }

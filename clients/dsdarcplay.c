@@ -1,19 +1,24 @@
-/* Plays DSDIFF and DSF files over ALSA: dsdarcplay [-D DEVICE] [-s SECONDS] FILTER FILE..
+/* Plays DSDIFF and DSF files over ALSA: dsdarcplay [-D DEVICE] [-s SECONDS] FILTER|--dop|--native FILE..
  *
  *     cc dsdarcplay.c $(pkg-config --cflags --libs dsdarc alsa) -o dsdarcplay
- *     dsdarcplay "$(filters/pick 88200/24 in.dsf)" in.dsf
+ *     dsdarcplay 88200/24 in.dsf
  *
- * With -s each file is played from that second on. A line warns of a filter that the index beside it lists for files of
- * other rates. */
+ * FILTER is the rate and width that you want, for which the library has a filter, or a path to one. --dop gives the bits
+ * of the file as DoP samples, and --native as they are, to a device that takes them: nothing may change them on the way,
+ * so name one such as hw:0. With -s each file is played from that second on. A line warns of a filter that the index
+ * beside it lists for files of other rates. */
 #include <alsa/asoundlib.h>
 #include <dsdarc.h>
 #include <errno.h>
+#include <getopt.h>
 #include <stdio.h>
 #include <stdlib.h>
 #include <string.h>
 #include <unistd.h>
 
-enum { BLOCK = 65536, FRAMES = 4096, MOST_TEXT = 1 << 20, MOST_RATES = 16, MOST_SECONDS = 1000000000 };
+enum { FILTER, DOP, NATIVE };
+
+enum { BLOCK = 65536, FRAMES = 4096, SILENCE = 0x69, MOST_TEXT = 1 << 20, MOST_RATES = 16, MOST_SECONDS = 1000000000 };
 
 static int failed_with(const char *name, const char *what) {
     fprintf(stderr, "dsdarcplay: %s: %s\n", name, what);
@@ -47,58 +52,144 @@ static void warn_of_rate(const char *filter, const dsdarc_info *info, const char
     free(index);
 }
 
-/* Opens the device as soon as it is known what is played. */
-static int open_device(snd_pcm_t **pcm, const char *device, const dsdarc_info *info) {
-    int fault = snd_pcm_open(pcm, device, SND_PCM_STREAM_PLAYBACK, 0);
-    snd_pcm_format_t form = info->width == 16 ? SND_PCM_FORMAT_S16_LE : SND_PCM_FORMAT_S24_3LE;
-    if (fault < 0) return fault;
-    return snd_pcm_set_params(*pcm, form, SND_PCM_ACCESS_RW_INTERLEAVED, info->channels, info->rate, 1, 500000);
-}
-
-/* The filter: the name of its file, and its text. */
-typedef struct filter {
+/* How a file is played: by a filter (its path and text, or a rate and width), or by its bits. */
+typedef struct way {
+    int kind;
     const char *name, *text;
     size_t size;
-} filter;
+    unsigned rate, width;
+} way;
 
-static int play(const char *device, filter by, double from, const char *name) {
-    static unsigned char bytes[BLOCK], frames[FRAMES * 6 * 3];
+/* The open device: how many bytes a sample has there, how many frames of the player make one of the device, and how many
+ * wait for others. */
+typedef struct output {
+    snd_pcm_t *pcm;
+    size_t sample, each, held;
+} output;
+
+/* Opens the device for samples of this format, changed by nothing on the way if `exact` is set. */
+static int open_as(output *out, const char *device, const dsdarc_info *info, snd_pcm_format_t form, size_t sample,
+                   size_t each, int exact) {
+    int fault = snd_pcm_open(&out->pcm, device, SND_PCM_STREAM_PLAYBACK, exact ? SND_PCM_NO_AUTO_FORMAT : 0);
+    if (fault < 0) return out->pcm = NULL, fault;
+    fault = snd_pcm_set_params(out->pcm, form, SND_PCM_ACCESS_RW_INTERLEAVED, info->channels,
+                               info->rate / (unsigned)each, !exact, 500000);
+    if (fault < 0) snd_pcm_close(out->pcm), out->pcm = NULL;
+    out->sample = sample, out->each = each;
+    return fault;
+}
+
+/* Opens the device as soon as it is known what is played. */
+static int open_device(output *out, const char *device, const dsdarc_info *info, int kind) {
+    int fault;
+    if (kind == FILTER) {
+        if (info->width == 16) return open_as(out, device, info, SND_PCM_FORMAT_S16_LE, 2, 1, 0);
+        return open_as(out, device, info, SND_PCM_FORMAT_S24_3LE, 3, 1, 0);
+    }
+    if (kind == DOP) {
+        if ((fault = open_as(out, device, info, SND_PCM_FORMAT_S24_3LE, 3, 1, 1)) < 0)
+            fault = open_as(out, device, info, SND_PCM_FORMAT_S32_LE, 4, 1, 1);
+        if (fault < 0) fprintf(stderr, "dsdarcplay: %s takes no samples of 24 bits at %u Hz\n", device, info->rate);
+        return fault;
+    }
+    if ((fault = open_as(out, device, info, SND_PCM_FORMAT_DSD_U32_BE, 4, 4, 1)) < 0)
+        fault = open_as(out, device, info, SND_PCM_FORMAT_DSD_U8, 1, 1, 1);
+    if (fault < 0) fprintf(stderr, "dsdarcplay: %s takes no DSD of %u Hz (DSD_U32_BE or DSD_U8)\n", device, info->rate_in);
+    return fault;
+}
+
+/* Writes frames of the device. */
+static int write_all(output *out, const dsdarc_info *info, const unsigned char *frames, size_t count) {
+    int fault = 0;
+    for (size_t done = 0; done < count && fault >= 0;) {
+        snd_pcm_sframes_t wrote = snd_pcm_writei(out->pcm, frames + done * info->channels * out->sample, count - done);
+        if (wrote < 0) fault = snd_pcm_recover(out->pcm, (int)wrote, 1);
+        if (wrote > 0) done += (size_t)wrote;
+    }
+    return fault;
+}
+
+/* Pulls the frames that are due, and writes them. Of bits that the device takes 32 at a time, some frames
+ * wait for others; at the end silence follows them. */
+static int pull_all(dsdarc_player *player, output *out, const dsdarc_info *info, int ends) {
+    static unsigned char frames[(FRAMES + 4) * 6 * 4], turned[(FRAMES + 4) * 6 * 4];
+    size_t channels = info->channels, given, count, k, c, byte;
+    int fault = 0;
+    do {
+        unsigned char *to = frames + out->held * channels * (out->each > 1 ? 1 : out->sample);
+        dsdarc_format format = info->width == 24 && out->sample == 4 ? DSDARC_S32 : DSDARC_PACKED;
+        if (dsdarc_player_pull(player, to, FRAMES, format, &given) != DSDARC_OK) given = 0;
+        count = out->held + given;
+        if (ends && given == 0)
+            for (; count % out->each; count++) memset(frames + count * channels, SILENCE, channels);
+        out->held = count % out->each;
+        count /= out->each;
+        if (format == DSDARC_S32) /* DoP samples are the high 24 of 32 bits */
+            for (k = 0; k < count * channels; k++) frames[4 * k + 3] = frames[4 * k + 2], frames[4 * k + 2] = frames[4 * k + 1],
+                                                   frames[4 * k + 1] = frames[4 * k], frames[4 * k] = 0;
+        if (out->each > 1) {
+            for (k = 0; k < count; k++)
+                for (c = 0; c < channels; c++)
+                    for (byte = 0; byte < 4; byte++)
+                        turned[(k * channels + c) * 4 + byte] = frames[(4 * k + byte) * channels + c];
+            fault = write_all(out, info, turned, count);
+            memmove(frames, frames + count * 4 * channels, out->held * channels);
+        } else {
+            fault = write_all(out, info, frames, count);
+        }
+    } while (given > 0 && fault >= 0);
+    return fault;
+}
+
+static dsdarc_status choose(dsdarc_player *player, way by) {
+    if (by.kind == DOP) return dsdarc_player_dop(player);
+    if (by.kind == NATIVE) return dsdarc_player_bits(player, DSDARC_BITS_MSB);
+    if (by.text) return dsdarc_player_filter(player, by.text, by.size);
+    return dsdarc_player_filter_ready(player, by.rate, by.width, 0);
+}
+
+static int play(const char *device, way by, double from, const char *name) {
+    static unsigned char bytes[BLOCK];
     FILE *file = fopen(name, "rb");
-    snd_pcm_t *pcm = NULL;
+    output out = {NULL, 0, 1, 0};
     dsdarc_player *player = NULL;
     dsdarc_info info;
-    dsdarc_status status = dsdarc_player_new(by.text, by.size, &player);
-    size_t size, at, taken, given;
-    int fault = 0;
+    dsdarc_status status = dsdarc_player_new_empty(&player);
+    size_t size, at, taken;
+    int fault = 0, is_said = 0;
     if (!file) return dsdarc_player_drop(player), failed_with(name, "it can't be read");
     while (status == DSDARC_OK && fault >= 0 && (size = fread(bytes, 1, BLOCK, file)) > 0)
         for (at = 0; at < size && status == DSDARC_OK && fault >= 0; at += taken) {
-            if ((status = dsdarc_player_push(player, bytes + at, size - at, &taken)) != DSDARC_OK) break;
-            if (!pcm && dsdarc_player_info(player, &info) == DSDARC_OK) {
+            status = dsdarc_player_push(player, bytes + at, size - at, &taken);
+            if (status == DSDARC_NO_CHOICE && !out.pcm) {
                 uint64_t offset;
-                warn_of_rate(by.name, &info, name);
-                if ((fault = open_device(&pcm, device, &info)) < 0) break;
+                if ((status = choose(player, by)) != DSDARC_OK) break;
+                if ((status = dsdarc_player_info(player, &info)) != DSDARC_OK) break;
+                if (by.kind == FILTER && by.text) warn_of_rate(by.name, &info, name);
+                if ((fault = open_device(&out, device, &info, by.kind)) < 0) {
+                    is_said = by.kind != FILTER;
+                    break;
+                }
                 if (from > 0) {
                     status = dsdarc_player_seek(player, (uint64_t)(from * info.rate), &offset);
                     if (status == DSDARC_OK && fseek(file, (long)offset, SEEK_SET)) fault = -errno, device = name;
                     if (status != DSDARC_OK || fault < 0) break;
                     size = taken = at = 0;
                 }
+                continue;
             }
-            while (pcm && dsdarc_player_pull(player, frames, FRAMES, DSDARC_PACKED, &given) == DSDARC_OK && given > 0)
-                for (size_t done = 0; done < given && fault >= 0;) {
-                    snd_pcm_sframes_t wrote = snd_pcm_writei(
-                        pcm, frames + done * info.channels * (info.width / 8), given - done);
-                    if (wrote < 0) fault = snd_pcm_recover(pcm, (int)wrote, 1);
-                    if (wrote > 0) done += (size_t)wrote;
-                }
+            if (status == DSDARC_OK && out.pcm) fault = pull_all(player, &out, &info, 0);
         }
     if (status == DSDARC_OK && fault >= 0 && ferror(file)) fault = -errno, device = name;
+    if (status == DSDARC_OK && fault >= 0 && out.pcm) fault = pull_all(player, &out, &info, 1);
     if (status == DSDARC_OK && fault >= 0) status = dsdarc_player_end(player);
-    if (pcm && fault >= 0) snd_pcm_drain(pcm);
-    if (pcm) snd_pcm_close(pcm);
+    /* The file may end where its sound, of no bytes, starts: it is judged after the choice. */
+    if (status == DSDARC_NO_CHOICE && (status = choose(player, by)) == DSDARC_OK) status = dsdarc_player_end(player);
+    if (out.pcm && fault >= 0) snd_pcm_drain(out.pcm);
+    if (out.pcm) snd_pcm_close(out.pcm);
     dsdarc_player_drop(player);
     fclose(file);
+    if (is_said) return 1;
     if (fault < 0) return failed_with(device, snd_strerror(fault));
     return status == DSDARC_OK ? 0 : failed_with(name, dsdarc_status_text(status));
 }
@@ -110,23 +201,36 @@ static double seconds_of(const char *text) {
     return end != text && *end == 0 && seconds >= 0 && seconds < MOST_SECONDS ? seconds : -1;
 }
 
+/* Whether a text is a rate and a width, such as 88200/24. */
+static int is_wish(const char *text, way *by) {
+    char more;
+    return sscanf(text, "%u/%u%c", &by->rate, &by->width, &more) == 2;
+}
+
 int main(int count, char **arguments) {
+    static const struct option options[] = {{"dop", no_argument, NULL, 'd'}, {"native", no_argument, NULL, 'n'}, {0}};
     const char *device = "default";
-    char *text;
-    size_t size;
+    char *text = NULL;
+    way by = {FILTER, NULL, NULL, 0, 0, 0};
     double from = 0;
     int option, failed = 0;
-    while ((option = getopt(count, arguments, "D:s:")) != -1)
+    while ((option = getopt_long(count, arguments, "D:s:", options, NULL)) != -1)
         if (option == 'D') device = optarg;
         else if (option == 's') from = seconds_of(optarg);
+        else if (option == 'd') by.kind = DOP;
+        else if (option == 'n') by.kind = NATIVE;
         else return 2;
-    if (optind + 2 > count || from < 0) {
-        fprintf(stderr, "dsdarcplay [-D DEVICE] [-s SECONDS] FILTER FILE..\n");
+    if (optind + (by.kind == FILTER ? 2 : 1) > count || from < 0) {
+        fprintf(stderr, "dsdarcplay [-D DEVICE] [-s SECONDS] FILTER|--dop|--native FILE..\n");
         return 2;
     }
-    if (!(text = text_of(arguments[optind], &size))) return failed_with(arguments[optind], "it can't be read");
-    for (int at = optind + 1; at < count; at++)
-        failed |= play(device, (filter){arguments[optind], text, size}, from, arguments[at]);
+    if (by.kind == FILTER) {
+        by.name = arguments[optind++];
+        if (!is_wish(by.name, &by)) {
+            if (!(by.text = text = text_of(by.name, &by.size))) return failed_with(by.name, "it can't be read");
+        }
+    }
+    for (; optind < count; optind++) failed |= play(device, by, from, arguments[optind]);
     free(text);
     return failed;
 }

@@ -1,6 +1,6 @@
 /* A GStreamer element over the library: frames of a DSDIFF or DSF file, decimated by a filter.
  *
- *     cc -shared -fPIC gstdsdarcdec.c $(pkg-config --cflags --libs dsdarc gstreamer-1.0) -o libgstdsdarc.so
+ *     cc -shared -fPIC gstdsdarcdec.c $(pkg-config --cflags --libs dsdarc gstreamer-tag-1.0) -o libgstdsdarc.so
  *     GST_PLUGIN_PATH=. gst-launch-1.0 filesrc location=in.dsf ! dsdarcdec filter=88200/24 ! filesink location=out.pcm
  *     GST_PLUGIN_PATH=. gst-play-1.0 in.dsf
  *
@@ -8,13 +8,21 @@
  * Without it that is what DSDARC_FILTER says, else 88200/24,96000/24. The ready filters are found by their index. They
  * are those of the installation that the library belongs to, or in the folder that DSDARC_FILTERS names. A filter that
  * the index beside it lists for files of other rates gives a warning. A seek is answered by one in bytes of the element
- * before. After a stop before the end of the file, nothing is said about the file. */
+ * before. After a stop before the end of the file, nothing is said about the file.
+ *
+ * Tags say how long the sound is, and the bits of a second of the file. If the file is one of this system, they have also
+ * what GStreamer reads of its ID3 tag: title, artist, album, cover and others. The tag comes after the sound, and the
+ * elements before give the sound first; so it is read in the file that they name. */
 #define _GNU_SOURCE
 #include <dlfcn.h>
 #include <dsdarc.h>
+#include <fcntl.h>
 #include <gst/gst.h>
+#include <gst/tag/tag.h>
 #include <stdio.h>
 #include <string.h>
+
+#include "tags.h"
 
 #define PACKAGE "dsdarc"
 #define ORIGIN "urn:dsdarc"
@@ -144,6 +152,53 @@ static GstFlowReturn begin(DsdarcDec *dec, guint32 rate) {
     return flow;
 }
 
+/* The file that the elements before read, if it is one of this system and begins with the bytes that came; or -1. */
+static int file_of(DsdarcDec *dec) {
+    GstQuery *query = gst_query_new_uri();
+    gsize size = dec->front->len;
+    char *uri = NULL, *path = NULL, *bytes = g_malloc(size);
+    int file = -1;
+    if (gst_pad_peer_query(dec->sink, query)) gst_query_parse_uri(query, &uri);
+    if (uri && (path = g_filename_from_uri(uri, NULL, NULL))) file = open(path, O_RDONLY | O_CLOEXEC | O_NONBLOCK);
+    if (file >= 0 && (pread(file, bytes, size, 0) != (gssize)size || memcmp(bytes, dec->front->data, size) != 0))
+        close(file), file = -1;
+    gst_query_unref(query);
+    g_free(bytes);
+    g_free(path);
+    g_free(uri);
+    return file;
+}
+
+/* What GStreamer reads of the file's tag; or NULL. */
+static GstTagList *tags_of(DsdarcDec *dec) {
+    int file = file_of(dec);
+    tag_place tag = {0, 0};
+    GstTagList *tags = NULL;
+    guint8 *bytes = NULL;
+    GstBuffer *buffer;
+    if (file < 0) return NULL;
+    if ((tag = tag_of(file)).size > 0) bytes = g_try_malloc(tag.size);
+    if (bytes && pread(file, bytes, tag.size, (off_t)tag.at) == (gssize)tag.size) {
+        buffer = gst_buffer_new_wrapped(bytes, tag.size);
+        tags = gst_tag_list_from_id3v2_tag(buffer);
+        gst_buffer_unref(buffer);
+    } else {
+        g_free(bytes);
+    }
+    close(file);
+    return tags;
+}
+
+/* Posts the tags. What the sound itself says comes before what the file's tag says of it. */
+static void post_tags(DsdarcDec *dec) {
+    GstTagList *own = gst_tag_list_new(GST_TAG_DURATION, time_of(dec, dec->info.frames), GST_TAG_BITRATE,
+                                       dec->info.rate_in * dec->info.channels, NULL);
+    GstTagList *read = tags_of(dec), *all = gst_tag_list_merge(own, read, GST_TAG_MERGE_KEEP);
+    gst_tag_list_unref(own);
+    if (read) gst_tag_list_unref(read);
+    gst_pad_push_event(dec->src, gst_event_new_tag(all));
+}
+
 /* Announces what follows, once it is known. */
 static void announce(DsdarcDec *dec) {
     GstCaps *caps = gst_caps_new_simple("audio/x-raw", "format", G_TYPE_STRING, dec->info.width == 16 ? "S16LE" : "S24LE",
@@ -157,6 +212,7 @@ static void announce(DsdarcDec *dec) {
     dec->last = dec->info.frames;
     dec->segment.duration = time_of(dec, dec->info.frames);
     gst_pad_push_event(dec->src, gst_event_new_segment(&dec->segment));
+    post_tags(dec);
     dec->announced = TRUE;
 }
 

@@ -1,40 +1,16 @@
 /* The calls of dsdarc.h that a player has: null pointers and sizes are tested here, and the rest is done by the proved
- * crate dsdarc_c. filters.c and channels.c have the calls that need no player.
+ * crate dsdarc_c. formats.c has the pulls, describing.c what a file holds, and ready.c the ready filters; filters.c and
+ * channels.c have the calls that need no player.
  *
  * A pointer of a player is the one that dsdarc_c_new wrote; it is passed on as it is, until dsdarc_c_drop. */
-#include "dsdarc.h"
+#include "inside.h"
 
-#ifndef DSDARC_VERSION
-#define DSDARC_VERSION "0.2.0"
+#ifndef DSDARC_VERSION_TEXT
+#define DSDARC_VERSION_TEXT "0.2.0"
 #endif
-
-/* What the proved crate exports. A handle is the pointer alone. */
-typedef struct handle {
-    void *at;
-} handle;
-
-uint32_t dsdarc_c_new(const uint8_t *project, size_t size, uint8_t **out);
-uint32_t dsdarc_c_push(handle, const uint8_t *bytes, size_t size, size_t *taken);
-uint32_t dsdarc_c_info(handle, dsdarc_info *info);
-size_t dsdarc_c_pull(handle, uint8_t *out, size_t size);
-size_t dsdarc_c_pull_numbers(handle, int32_t *out, size_t count);
-uint32_t dsdarc_c_end(handle);
-uint32_t dsdarc_c_seek(handle, uint64_t frame, uint64_t *offset);
-void dsdarc_c_drop(handle);
 
 /* No object is larger, and no slice of the proved crate. */
 static const size_t most = PTRDIFF_MAX;
-
-static handle handle_of(dsdarc_player *player) {
-    handle it = {player};
-    return it;
-}
-
-/* Slices are never null, also where they are empty. */
-static const uint8_t *bytes_of(const void *bytes) {
-    static const uint8_t none[1];
-    return bytes ? bytes : none;
-}
 
 /* Whether this processor has what the proved part was built for: the level of x86-64 that bin/library names. */
 static int runs_here(void) {
@@ -65,6 +41,34 @@ dsdarc_status dsdarc_player_new(const void *project, size_t size, dsdarc_player 
     return status;
 }
 
+dsdarc_status dsdarc_player_new_empty(dsdarc_player **player) {
+    uint8_t *made = NULL;
+    dsdarc_status status;
+    if (!player) return DSDARC_NULL;
+    *player = NULL;
+    if (!runs_here()) return DSDARC_PROCESSOR;
+    status = (dsdarc_status)dsdarc_c_new_bare(&made);
+    if (status == DSDARC_OK) *player = (dsdarc_player *)made;
+    return status;
+}
+
+dsdarc_status dsdarc_player_filter(dsdarc_player *player, const void *project, size_t size) {
+    if (!player || (!project && size > 0)) return DSDARC_NULL;
+    if (size > most) return DSDARC_SIZE;
+    return (dsdarc_status)dsdarc_c_filter(handle_of(player), bytes_of(project), size);
+}
+
+dsdarc_status dsdarc_player_bits(dsdarc_player *player, dsdarc_bit_order order) {
+    if (!player) return DSDARC_NULL;
+    if (order != DSDARC_BITS_MSB && order != DSDARC_BITS_LSB) return DSDARC_SIZE;
+    return (dsdarc_status)dsdarc_c_bits(handle_of(player), (uint32_t)order);
+}
+
+dsdarc_status dsdarc_player_dop(dsdarc_player *player) {
+    if (!player) return DSDARC_NULL;
+    return (dsdarc_status)dsdarc_c_bits(handle_of(player), 2);
+}
+
 dsdarc_status dsdarc_player_push(dsdarc_player *player, const void *bytes, size_t size, size_t *taken) {
     if (!player || !taken || (!bytes && size > 0)) return DSDARC_NULL;
     *taken = 0;
@@ -75,24 +79,6 @@ dsdarc_status dsdarc_player_push(dsdarc_player *player, const void *bytes, size_
 dsdarc_status dsdarc_player_info(dsdarc_player *player, dsdarc_info *info) {
     if (!player || !info) return DSDARC_NULL;
     return (dsdarc_status)dsdarc_c_info(handle_of(player), info);
-}
-
-dsdarc_status dsdarc_player_pull(dsdarc_player *player, void *pcm, size_t frames, dsdarc_format format, size_t *given) {
-    dsdarc_info info;
-    size_t sample;
-    if (!player || !given || (!pcm && frames > 0)) return DSDARC_NULL;
-    *given = 0;
-    if (format != DSDARC_PACKED && format != DSDARC_S32) return DSDARC_SIZE;
-    if (format == DSDARC_S32 && (uintptr_t)pcm % sizeof(int32_t) != 0) return DSDARC_SIZE;
-    if (frames == 0 || dsdarc_c_info(handle_of(player), &info) != DSDARC_OK) return DSDARC_OK;
-    sample = format == DSDARC_S32 ? 4 : info.width / 8;
-    if (frames > most / (sample * info.channels)) return DSDARC_SIZE;
-    if (format == DSDARC_S32) {
-        *given = dsdarc_c_pull_numbers(handle_of(player), pcm, frames * info.channels) / info.channels;
-    } else {
-        *given = dsdarc_c_pull(handle_of(player), pcm, frames * sample * info.channels) / (sample * info.channels);
-    }
-    return DSDARC_OK;
 }
 
 dsdarc_status dsdarc_player_end(dsdarc_player *player) {
@@ -114,10 +100,10 @@ const char *dsdarc_status_text(dsdarc_status status) {
         "Ok",          "Null",           "Size",      "Memory",       "AfterFault", "NotYet",     "PastEnd",
         "FileRefused", "RateNotDivided", "TooLong",   "NoDecimation", "NotToml",    "UnknownKey", "MissingKey",
         "WrongKind",   "OutOfLimit",     "NoTake",    "ShortCue",     "LastBridge", "Processor",  "TooMuchHeld",
-        "NoFilter",
+        "NoFilter",    "NoChoice",   "Chosen",    "NoMark",
     };
     const char *text = (unsigned)status < sizeof texts / sizeof *texts ? texts[status] : NULL;
     return text ? text : "Unknown";
 }
 
-const char *dsdarc_version(void) { return DSDARC_VERSION; }
+const char *dsdarc_version(void) { return DSDARC_VERSION_TEXT; }

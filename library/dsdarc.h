@@ -44,6 +44,9 @@ extern "C" {
 #define DSDARC_VERSION_MINOR 2
 #define DSDARC_VERSION_PATCH 0
 
+/* The version as a number that can be compared, such as 200 for 0.2.0. */
+#define DSDARC_VERSION (DSDARC_VERSION_MAJOR * 10000 + DSDARC_VERSION_MINOR * 100 + DSDARC_VERSION_PATCH)
+
 #if defined __GNUC__ && defined DSDARC_BUILD
 #define DSDARC_API __attribute__((visibility("default")))
 #else
@@ -76,14 +79,30 @@ typedef enum dsdarc_status {
     DSDARC_LAST_BRIDGE = 18,
     DSDARC_PROCESSOR = 19,     /* the library was built for processors that can do more than this one */
     DSDARC_TOO_MUCH_HELD = 20, /* more than 256 MiB come before the sound, or after it in a DSDIFF form */
-    DSDARC_NO_FILTER = 21      /* the index lists no such filter */
+    DSDARC_NO_FILTER = 21,     /* there is no such ready filter */
+    DSDARC_NO_CHOICE = 22,     /* how the sound is given must be chosen first */
+    DSDARC_CHOSEN = 23,        /* how the sound is given was chosen before */
+    DSDARC_NO_MARK = 24        /* there is no such mark */
 } dsdarc_status;
 
-/* How samples are written. */
+/* How samples are written. In the planar formats the samples of a channel come one after the other, and not those of a
+ * frame: the first `frames` places of `pcm` are for channel 0, the next `frames` places for channel 1, and so on, where
+ * `frames` is what the pull asks for. */
 typedef enum dsdarc_format {
-    DSDARC_PACKED = 0, /* as in a WAVE file: 2 or 3 bytes, the lowest first */
-    DSDARC_S32 = 1     /* 32-bit integers with the same values, from -2^(width-1) to 2^(width-1) - 1 */
+    DSDARC_PACKED = 0, /* as in a WAVE file: 2 or 3 bytes, the lowest first; bits as bytes: 1 byte */
+    DSDARC_S32 = 1,    /* 32-bit integers with the same values, from -2^(width-1) to 2^(width-1) - 1 */
+    DSDARC_F32 = 2,    /* 32-bit floating-point numbers: the same values divided by 2^(width-1), exactly */
+    DSDARC_PLANAR = 16,
+    DSDARC_PACKED_PLANAR = 16,
+    DSDARC_S32_PLANAR = 17,
+    DSDARC_F32_PLANAR = 18
 } dsdarc_format;
+
+/* How bits are given as bytes: which bit of a byte is the earliest. */
+typedef enum dsdarc_bit_order {
+    DSDARC_BITS_MSB = 0, /* the most significant, as in DSDIFF files */
+    DSDARC_BITS_LSB = 1  /* the least significant, as in most DSF files */
+} dsdarc_bit_order;
 
 /* What is played. */
 typedef struct dsdarc_info {
@@ -91,7 +110,7 @@ typedef struct dsdarc_info {
     uint32_t rate_in;  /* hertz: the sample rate of the file */
     uint32_t rate;     /* hertz: the sample rate of the frames */
     uint32_t channels; /* 1 to 6 */
-    uint32_t width;    /* bits of a sample: 16 or 24 */
+    uint32_t width;    /* bits of a sample: 16 or 24; bits as bytes: 8 */
 } dsdarc_info;
 
 /* Makes a player with the filter of a project text (`size` bytes of TOML, such as a file of filters/). Call it before
@@ -99,19 +118,43 @@ typedef struct dsdarc_info {
  * DSDARC_PROCESSOR is returned before the text is read. */
 DSDARC_API dsdarc_status dsdarc_player_new(const void *project, size_t size, dsdarc_player **player);
 
+/* Makes a player without a filter. Push the bytes of a file: they are taken up to where the sound starts, and then
+ * dsdarc_player_push returns DSDARC_NO_CHOICE, until one of the four calls below chooses how the sound is given. Before
+ * that, dsdarc_player_describe reports what the file holds. A player that was made with a filter has its choice. */
+DSDARC_API dsdarc_status dsdarc_player_new_empty(dsdarc_player **player);
+
+/* Chooses a filter: what follows is as with dsdarc_player_new. Each of these four calls returns DSDARC_NOT_YET before
+ * the sound is known, and DSDARC_CHOSEN after another choice. Then, and after a text that is refused or a filter that
+ * doesn't divide the file's rate (DSDARC_RATE_NOT_DIVIDED), nothing has changed, so that another choice can be made. */
+DSDARC_API dsdarc_status dsdarc_player_filter(dsdarc_player *player, const void *project, size_t size);
+
+/* Chooses the ready filter to frames of this rate (hertz), width (bits) and gain (decibels: 0 or 6) for the rate of the
+ * file. DSDARC_NO_FILTER is returned if there is none. */
+DSDARC_API dsdarc_status dsdarc_player_filter_ready(dsdarc_player *player, uint32_t rate, uint32_t width, uint32_t gain);
+
+/* Chooses the bits themselves, as bytes of this order. A frame is then 8 bits of each channel: one byte of each, and
+ * dsdarc_player_info reports the width 8 and the rate of the file divided by 8. Only DSDARC_PACKED and
+ * DSDARC_PACKED_PLANAR can be pulled. */
+DSDARC_API dsdarc_status dsdarc_player_bits(dsdarc_player *player, dsdarc_bit_order order);
+
+/* Chooses the bits as DoP 1.1: a frame has a sample of 24 bits for each channel. Its highest byte is 0x05 in frame 0,
+ * 0xFA in frame 1 and so on in turn; the other 16 bits are bits of the file, the earliest the most significant. The rate
+ * is that of the file divided by 16; if that isn't a whole number, DSDARC_RATE_NOT_DIVIDED is returned. */
+DSDARC_API dsdarc_status dsdarc_player_dop(dsdarc_player *player);
+
 /* Takes bytes of the file, from the next one on. *taken says how many: at most 65,536, and at most up to where the
  * sound starts or ends. None are taken while frames wait to be pulled; otherwise at least one is, if size isn't 0.
  * Bytes before and after the sound are taken and give no frames. *taken is 0 after any status but DSDARC_OK. `bytes`
  * may be NULL if size is 0: then nothing is taken, and nothing changes. */
 DSDARC_API dsdarc_status dsdarc_player_push(dsdarc_player *player, const void *bytes, size_t size, size_t *taken);
 
-/* Reports what is played, once enough bytes were pushed, also after a fault. Before that it returns DSDARC_NOT_YET,
- * and *info is unchanged. */
+/* Reports what is played, once enough bytes were pushed, also after a fault. Before that it returns DSDARC_NOT_YET, or
+ * DSDARC_NO_CHOICE once the sound is known, and *info is unchanged. */
 DSDARC_API dsdarc_status dsdarc_player_info(dsdarc_player *player, dsdarc_info *info);
 
 /* Gives at most `frames` frames that are due, interleaved. *given says how many: 0 if more bytes are needed or all
- * were given. pcm has room for frames * channels samples. For DSDARC_S32 it must be aligned like an int32_t;
- * otherwise DSDARC_SIZE is returned. DSDARC_PACKED needs no alignment. pcm may be NULL if frames is 0. */
+ * were given. pcm has room for frames * channels samples. For DSDARC_S32 and DSDARC_F32 it must be aligned like an
+ * int32_t; otherwise DSDARC_SIZE is returned. DSDARC_PACKED needs no alignment. pcm may be NULL if frames is 0. */
 DSDARC_API dsdarc_status dsdarc_player_pull(dsdarc_player *player, void *pcm, size_t frames, dsdarc_format format,
                                             size_t *given);
 
@@ -124,6 +167,42 @@ DSDARC_API dsdarc_status dsdarc_player_end(dsdarc_player *player);
  * which the caller pushes next. Frames that wait are dropped. DSDARC_NOT_YET and DSDARC_PAST_END change nothing.
  * *offset is unchanged after any status but DSDARC_OK. */
 DSDARC_API dsdarc_status dsdarc_player_seek(dsdarc_player *player, uint64_t frame, uint64_t *offset);
+
+/* What a file holds, and what is played of it. */
+typedef struct dsdarc_description {
+    uint64_t bits;     /* how many bits each channel has */
+    uint64_t frames;   /* how many frames there are; 0 before the choice */
+    uint64_t tag;      /* the byte of the file at which an ID3 tag starts; 0 if none is known */
+    uint64_t tag_size; /* its bytes */
+    uint32_t rate_in;  /* hertz: the sample rate of the file */
+    uint32_t rate;     /* hertz: the sample rate of the frames; 0 before the choice */
+    uint32_t width;    /* bits of a sample: 8, 16 or 24; 0 before the choice */
+    uint32_t channels; /* 1 to 6 */
+    uint32_t mask;     /* the loudspeakers, as dsdarc_channel_mask reports them */
+    uint32_t form;     /* 1 for DSDIFF, 2 for DSF */
+    uint32_t type;     /* the channel type of a DSF file; 0 for DSDIFF */
+    uint32_t marks;    /* how many marks are known */
+    char ids[6][4];    /* the IDs of the channels of a DSDIFF file, such as SLFT; zeros for DSF */
+} dsdarc_description;
+
+/* Reports what a file holds, once the sound is known, also before the choice and after a fault. `size` is
+ * sizeof(dsdarc_description): a program that was compiled with an older header gets the fields that it knows. The tag and
+ * the marks that come after the sound are known once they were pushed. DSDARC_NOT_YET leaves *description unchanged. */
+DSDARC_API dsdarc_status dsdarc_player_describe(dsdarc_player *player, dsdarc_description *description, size_t size);
+
+/* A mark of a DSDIFF file, such as the start of a track. */
+typedef struct dsdarc_mark {
+    int64_t place;    /* bits from the start of the sound */
+    uint32_t type;    /* its markType: 0 for the start of a track, 1 for its end, 2 for the start of the programme, 4 for an index */
+    uint32_t channel; /* 0 for all channels, otherwise the channel, from 1 on */
+    uint32_t flags;   /* its TrackFlags */
+    uint32_t length;  /* bytes of its title */
+} dsdarc_mark;
+
+/* Reports a mark, from 0 on in the order of the file, among those that are known. `title` gets its title, cut off to
+ * room - 1 bytes, with a zero after it; it may be NULL if room is 0. DSDARC_NO_MARK is returned if there is none. */
+DSDARC_API dsdarc_status dsdarc_player_mark(dsdarc_player *player, uint32_t index, dsdarc_mark *mark, char *title,
+                                            size_t room);
 
 /* Frees a player. NULL is ignored. */
 DSDARC_API void dsdarc_player_drop(dsdarc_player *player);

@@ -1,16 +1,21 @@
 """Tries the clients of the library, where their packages are installed: the player over ALSA by its device that writes a
-file, and the element for GStreamer, also in `gst-play-1.0`, which finds it by itself."""
+file, the element for GStreamer, also in `gst-play-1.0`, which finds it by itself, and the plugin of mpv."""
+import io
 import os
 import random
 import re
+import shutil
+import struct
 import subprocess
+import zlib
 from typing import Any
 
-from dsdarc_scripts.dsdiffs import dsdiff
+from dsdarc_scripts.dsdiffs import chunk, dsdiff
 from tests.helpers.trials import ROOT, demand, get
 from tests.helpers.trials import said as run
+from tests.library.bitwise import wanted
 from tests.library.playing import BUILT, PROGRAM, compiled, frames_of
-from tests.library.stopped import try_stopped
+from tests.library.stopped import MOST_SECONDS, try_stopped
 
 
 def try_clients(folder: str, *last: Any) -> None:
@@ -20,10 +25,17 @@ def try_clients(folder: str, *last: Any) -> None:
     else:
         print("left out: dsdarcplay, as libasound2-dev isn't installed")
     status, flags = run("pkg-config", "--cflags", "--libs", "gobject-2.0")
-    if status == 0 and os.path.exists("/usr/include/gstreamer-1.0/gst/gst.h"):
-        try_element(folder, ["-I/usr/include/gstreamer-1.0", *flags.split(), "-lgstreamer-1.0"], *last)
+    if status == 0 and os.path.exists("/usr/include/gstreamer-1.0/gst/tag/tag.h"):
+        libraries = ["-lgsttag-1.0", "-lgstreamer-1.0"]
+        try_element(folder, ["-I/usr/include/gstreamer-1.0", *flags.split(), *libraries], *last)
     else:
-        print("left out: dsdarcdec, as libgstreamer1.0-dev isn't installed")
+        print("left out: dsdarcdec, as libgstreamer-plugins-base1.0-dev isn't installed")
+    if os.path.exists("/usr/include/mpv/stream_cb.h"):
+        try_stream(folder)
+    if shutil.which("mpv") and os.path.exists("/usr/include/mpv/stream_cb.h"):
+        try_mpv(folder)
+    else:
+        print("left out: mpv, as it isn't installed, or libmpv-dev")
 
 
 def try_player(folder: str, dff: str, dsf: str, filter: str, frames: bytes, align: int) -> None:
@@ -40,6 +52,12 @@ def try_player(folder: str, dff: str, dsf: str, filter: str, frames: bytes, alig
         demand(status == 0 and get(out) == frames, f"dsdarcplay: other frames: {said}")
         status, said = run(player, "-D", "raw", "-s", second, filter, name)
         demand(status == 0 and get(out) == frames[at * align :], f"dsdarcplay: other frames from {second} s: {said}")
+    wave = os.path.join(folder, "ready.wav")
+    run(PROGRAM, "play", os.path.join(ROOT, "filters", "dsd64-to-88200-24.toml"), dsf, wave)
+    status, said = run(player, "-D", "raw", "88200/24", dsf)
+    demand(status == 0 and get(out) == frames_of(get(wave))[0], f"dsdarcplay: other frames by the ready filter: {said}")
+    status, said = run(player, "-D", "raw", "--dop", dsf)
+    demand(status == 0 and get(out) == wanted("dop", get(dsf))[0], f"dsdarcplay: other DoP samples: {said}")
     for other, is_warned in ((os.path.join(ROOT, "filters", "dsd128-to-88200-24.toml"), True), (filter, False)):
         status, said = run(player, "-D", "raw", other, dff)
         is_right = status == 0 and is_warned == ("is for files of 5644800 Hz, and this one has 2822400 Hz" in said)
@@ -50,7 +68,7 @@ def try_player(folder: str, dff: str, dsf: str, filter: str, frames: bytes, alig
     demand(is_reported, f"dsdarcplay: a pipe from {second} s: {done}")
     for start in ("1:30", "abc", "", "-1", "nan", "inf", "1e300"):
         status, said = run(player, "-D", "raw", "-s", start, filter, dff)
-        is_right = status == 2 and said == "dsdarcplay [-D DEVICE] [-s SECONDS] FILTER FILE..\n"
+        is_right = status == 2 and said == "dsdarcplay [-D DEVICE] [-s SECONDS] FILTER|--dop|--native FILE..\n"
         demand(is_right, f"dsdarcplay: from {start!r}: status {status}, {said}")
     for given, why in (((filter, folder), "Is a directory"), ((folder, dff), "it can't be read")):
         status, said = run(player, "-D", "raw", *given)
@@ -101,7 +119,154 @@ def try_element(folder: str, flags: list[str], dff: str, dsf: str, filter: str, 
         part = whole[6 * int(places[-1]) :]
         demand(status == 0 and get(out) == part, f"dsdarcdec: other frames from {places} on, {pause} us: {said}")
     try_stopped(folder, flags, long, out, whole)
+    try_tags(folder, long, out, whole)
     try_keys(folder, long, out, whole)
+
+
+def picture() -> bytes:
+    """A small picture, as PNG."""
+    rows = b"".join(b"\0" + b"\xff\0\0" * 4 for _ in range(4))
+    parts = (b"IHDR", struct.pack(">IIBBBBB", 4, 4, 8, 2, 0, 0, 0)), (b"IDAT", zlib.compress(rows)), (b"IEND", b"")
+    chunks = [struct.pack(">I", len(it)) + name + it + struct.pack(">I", zlib.crc32(name + it)) for name, it in parts]
+    return b"\x89PNG\r\n\x1a\n" + b"".join(chunks)
+
+
+def tagged(folder: str, data: bytes) -> list[str]:
+    """A DSDIFF and a DSF file of a DSDIFF file's bytes, with a tag; none where mutagen isn't installed."""
+    try:
+        from mutagen.id3 import APIC, ID3, TALB, TIT2, TLEN, TPE1
+    except ImportError:
+        print("left out: tags of clients, as python3-mutagen isn't installed")
+        return []
+    tag, written = ID3(), io.BytesIO()
+    for kind, text in ((TIT2, "Título"), (TPE1, "Someone"), (TALB, "An album"), (TLEN, "1234567")):
+        tag.add(kind(encoding=3, text=text))
+    tag.add(APIC(encoding=3, mime="image/png", type=3, desc="", data=picture()))
+    tag.save(written)
+    dff, dsf, plain = (os.path.join(folder, f"tagged.{it}") for it in ("dff", "dsf", "plain"))
+    with open(plain, "wb") as file:
+        file.write(data)
+    run(PROGRAM, "convert", "dsf", plain, dsf)
+    held = bytearray(get(dsf))
+    held[20:28] = len(held).to_bytes(8, "little")
+    with open(dsf, "wb") as file:
+        file.write(bytes(held) + written.getvalue())
+    more = chunk(b"MORE", b"odd") + chunk(b"ID3 ", written.getvalue())
+    with open(dff, "wb") as file:
+        file.write(b"FRM8" + struct.pack(">Q", len(data) - 12 + len(more)) + data[12:] + more)
+    return [dff, dsf]
+
+
+def try_tags(folder: str, long: str, out: str, whole: bytes) -> None:
+    """Each file has its length and its bits of a second as tags, and those of its ID3 tag, and the frames are the same. What
+    comes from a pipe has the first two."""
+    given = ["title: Título", "artist: Someone", "album: An album", "image: buffer of"]
+    own = ["duration: 6000000000", "bitrate: 5644800"]
+    for name in (long, *tagged(folder, get(long))):
+        ways = ["!", "dsdarcdec", "filter=88200/24", "!", "filesink", f"location={out}"]
+        status, said = run("gst-launch-1.0", "-t", "filesrc", f"location={name}", *ways)
+        is_right = status == 0 and get(out) == whole and all(it in said for it in own)
+        is_right &= all((it in said) == (name != long) for it in given)
+        demand(is_right, f"dsdarcdec: the tags of {name}: {status}, {said[-900:]}")
+        command = ["gst-launch-1.0", "-t", "fdsrc", *ways]
+        with open(name, "rb") as file:
+            done = subprocess.run(["cat"], stdin=file, stdout=subprocess.PIPE, check=False)
+        done = subprocess.run(command, input=done.stdout, capture_output=True, check=False)
+        is_right = done.returncode == 0 and get(out) == whole and all(it in done.stdout.decode() for it in own)
+        demand(is_right and b"title" not in done.stdout, f"dsdarcdec: the tags of a pipe: {done.stdout[-500:]!r}")
+
+
+def try_stream(folder: str) -> None:
+    """The plugin of mpv gives a WAVE file with the frames of `play`, the same bytes from any place on; and changed files
+    end no call but by what it returns, with AddressSanitizer."""
+    made, out, wave = (os.path.join(folder, it) for it in ("stream", "stream.wav", "stream-right.wav"))
+    flags = ["-O1", "-g", "-fsanitize=address,undefined", "-fno-sanitize-recover", "-Wall", "-Wextra", "-Werror"]
+    compiled("tests/library/mpv.c", *flags, os.path.join(BUILT, "libdsdarc.a"), "-o", made)
+    chance, filter = random.Random(9), os.path.join(ROOT, "filters", "dsd64-to-88200-24.toml")
+    for channels in (2, 6):
+        data = dsdiff(2822400, channels, chance.randbytes(20_001 * channels))
+        plain = os.path.join(folder, "stream.dff")
+        with open(plain, "wb") as file:
+            file.write(data)
+        run(PROGRAM, "play", filter, plain, wave)
+        names = [plain, *tagged(folder, data)]
+        for name in names:
+            status, said = run(made, str(channels), "100", filter, out, name)
+            is_right = (status, said) == (0, "") and get(out).endswith(
+                b"data\xff\xff\xff\xff" + frames_of(get(wave))[0]
+            )
+            demand(is_right, f"mpvdsdarc.c: another stream of {name}: status {status}, {said[-500:]}")
+        files = []
+        for number in range(15):
+            held = bytearray(get(chance.choice(names)))
+            for _ in range(chance.randrange(1, 4)):
+                at = chance.choice([chance.randrange(150), chance.randrange(len(held) - 400, len(held))])
+                held[at] = chance.choice([0, 1, 0x7F, 0xFF, chance.randrange(256)])
+            files.append(os.path.join(folder, f"stream-{number}"))
+            with open(files[-1], "wb") as file:
+                file.write(held[: chance.choice([len(held), chance.randrange(len(held))])])
+        status, said = run(made, str(channels), "9", filter, out, *files)
+        demand(status == 0, f"mpvdsdarc.c: changed files: status {status}, {said[-1500:]}")
+
+
+def try_mpv(folder: str) -> None:
+    """mpv plays the frames of `play`, from any place on, and shows the tag; what the library refuses is its own."""
+    plugin, wave, heard = (os.path.join(folder, it) for it in ("dsdarc.so", "mpv-right.wav", "mpv.wav"))
+    warnings = ("-Wall", "-Wextra", "-Werror")
+    compiled("clients/mpvdsdarc.c", *warnings, "-shared", "-fPIC", os.path.join(BUILT, "libdsdarc.a"), "-o", plugin)
+    chance, long = random.Random(4), os.path.join(folder, "mpv.dff")
+    data = dsdiff(2822400, 2, chance.randbytes(2 * 352_800 * 6))
+    with open(long, "wb") as file:
+        file.write(data)
+    environment = os.environ | {"DSDARC_FILTERS": os.path.join(ROOT, "filters"), "HOME": folder}
+    environment.pop("DSDARC_FILTER", None)
+
+    def played(name: str, *options: str, **more: str) -> tuple[bytes, str]:
+        """The frames that mpv plays as it writes them, without the lowest byte of four that it adds; and what it prints."""
+        with open(heard, "wb"):
+            pass
+        ways = ["--no-config", "--no-audio-display", f"--script={plugin}", "--ao=pcm", f"--ao-pcm-file={heard}"]
+        command = ["timeout", str(MOST_SECONDS), "mpv", *ways]
+        status, said = run(*command, *options, name, env=environment | more)
+        is_played = status == 0 and os.path.getsize(heard) > 0
+        demand(is_played, f"mpv: {name}: status {status}, {said[-300:]}")
+        frames = frames_of(get(heard))[0] if is_played else b""
+        if not re.search(r"AO: \[pcm\] .* s32", said):
+            return frames, said
+        return b"".join(frames[at + 1 : at + 4] for at in range(0, len(frames), 4)), said
+
+    run(PROGRAM, "play", os.path.join(ROOT, "filters", "dsd64-to-88200-24.toml"), long, wave)
+    whole = frames_of(get(wave))[0]
+    for name in (long, *tagged(folder, data)):
+        frames, said = played(name)
+        is_tagged = all(it in said for it in ("Título", "Someone", "An album"))
+        demand(frames == whole and is_tagged == (name != long), f"mpv: other frames or tags of {name}: {said[-500:]}")
+        for second in ("0.5", f"{chance.uniform(0, 5):.6f}"):
+            frames, _ = played(name, f"--start={second}", "--length=0.9")
+            at = whole.find(frames) // 6
+            is_part = len(frames) >= 6 * 79_000 and whole.find(frames) % 6 == 0
+            is_right = is_part and abs(at - float(second) * 88200) <= 1
+            demand(is_right, f"mpv: from {second} s on {len(frames)} bytes, which begin at the frame {at}")
+    run(PROGRAM, "play", os.path.join(ROOT, "filters", "dsd64-to-44100-16.toml"), long, wave)
+    narrow = frames_of(get(wave))[0]
+    for frames, said in (
+        played(long, "--script-opts-append=dsdarc-filter=1/24,44100/16"),
+        played(long, DSDARC_FILTER="44100/16"),
+    ):
+        demand(frames == narrow, f"mpv: other frames to 44100/16: {said[-300:]}")
+    other = os.path.join(ROOT, "filters", "dsd128-to-88200-24.toml")
+    _, said = played(long, f"--script-opts=dsdarc-filter={other}", "--length=0.1")
+    demand("is for files of 5644800 Hz, and this one has 2822400 Hz" in said, f"mpv: no warning: {said[-300:]}")
+    _, said = played(long, "--length=0.1", DSDARC_FILTER="88201/24")
+    demand("no such filter for it: mpv plays it by itself" in said, f"mpv: a filter that isn't there: {said[-300:]}")
+    six = os.path.join(folder, "six.dff")
+    with open(six, "wb") as file:
+        ids = [b"MLFT", b"MRGT", b"C   ", b"LFE ", b"LS  ", b"RS  "]
+        file.write(dsdiff(2822400, 6, chance.randbytes(6 * 35280), ids=ids))
+    run(PROGRAM, "play", os.path.join(ROOT, "filters", "dsd64-to-44100-16.toml"), six, wave)
+    frames, said = played(six, "--audio-channels=auto", DSDARC_FILTER="44100/16")
+    is_right = frames == frames_of(get(wave))[0] and "5.1" in said
+    demand(is_right, f"mpv: other frames of six channels: {said[-300:]}")
 
 
 def try_keys(folder: str, name: str, out: str, whole: bytes) -> None:

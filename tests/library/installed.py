@@ -1,13 +1,15 @@
 """Tries the library as users have it: installed, from the Debian packages, and by pip. The lines of README.md and of
 docs/LIBRARY.md are run as they are there, beside what is installed and a file `in.dsf`."""
 import os
+import platform
 import re
 import shutil
 import subprocess
 import sys
+import zipfile
 
 from tests.helpers.trials import ROOT, demand, get
-from tests.library.playing import BUILT, PROGRAM
+from tests.library.playing import BUILT, PROGRAM, frames_of
 
 PYTHON = "lib/python3/dist-packages"
 # What shows Python and others where the library is, which nothing may need here.
@@ -31,7 +33,8 @@ class Users:
         os.mkdir(folder)
         for name in ("clients", "filters"):
             os.symlink(f"{prefix}/share/dsdarc/{name}", f"{folder}/{name}")
-        os.symlink(f"{prefix}/share/dsdarc/clients/gstdsdarcdec.c", f"{folder}/gstdsdarcdec.c")
+        for name in ("gstdsdarcdec.c", "mpvdsdarc.c", "tags.h"):
+            os.symlink(f"{prefix}/share/dsdarc/clients/{name}", f"{folder}/{name}")
         shutil.copy(sound, f"{folder}/in.dsf")
         config = 'pcm.n { type null }\npcm.!default { type file slave.pcm n file "heard.pcm" format "raw" }\n'
         self.put("asoundrc", config)
@@ -78,11 +81,27 @@ class Users:
         self.follow("README's program in C", lines, 2, "out.pcm")
         if os.path.exists("/usr/include/alsa/asoundlib.h"):
             self.follow("README's player", lines_of("README.md", "dsdarcplay"), 2, "heard.pcm")
-        if os.path.exists("/usr/include/gstreamer-1.0/gst/gst.h"):
+        if shutil.which("mpv") and os.path.exists("/usr/include/mpv/stream_cb.h"):
+            self.plays_in_mpv()
+        if os.path.exists("/usr/include/gstreamer-1.0/gst/tag/tag.h"):
             os.remove(f"{self.folder}/out.pcm")
             lines = lines_of("docs/LIBRARY.md", "gstdsdarcdec.c", "gst-launch-1.0")
             self.follow("the element", lines, 2, "out.pcm")
         self.runs_script("Python, installed", sys.executable, PYTHONPATH=f"{self.prefix}/{PYTHON}")
+
+    def plays_in_mpv(self) -> None:
+        """The lines of the plugin of mpv, also once it is where mpv looks for scripts."""
+        self.put("mpv/mpv.conf", "ao=pcm\nao-pcm-file=mpv.wav\naudio-display=no\n")
+        lines = lines_of("docs/LIBRARY.md", "mpvdsdarc.c", "mpv --script=")
+        demand(len(lines) == 2, f"the plugin of mpv: other lines: {lines}")
+        for line in (*lines, "mkdir mpv/scripts && mv dsdarc.so mpv/scripts && mpv in.dsf"):
+            status, said = self.run("bash", "-c", line, MPV_HOME=f"{self.folder}/mpv")
+            demand(status == 0, f"the plugin of mpv: {line}: status {status}, {said[-300:]}")
+            if "in.dsf" in line and status == 0:
+                wide, _ = frames_of(get(f"{self.folder}/mpv.wav"))
+                frames = b"".join(wide[at + 1 : at + 4] for at in range(0, len(wide), 4))
+                demand(frames == self.frames, f"the plugin of mpv: {line}: other frames")
+                os.remove(f"{self.folder}/mpv.wav")
 
     def runs_script(self, what: str, python: str, **more: str) -> None:
         """README's script in Python, and where its package is found."""
@@ -175,25 +194,69 @@ def packages(folder: str, users: Users, given: dict[str, str]) -> None:
 
 
 def by_pip(folder: str, users: Users) -> None:
-    """`pip install .` in a copy of the clone, in a virtual environment that sees Debian's packages."""
-    clone, python = f"{folder}/clone", f"{folder}/venv/bin/python3"
-    status, said = users.run("/usr/bin/python3", "-m", "venv", "--system-site-packages", f"{folder}/venv")
+    """`pip install .` and `pip wheel .` in copies of the clone, in virtual environments that see Debian's packages, and
+    without a network."""
+    python = environment(f"{folder}/venv", users)
     names = 'import importlib.util as of; exit(not all(map(of.find_spec, ("pip", "setuptools", "wheel", "numpy"))))'
-    if status != 0 or users.run(python, "-c", names)[0] != 0:
+    if not python or users.run(python, "-c", names)[0] != 0:
         print("left out: pip install ., as python3-venv, -pip, -setuptools, -wheel or -numpy isn't installed")
         return
-    keeps = shutil.ignore_patterns("__pycache__", "responses", "build", "*.egg-info")
-    for name in ("python", "filters"):
-        shutil.copytree(os.path.join(ROOT, name), f"{clone}/{name}", ignore=keeps)
-    for name in ("pyproject.toml", "setup.py", "VERSION", "README.md", "LICENSE"):
-        shutil.copy(os.path.join(ROOT, name), clone)
-    os.makedirs(f"{clone}/crates/dsdarc/out")
-    shutil.copy(os.path.join(BUILT, "libdsdarc.so.0"), f"{clone}/crates/dsdarc/out")
-    arguments = ["-m", "pip", "install", "--quiet", "--no-build-isolation", "--no-index", clone]
-    status, said = users.run(python, *arguments)
+    clone, offline = copied(f"{folder}/clone"), ("--quiet", "--no-build-isolation", "--no-index")
+    status, said = users.run(python, "-m", "pip", "install", *offline, clone)
     demand(status == 0, f"pip install: status {status}, {said[-500:]}")
     shutil.rmtree(clone)
     users.runs_script("Python, by pip", python, LD_LIBRARY_PATH="")
+    clone = copied(f"{folder}/clone")
+    status, said = users.run(python, "-m", "pip", "wheel", *offline, "--no-deps", "-w", f"{folder}/wheels", clone)
+    demand(status == 0, f"pip wheel: status {status}, {said[-500:]}")
+    by_wheel(users, "pip wheel", f"{folder}/wheels")
+    if users.run(python, "-c", "import build")[0] != 0:
+        print("left out: python -m build, as python3-build isn't installed")
+    else:
+        # A wheel of the archive of the sources, which is made first.
+        status, said = users.run(python, "-m", "build", "--no-isolation", "-o", f"{folder}/built-wheels", clone)
+        demand(status == 0, f"python -m build: status {status}, {said[-500:]}")
+        by_wheel(users, "python -m build", f"{folder}/built-wheels")
+    shutil.rmtree(clone)
+
+
+def environment(folder: str, users: Users) -> str | None:
+    """The Python of a new virtual environment that sees Debian's packages; None if there can't be one."""
+    status, _ = users.run("/usr/bin/python3", "-m", "venv", "--system-site-packages", folder)
+    return f"{folder}/bin/python3" if status == 0 else None
+
+
+def copied(clone: str) -> str:
+    """A copy of what pip needs of the clone, with the library where it is built."""
+    keeps = shutil.ignore_patterns("__pycache__", "responses", "build", "*.egg-info")
+    for name in ("python", "filters"):
+        shutil.copytree(os.path.join(ROOT, name), f"{clone}/{name}", ignore=keeps)
+    for name in ("pyproject.toml", "setup.py", "MANIFEST.in", "VERSION", "README.md", "LICENSE"):
+        shutil.copy(os.path.join(ROOT, name), clone)
+    os.makedirs(f"{clone}/crates/dsdarc/out")
+    for name in os.listdir(BUILT):
+        if name.startswith("libdsdarc.so"):
+            shutil.copy(os.path.join(BUILT, name), f"{clone}/crates/dsdarc/out", follow_symlinks=False)
+    return clone
+
+
+def by_wheel(users: Users, what: str, made: str) -> None:
+    """The one wheel of a folder is for any Python 3 of this kind of processor, and has the library and the filters."""
+    version = get(os.path.join(ROOT, "VERSION")).decode().strip()
+    wheels = [it for it in os.listdir(made) if it.endswith(".whl")]
+    name = f"dsdarc-{version}-py3-none-linux_{platform.machine()}.whl"
+    demand(wheels == [name], f"{what}: {wheels}, not {name}")
+    with zipfile.ZipFile(f"{made}/{wheels[0]}") as wheel:
+        inside = set(wheel.namelist())
+    ready = {
+        f"dsdarc/filters/{it}" for it in os.listdir(f"{ROOT}/filters") if re.fullmatch(r"dsd.*\.toml|index\.txt", it)
+    }
+    missing = (ready | {"dsdarc/libdsdarc.so.0", "dsdarc/py.typed"}) - inside
+    demand(not missing, f"{what}: the wheel has no {sorted(missing)[:3]}")
+    python = environment(f"{made}-venv", users)
+    status, said = users.run(str(python), "-m", "pip", "install", "--quiet", "--no-index", f"{made}/{wheels[0]}")
+    demand(status == 0, f"{what}: the wheel isn't installed: {said[-500:]}")
+    users.runs_script(f"Python, by a wheel of {what}", str(python), LD_LIBRARY_PATH="")
 
 
 def try_installed(folder: str, sound: str, frames: bytes, source: str, script: str) -> None:

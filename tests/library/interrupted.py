@@ -94,6 +94,7 @@ def steps(sound: "Sound", count: int) -> Iterator[Callable[[], object]]:
     yield lambda: sound.seek(-3, os.SEEK_END)
     yield sound.read
     yield lambda: sound.seek(1)
+    yield lambda: sound.bits(count // 2, 300)
     yield lambda: list(sound.blocks(count // 2))
 
 
@@ -129,18 +130,8 @@ def each_place_raises(name: str, filter: str, whole: "ndarray", stride: int) -> 
     """An interrupt at each place of the package's code in turn: at every line, call and return, and within lines."""
     import dsdarc
 
-    folder = os.path.dirname(dsdarc.__file__)
     left = [0]
-
-    def trace(frame: FrameType, event: str, _: object) -> Callable[..., Any] | None:
-        if not frame.f_code.co_filename.startswith(folder) or frame.f_code.co_name in ("__del__", "drop"):
-            return None
-        frame.f_trace_opcodes = True
-        left[0] -= 1
-        if left[0] == 0:
-            raise Stop
-        return trace
-
+    trace = raiser(os.path.dirname(dsdarc.__file__), left)
     tried = wrong = 0
     with dsdarc.open(name, filter) as sound:
         for number, step in enumerate(steps(sound, len(whole))):
@@ -159,6 +150,56 @@ def each_place_raises(name: str, filter: str, whole: "ndarray", stride: int) -> 
                 wrong += not is_next(sound, whole)
     demand(tried > 100 // stride, f"Python: only {tried} places raised")
     demand(wrong == 0, f"Python: {wrong} of {tried} reads after an interrupt at a place gave other frames")
+
+
+def while_writing(folder: str, stride: int) -> None:
+    """An interrupt at each place of the code that writes a file: the old file is there or the new one, and nothing
+    else."""
+    import dsdarc
+    import numpy
+
+    room = os.path.join(folder, "writing")
+    os.mkdir(room)
+    old, new = (numpy.full((9000, 2), byte, numpy.uint8) for byte in (0x55, 0xAA))
+    for ending in ("dff", "dsf"):
+        name = os.path.join(room, f"file.{ending}")
+        whole = []
+        for bits in (old, new):
+            dsdarc.write(name, bits, 2822400)
+            whole.append(get(name))
+        left, tried, wrong = [0], 0, 0
+        trace = raiser(os.path.dirname(dsdarc.__file__), left)
+        for at in range(1, 1_000_000, stride):
+            dsdarc.write(name, old, 2822400)
+            left[0] = at
+            sys.settrace(trace)
+            try:
+                dsdarc.write(name, new, 2822400)
+            except Stop:
+                tried += 1
+            finally:
+                sys.settrace(None)
+            wrong += get(name) not in whole or os.listdir(room) != [f"file.{ending}"]
+            if left[0] > 0:
+                break
+        demand(get(name) == whole[1] and tried > 100 // stride, f"Python: only {tried} places of a write raised")
+        demand(wrong == 0, f"Python: {wrong} of {tried} interrupted writes leave something")
+        os.remove(name)
+
+
+def raiser(folder: str, left: list[int]) -> Callable[[FrameType, str, object], Callable[..., Any] | None]:
+    """What raises an interrupt in the code of a folder, after so many places of it."""
+
+    def trace(frame: FrameType, event: str, _: object) -> Callable[..., Any] | None:
+        if not frame.f_code.co_filename.startswith(folder) or frame.f_code.co_name in ("__del__", "drop"):
+            return None
+        frame.f_trace_opcodes = True
+        left[0] -= 1
+        if left[0] == 0:
+            raise Stop
+        return trace
+
+    return trace
 
 
 def at_any_time(name: str, filter: str, whole: "ndarray", count: int) -> None:
@@ -445,3 +486,4 @@ def try_interrupted(folder: str, cut: str, interrupts: int) -> None:
         filters(room, dff)
         short, _, filter, frames, align = played(room, "few", 12_000)
         each_place_raises(short, filter, numbers_of(frames, align, 3), max(1, 4000 // interrupts))
+        while_writing(room, max(1, 1000 // interrupts))

@@ -147,6 +147,50 @@ static void try_pulls(void) {
     dsdarc_player_drop(player);
 }
 
+/* The same frames in each format, in pulls of another size. */
+static void try_formats(void) {
+    static unsigned char packed[FRAMES * CHANNELS * 4], other[FRAMES * CHANNELS * 4];
+    static const int formats[] = {DSDARC_S32, DSDARC_F32, DSDARC_PACKED_PLANAR, DSDARC_S32_PLANAR, DSDARC_F32_PLANAR};
+    dsdarc_info info;
+    dsdarc_player *player = made();
+    size_t at = to_sound(player, &info), width = info.width / 8, taken, given, count, frames, k, c, f;
+    if (dsdarc_player_push(player, bytes + at, size - at, &taken) != DSDARC_OK) exit(3);
+    if (dsdarc_player_pull(player, packed, FRAMES, DSDARC_PACKED, &count) != DSDARC_OK || count < 700) exit(3);
+    dsdarc_player_drop(player);
+    for (f = 0; f < sizeof formats / sizeof *formats; f++) {
+        dsdarc_format format = (dsdarc_format)formats[f];
+        int base = formats[f] & ~DSDARC_PLANAR, wrong = 0;
+        size_t sample = base == DSDARC_PACKED ? width : 4, done = 0, planes;
+        player = made();
+        at = to_sound(player, &info);
+        if (dsdarc_player_push(player, bytes + at, size - at, &taken) != DSDARC_OK) exit(3);
+        for (frames = 1; done < count; frames = 2 * frames + 511) {
+            memset(other, 0x5a, sizeof other);
+            if (dsdarc_player_pull(player, other, frames, format, &given) != DSDARC_OK || given > frames) exit(3);
+            if (given != (frames < count - done ? frames : count - done)) exit(3);
+            planes = formats[f] & DSDARC_PLANAR ? frames : 0;
+            for (k = 0; k < given; k++)
+                for (c = 0; c < CHANNELS; c++) {
+                    const unsigned char *is = other + (planes ? c * planes + k : k * CHANNELS + c) * sample;
+                    const unsigned char *from = packed + ((done + k) * CHANNELS + c) * width;
+                    int64_t value = from[width - 1] < 128 ? 0 : -1;
+                    float real;
+                    int32_t whole;
+                    for (size_t byte = width; byte-- > 0;) value = value * 256 + from[byte];
+                    memcpy(&real, is, sample < 4 ? 0 : 4), memcpy(&whole, is, sample < 4 ? 0 : 4);
+                    wrong += base == DSDARC_PACKED ? memcmp(is, from, width) != 0
+                             : base == DSDARC_S32  ? whole != value
+                                                   : (double)real != (double)value / (1 << (info.width - 1));
+                }
+            done += given;
+        }
+        SAYS("the same values in each format, and each at its place", wrong == 0);
+        SAYS("F32 has to be aligned",
+             base == DSDARC_PACKED || dsdarc_player_pull(player, pcm + 2, 1, format, &given) == DSDARC_SIZE);
+        dsdarc_player_drop(player);
+    }
+}
+
 static void try_faults(void) {
     dsdarc_info info, after;
     dsdarc_player *player = made();
@@ -232,10 +276,11 @@ int main(int count, char **arguments) {
     for (int at = 2; at < count; at++) {
         name = arguments[at];
         bytes = whole(name, &size);
-        try_new(), try_pushes(), try_info(), try_pulls(), try_faults(), try_seeks(), try_held();
+        try_new(), try_pushes(), try_info(), try_pulls(), try_formats(), try_faults(), try_seeks(), try_held();
         free(bytes);
     }
     name = "statuses";
+    SAYS("the version as a number that can be compared", DSDARC_VERSION == 200);
     SAYS("the name of a status", strcmp(dsdarc_status_text(DSDARC_FILE_REFUSED), "FileRefused") == 0 &&
                                      strcmp(dsdarc_status_text(DSDARC_PROCESSOR), "Processor") == 0 &&
                                      strcmp(dsdarc_status_text(DSDARC_NO_FILTER), "NoFilter") == 0);

@@ -8,8 +8,24 @@ from tests.helpers.trials import ROOT, demand, get
 from tests.helpers.trials import said as run
 from tests.library.playing import BUILT, PROGRAM, compiled
 
-SOURCES = [os.path.join(ROOT, "library", f"{it}.c") for it in ("dsdarc", "filters", "channels")]
+SOURCES = [
+    os.path.join(ROOT, "library", f"{it}.c")
+    for it in ("dsdarc", "formats", "describing", "ready", "filters", "channels")
+]
 ARCHIVE = os.path.join(BUILT, "libdsdarc.a")
+
+
+def all_parts(folder: str) -> list[str]:
+    """The library in its parts: its files in C with the ready filters, the proved part, and the toolchain's heap that it
+    calls."""
+    ready = os.path.join(folder, "ready_filters.c")
+    status, said = run(os.path.join(ROOT, "library", "ready.py"), os.path.join(ROOT, "filters"))
+    demand(status == 0, f"the ready filters aren't written: {said[-200:]}")
+    with open(ready, "w", encoding="ascii") as file:
+        file.write(said)
+    heap = os.path.join(os.path.dirname(run("rt", "doc")[1].strip()), "c", "liblibc_c.a")
+    return [*SOURCES, ready, os.path.join(BUILT, "libdsdarc_c.a"), heap]
+
 
 # The C library counts what it keeps of freed memory for the next request as held, unless it keeps nothing.
 KEEPING_NOTHING = os.environ | {"GLIBC_TUNABLES": "glibc.malloc.tcache_count=0"}
@@ -32,9 +48,12 @@ def try_sentences(folder: str) -> None:
     for filter in ("dsd64-to-88200-24", "dsd64-to-44100-16"):
         status, said = run(made, os.path.join(ROOT, "filters", f"{filter}.toml"), *files, env=KEEPING_NOTHING)
         demand(status == 0 and said == "", f"dsdarc.h, by {filter}: status {status}\n{said}")
+    status, said = run("nm", "--defined-only", "--extern-only", "--format=just-symbols", ARCHIVE)
+    shown = [it for it in said.split() if not it.startswith("dsdarc_") or it.startswith("dsdarc_c_")]
+    demand(status == 0 and said and not shown, f"the archive shows more than the calls of dsdarc.h: {shown}")
     made = os.path.join(folder, "pure")
     flags = ["-g", "-fsanitize=address,undefined", "-fno-sanitize-recover", "-Wall", "-Wextra", "-Werror"]
-    compiled("tests/library/pure.c", *flags, *SOURCES[1:], ARCHIVE, "-o", made)
+    compiled("tests/library/pure.c", *flags, *all_parts(folder), "-o", made)
     status, said = run(made)
     demand(status == 0 and said == "", f"calls without a player: status {status}\n{said}")
 
@@ -44,7 +63,7 @@ def try_processor(folder: str, filter: str, name: str) -> None:
     made, out = os.path.join(folder, "lacking"), os.path.join(folder, "lacking.pcm")
     for level in ("2", "3"):
         lacks = ["-D__builtin_cpu_supports(it)=0", f"-DDSDARC_LEVEL={level}", "-DDSDARC_BUILD"]
-        compiled("tests/library/cut.c", *lacks, SOURCES[0], ARCHIVE, "-o", made)
+        compiled("tests/library/cut.c", *lacks, *all_parts(folder), "-o", made)
         status, said = run(made, filter, name, out, "0")
         demand((status, said) == (1, "new Processor\n"), f"a processor that lacks level {level}: {status}, {said}")
     marks = [os.path.join(BUILT, it) for it in ("libdsdarc_c.cpu", "dsdarc.cpu")]

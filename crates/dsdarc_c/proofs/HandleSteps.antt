@@ -19,7 +19,7 @@ use Rattle.std_alloc.specs.contracts.boxed.Box as boxed
 use Rattle.std_heap.specs.contracts.GlobalAllocator.TheImpl as heap
 use Rattle.std_heap.specs.contracts.Global as global
 use Rattle.std_heap.proofs.Global.TheLaws as global_laws
-use Rattle.dsdarc_c.specs.contracts.content.PushPlayer as content
+use Rattle.dsdarc_c.specs.contracts.player.Player as content
 use Rattle.dsdarc_c.specs.contracts.handle.Handle as held
 
 abbrev pub both : Val → Val → Val

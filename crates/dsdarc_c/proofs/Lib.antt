@@ -1,3 +1,7 @@
+pub mod BareStatusLaws
+pub mod BareEndLaws
+pub mod BareTakingLaws
+pub mod BareLaws
 pub mod HandleSteps
 pub mod PlayLaws
 pub mod KeepLaws

@@ -1,8 +1,14 @@
+pub mod Bare
+pub mod BareCalls
+pub mod BareMoves
+pub mod BareReporting
+pub mod BareWhole
 pub mod Calls
 pub mod Ending
 pub mod Headers
 pub mod Making
 pub mod Numbers
+pub mod Players
 pub mod Playing
 pub mod Pushing
 pub mod Reporting

@@ -2,15 +2,16 @@
 
 use crate::ending::end;
 use crate::fault::PlayFault;
-use crate::info::{Info, info_of};
+use crate::info::{Info, copy_from, info_of};
 use crate::pulling::pull;
-use crate::pushing::Pushing;
+use crate::pushing::{Pushing, Stage};
 use crate::samples::pull_numbers;
 use crate::seeking::seek;
 use crate::status::{
-    NO_DECIMATION, done, memory, status_of, status_of_outcome, status_of_project, status_with,
+    NO_DECIMATION, done, status_of, status_of_outcome, status_of_project, status_with,
 };
 use crate::taking::push;
+use dsd_bits::Sound;
 use fir_core::Taps;
 use project_core::Project;
 use std::alloc::Global;
@@ -34,20 +35,26 @@ impl Model for PushPlayer {
 }
 
 impl PushPlayer {
-    ghost use Rattle.std.specs.Prelude.{◌≡◌, MatchResult};
+    ghost use Rattle.std.specs.Prelude.{◌≡◌, Err, IfErr, IfOk, IfSome, MatchResult, Ok};
+    ghost use Rattle.dsd_bits.specs.Sounds.{IsSound};
+    ghost use Rattle.dsdarc_c.specs.BareReporting.{AreCopied};
+    ghost use Rattle.dsdarc_c.specs.Players.{kept_of};
+    ghost use Rattle.dsdarc_c.specs.Pushing.{IsPushing};
+    ghost use Rattle.dsdarc_c.specs.declared.fault.PlayFault.{PlayFault};
+    ghost use Rattle.dsdarc_c.specs.declared.player.Player.TheVariants as Player;
     ghost use Rattle.dsdarc_c.specs.Calls.{EndRefused, Ended, Pulled, PulledNumbers, PushRefused, Pushed, SeekRefused, Sought};
     ghost use Rattle.dsdarc_c.specs.Making.{IsMadeBy, IsNew, RefusesProject};
     ghost use Rattle.dsdarc_c.specs.Reporting.{RefusesInfo, ReportsSound};
-    ghost use Rattle.dsdarc_c.specs.Statuses.{StatusMeans};
+    ghost use Rattle.dsdarc_c.specs.Statuses.{StatusMeans, status_of};
 
-    /// A player in the heap by the filter of a project text, before the first byte of a file; or the status that says
-    /// why none is made.
-    pub(crate) fn made_by(alloc: Global, project: &[u8]) -> Result<Box<PushPlayer>, u32>
-        ensures { MatchResult result (λ player. IsMadeBy project.now player.value) (RefusesProject project.now) }
+    /// A player by the filter of a project text, before the first byte of a file; or the status that says why none is
+    /// made.
+    pub(crate) fn made_by(alloc: Global, project: &[u8]) -> Result<PushPlayer, u32>
+        ensures { MatchResult result (IsMadeBy project.now) (RefusesProject project.now) }
     {
         match project_core::read(alloc, project) {
             Ok(Project { decimate, .. }) => match decimate {
-                Some(taps) => PushPlayer::with_filter(alloc, taps),
+                Some(taps) => Ok(PushPlayer::with_filter(alloc, taps)),
                 None => Err(NO_DECIMATION),
             },
             Err(fault) => Err(status_of_project(fault)),
@@ -55,13 +62,43 @@ impl PushPlayer {
     }
 
     // The same by a filter.
-    fn with_filter(alloc: Global, taps: Taps) -> Result<Box<PushPlayer>, u32>
-        ensures { MatchResult result (λ player. IsNew taps player.value) (λ status. status ≡ 3) }
+    fn with_filter(alloc: Global, taps: Taps) -> PushPlayer
+        ensures { IsNew taps result }
     {
         let pushing = Pushing::new(alloc, taps);
-        match Box::new(alloc, PushPlayer { pushing }) {
-            Ok(player) => Ok(player),
-            Err(_) => Err(memory()),
+        PushPlayer { pushing }
+    }
+
+    /// A player that was made, or the status of the fault for which it wasn't.
+    pub(crate) fn of(made: Result<Pushing, PlayFault>) -> Result<PushPlayer, u32>
+        requires { IfOk made IsPushing }
+        ensures ok { IfOk result (λ player. made ≡ Ok player) }
+        ensures err { IfErr result (λ status. (fault : PlayFault) × (made ≡ Err fault) × (status ≡ status_of fault)) }
+    {
+        match made {
+            Ok(pushing) => Ok(PushPlayer { pushing }),
+            Err(fault) => Err(status_of(fault)),
+        }
+    }
+
+    /// The sound of the file, once it is known.
+    pub(crate) fn sound(&self) -> Option<Sound>
+        ensures stated { result ≡ self.now.stated }
+        ensures limits { IfSome result IsSound }
+    {
+        self.pushing.stated
+    }
+
+    /// Copies bytes that are kept before the sound, or after it: how many.
+    pub(crate) fn kept(&self, after: bool, from: usize, out: &mut [u8]) -> usize
+        ensures { AreCopied (kept_of (Player.Frames self.now) after) from out.old out.new result }
+    {
+        if !after {
+            return copy_from(self.pushing.header.as_slice(), from, out);
+        }
+        match &self.pushing.stage {
+            Stage::After(_, back) => copy_from(back.as_slice(), from, out),
+            _ => copy_from(&[], from, out),
         }
     }
 

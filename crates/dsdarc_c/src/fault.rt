@@ -22,6 +22,10 @@ pub enum PlayFault {
     NotYet,
     /// There is no such frame.
     PastEnd,
+    /// It isn't chosen yet how the sound is given.
+    NoChoice,
+    /// It was chosen before how the sound is given.
+    Chosen,
     /// Out of memory.
     Memory,
 }

@@ -10,6 +10,8 @@ use project_core::ProjectFault;
 // As in dsdarc.h.
 const OK: u32 = 0;
 
+const SIZE: u32 = 2;
+
 const MEMORY: u32 = 3;
 
 const AFTER_FAULT: u32 = 4;
@@ -44,11 +46,22 @@ const LAST_BRIDGE: u32 = 18;
 
 const TOO_MUCH_HELD: u32 = 20;
 
+const NO_CHOICE: u32 = 22;
+
+const CHOSEN: u32 = 23;
+
 /// The status of a call that is out of memory.
 pub(crate) fn memory() -> u32
     ensures { result ≡ 3 }
 {
     MEMORY
+}
+
+/// The status of a call with a number that can't be.
+pub(crate) fn size_refused() -> u32
+    ensures { result ≡ 2 }
+{
+    SIZE
 }
 
 /// The status of a call that was done.
@@ -70,6 +83,8 @@ pub(crate) fn status_of(fault: PlayFault) -> u32
         PlayFault::AfterFault => AFTER_FAULT,
         PlayFault::NotYet => NOT_YET,
         PlayFault::PastEnd => PAST_END,
+        PlayFault::NoChoice => NO_CHOICE,
+        PlayFault::Chosen => CHOSEN,
         PlayFault::Memory => MEMORY,
     }
 }

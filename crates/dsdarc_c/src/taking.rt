@@ -15,16 +15,17 @@ use dsd_bits::Sound;
 use std::alloc::Global;
 use std::mem;
 
-// How many bytes are taken at once.
-const BLOCK: usize = 65_536;
+/// How many bytes are taken at once.
+pub(crate) const BLOCK: usize = 65_536;
 
-// So many bytes, and no more of a file; half as many of its sound.
-const MOST: usize = 1 << 62;
+/// So many bytes, and no more of a file; half as many of its sound.
+pub(crate) const MOST: usize = 1 << 62;
 
-const MOST_HALF: usize = 1 << 61;
+/// Half of them.
+pub(crate) const MOST_HALF: usize = 1 << 61;
 
-// So many bytes, and no more, are held of what precedes the sound, and of what follows it.
-const MOST_HELD: usize = 1 << 28;
+/// So many bytes, and no more, are held of what precedes the sound, and of what follows it.
+pub(crate) const MOST_HELD: usize = 1 << 28;
 
 /// Takes bytes of the file, from the place on where the next one is, and returns how many: of the first 65,536 all
 /// of them, but at most those up to where the sound starts or ends. None are taken while frames wait to be pulled.
@@ -142,8 +143,8 @@ fn push_header(
     }
 }
 
-// Goes to the first frame of the sound that the header states. If memory runs out, the sound isn't known.
-fn start_sound(alloc: Global, p: &mut Pushing, sound: Sound) -> Result<(), PlayFault>
+/// Goes to the first frame of the sound that the header states. If memory runs out, the sound isn't known.
+pub(crate) fn start_sound(alloc: Global, p: &mut Pushing, sound: Sound) -> Result<(), PlayFault>
     requires header { IsPushedHeader p.old.header.items sound }
     ensures keeps { IsPushing p.new }
     ensures plays { (file : List ℕ) → BeginsWith file p.old.header.items

@@ -39,7 +39,7 @@ use Rattle.std_heap.proofs.Global.TheLaws as global_laws
 use Rattle.std_heap.proofs.GlobalAllocator.TheImpl.Met as heap_met
 use Rattle.std_alloc.specs.contracts.boxed.Box.from_raw as callee
 use Rattle.std_alloc.proofs.boxed.Box.from_raw.Met.{met}
-use Rattle.dsdarc_c.proofs.content.PushPlayer.TheLaws as content_laws
+use Rattle.dsdarc_c.proofs.player.Player.TheLaws as content_laws
 use Rattle.dsdarc_c.proofs.HandleSteps.{both, R, Z, H, held_good, held_out, boxed_good}
 use Rattle.dsdarc_c.specs.contracts.handle.into_box.{ended, clauses}
 use Rattle.dsdarc_c.specs.contracts.handle.into_box.Key.{name as #self}

@@ -1,0 +1,337 @@
+/* A plugin of mpv over the library: DSDIFF and DSF files are played by a filter, as `dsdarc play` plays them.
+ *
+ *     cc -shared -fPIC mpvdsdarc.c $(pkg-config --cflags --libs dsdarc) -o dsdarc.so
+ *     mpv --script=./dsdarc.so in.dsf
+ *     mpv --script=./dsdarc.so --script-opts=dsdarc-filter=176400/24 in.dsf
+ *
+ * In ~/.config/mpv/scripts mpv finds it by itself. It needs the headers of mpv, which are in libmpv-dev, and none of its
+ * libraries. The filter is a project text's path, or what to play to: RATE/BITS, or several, the best first. Without the
+ * option it is what DSDARC_FILTER says, else 88200/24,96000/24. The ready filters are those of the installation that the
+ * library belongs to, or in the folder that DSDARC_FILTERS names.
+ *
+ * mpv gets a file as a stream `dsdarc://`, which is a WAVE file that isn't there: its header, the tag of the file, and the
+ * frames. A seek goes to the byte that mpv asks for. A file that the library refuses, and one for whose rate there is no
+ * such filter, is left to mpv, and a line says so. */
+#define _GNU_SOURCE
+#include <dlfcn.h>
+#include <dsdarc.h>
+#include <fcntl.h>
+#include <mpv/client.h>
+#include <mpv/stream_cb.h>
+#include <stdio.h>
+#include <stdlib.h>
+
+#include "tags.h"
+
+#define SCHEME "dsdarc://"
+#define BEST "88200/24,96000/24"
+#define OPTION "dsdarc-filter"
+enum { FRAMES = 4096, MOST_FRAME = 18, MOST_RATES = 16, MOST_HEADER = 1 << 20, BEFORE_TAG = 104, AFTER_TAG = 9 };
+
+/* A filter that is loaded for nothing but the rate of a file. */
+static const char plain[] = "[decimate]\ntaps = [1]\nfactor = 8\ndelay = 0\nshift = 0\nwidth = 16\n";
+
+typedef struct {
+    int file;
+    dsdarc_player *player;
+    dsdarc_info info;
+    uint64_t offset;             /* of the next byte that is read of the file */
+    unsigned char bytes[65536];
+    size_t count, pushed;        /* of these bytes */
+    unsigned char *header;
+    uint64_t header_size, frame_size;
+    uint64_t place;              /* of the next byte of the WAVE file */
+    int is_elsewhere;            /* the player isn't there */
+    unsigned char frames[FRAMES * MOST_FRAME];
+    size_t given, taken;         /* bytes of frames */
+} stream;
+
+/* The whole of a small file, with a zero after it; or NULL. */
+static char *text_of(const char *path, size_t *size) {
+    FILE *file = fopen(path, "rb");
+    char *text = NULL;
+    long end;
+    *size = 0;
+    if (!file) return NULL;
+    if (fseek(file, 0, SEEK_END) == 0 && (end = ftell(file)) >= 0 && fseek(file, 0, SEEK_SET) == 0 &&
+        (text = malloc((size_t)end + 1))) {
+        *size = fread(text, 1, (size_t)end, file);
+        text[*size] = 0;
+    }
+    fclose(file);
+    return text;
+}
+
+static void leave(stream *it) {
+    dsdarc_player_drop(it->player);
+    if (it->file >= 0) close(it->file);
+    free(it->header);
+    free(it);
+}
+
+/* Pushes what comes next of the file: 1, 0 at its end, or -1. */
+static int push(stream *it) {
+    size_t taken;
+    if (it->pushed == it->count) {
+        ssize_t count = pread(it->file, it->bytes, sizeof it->bytes, (off_t)it->offset);
+        if (count <= 0) return (int)count;
+        it->offset += (uint64_t)count;
+        it->count = (size_t)count;
+        it->pushed = 0;
+    }
+    if (dsdarc_player_push(it->player, it->bytes + it->pushed, it->count - it->pushed, &taken) != DSDARC_OK) return -1;
+    it->pushed += taken;
+    return 1;
+}
+
+/* A player of a file by a filter, once it knows what is played; or NULL. */
+static stream *opened(const char *path, const void *text, size_t size) {
+    stream *it = calloc(1, sizeof *it);
+    if (!it) return NULL;
+    it->file = open(path, O_RDONLY | O_CLOEXEC);
+    if (it->file < 0 || dsdarc_player_new(text, size, &it->player) != DSDARC_OK) return leave(it), NULL;
+    while (dsdarc_player_info(it->player, &it->info) != DSDARC_OK)
+        if (push(it) <= 0) return leave(it), NULL;
+    return it;
+}
+
+static unsigned char *put(unsigned char *at, const char *name, uint64_t number, int count) {
+    for (; *name; name++) *at++ = (unsigned char)*name;
+    for (; count > 0; count--, number >>= 8) *at++ = (unsigned char)number;
+    return at;
+}
+
+/* The loudspeakers of the channels; 0 if the file names none. */
+static uint32_t mask_of(stream *it) {
+    size_t size = it->offset < MOST_HEADER ? (size_t)it->offset : MOST_HEADER;
+    unsigned char *header = malloc(size);
+    uint32_t mask = 0;
+    if (header && pread(it->file, header, size, 0) == (ssize_t)size) dsdarc_channel_mask(header, size, &mask);
+    free(header);
+    return mask;
+}
+
+/* The header of the WAVE file, of the form for any length (RF64), with the tag. Whether there was memory for it. */
+static int describe(stream *it) {
+    static const char rest[] = "\0\0\0\0\x10\0\x80\0\0\xaa\0\x38\x9b\x71";
+    tag_place tag = tag_of(it->file);
+    uint32_t width = it->info.width, channels = it->info.channels;
+    uint64_t frame = width / 8 * channels, size = it->info.frames * frame;
+    unsigned char *at = it->header = calloc(1, BEFORE_TAG + (size_t)tag.size + AFTER_TAG);
+    if (!at) return 0;
+    at = put(put(at, "RF64", UINT32_MAX, 4), "WAVEds64", 28, 4);
+    at = put(put(put(put(at, "", 0, 8), "", size, 8), "", it->info.frames, 8), "", 0, 4);
+    at = put(put(put(at, "fmt ", 40, 4), "", 0xfffe, 2), "", channels, 2);
+    at = put(put(put(at, "", it->info.rate, 4), "", it->info.rate * frame, 4), "", frame, 2);
+    at = put(put(put(put(put(at, "", width, 2), "", 22, 2), "", width, 2), "", mask_of(it), 4), "", 1, 2);
+    memcpy(at, rest, 14);
+    at += 14;
+    if (tag.size > 0) {
+        at = put(at, "ID3 ", tag.size, 4);
+        if (pread(it->file, at, (size_t)tag.size, (off_t)tag.at) != (ssize_t)tag.size) return 0;
+        at += tag.size + tag.size % 2;
+    }
+    at = put(at, "data", UINT32_MAX, 4);
+    it->header_size = (uint64_t)(at - it->header);
+    it->frame_size = frame;
+    put(it->header + 20, "", it->header_size - 8 + size, 8);
+    return 1;
+}
+
+/* Has the player go to the frame with the next byte. */
+static int go_on(stream *it) {
+    uint64_t from = it->place - it->header_size;
+    if (dsdarc_player_seek(it->player, from / it->frame_size, &it->offset) != DSDARC_OK) return 0;
+    it->count = it->pushed = it->given = 0;
+    it->taken = (size_t)(from % it->frame_size);
+    it->is_elsewhere = 0;
+    return 1;
+}
+
+/* Gets frames, where all bytes of those before were read: 1, 0 at the end, or -1. */
+static int pull(stream *it) {
+    size_t frames, before = it->taken - it->given;
+    for (;;) {
+        int status;
+        if (dsdarc_player_pull(it->player, it->frames, FRAMES, DSDARC_PACKED, &frames) != DSDARC_OK) return -1;
+        if (frames > 0) break;
+        if ((status = push(it)) < 0) return -1;
+        if (status == 0) return 0;
+    }
+    it->given = frames * (size_t)it->frame_size;
+    it->taken = before;
+    return 1;
+}
+
+static int64_t read_bytes(void *cookie, char *out, uint64_t room) {
+    stream *it = cookie;
+    uint64_t end = it->header_size + it->info.frames * it->frame_size, count;
+    if (it->place >= end) return 0;
+    if (it->place < it->header_size) {
+        count = it->header_size - it->place;
+        count = count < room ? count : room;
+        memcpy(out, it->header + it->place, count);
+    } else {
+        if (it->is_elsewhere && !go_on(it)) return -1;
+        if (it->taken >= it->given && pull(it) <= 0) return -1;
+        count = it->given - it->taken;
+        count = count < room ? count : room;
+        memcpy(out, it->frames + it->taken, count);
+        it->taken += (size_t)count;
+    }
+    it->place += count;
+    return (int64_t)count;
+}
+
+static int64_t seek_to(void *cookie, int64_t place) {
+    stream *it = cookie;
+    if (place < 0 || (uint64_t)place > it->header_size + it->info.frames * it->frame_size) return MPV_ERROR_GENERIC;
+    it->is_elsewhere |= it->place != (uint64_t)place;
+    it->place = (uint64_t)place;
+    return place;
+}
+
+static int64_t size_of(void *cookie) {
+    stream *it = cookie;
+    return (int64_t)(it->header_size + it->info.frames * it->frame_size);
+}
+
+static void close_it(void *cookie) { leave(cookie); }
+
+/* Opens dsdarc://SIZE/FILTERFILE: SIZE is how long the name of the filter is. */
+static int open_it(void *data, char *name, mpv_stream_cb_info *info) {
+    char *filter, *text, *path = NULL;
+    size_t size, length = strtoul(name + strlen(SCHEME), &filter, 10);
+    stream *it = NULL;
+    (void)data;
+    if (*filter++ != '/' || length > strlen(filter) || !(path = strndup(filter, length))) return MPV_ERROR_LOADING_FAILED;
+    text = text_of(path, &size);
+    if (text) it = opened(filter + length, text, size);
+    free(text);
+    free(path);
+    if (it && !describe(it)) leave(it), it = NULL;
+    if (!it) return MPV_ERROR_LOADING_FAILED;
+    *info = (mpv_stream_cb_info){it, read_bytes, seek_to, size_of, close_it, NULL};
+    it->is_elsewhere = 1;
+    return 0;
+}
+
+/* Prints a line on mpv's terminal. */
+static void say(mpv_handle *mpv, const char *path, const char *what) {
+    char *line;
+    if (asprintf(&line, "dsdarc: %s: %s", path, what) < 0) return;
+    mpv_command(mpv, (const char *[]){"print-text", line, NULL});
+    free(line);
+}
+
+/* The folder of the ready filters. */
+static char *filters(void) {
+    const char *named = getenv("DSDARC_FILTERS"), *slash;
+    Dl_info library;
+    char *folder;
+    if (named) return strdup(named);
+    if (!dladdr((void *)dsdarc_version, &library) || !(slash = strrchr(library.dli_fname, '/')))
+        return strdup("/usr/share/dsdarc/filters");
+    if (asprintf(&folder, "%.*s/../share/dsdarc/filters", (int)(slash - library.dli_fname), library.dli_fname) < 0) return NULL;
+    return folder;
+}
+
+/* Warns of a filter that the index beside it lists for files of other rates. */
+static void warn_of_rate(mpv_handle *mpv, const char *path, const char *filter, uint32_t rate) {
+    const char *slash = strrchr(filter, '/');
+    char *place, *index, what[200];
+    uint32_t rates[MOST_RATES];
+    size_t size, count, known = 0;
+    if (asprintf(&place, "%.*sindex.txt", slash ? (int)(slash + 1 - filter) : 0, filter) < 0) return;
+    index = text_of(place, &size);
+    if (index && dsdarc_filter_rates(index, size, slash ? slash + 1 : filter, rates, MOST_RATES, &count) == DSDARC_OK) {
+        while (known < count && known < MOST_RATES && rates[known] != rate) known++;
+        snprintf(what, sizeof what, "the filter is for files of %u Hz, and this one has %u Hz", rates[0], rate);
+        if (count > 0 && (known == count || known == MOST_RATES)) say(mpv, path, what);
+    }
+    free(index);
+    free(place);
+}
+
+/* The option, as it is now; or NULL. */
+static char *option(mpv_handle *mpv) {
+    mpv_node all;
+    char *found = NULL;
+    if (mpv_get_property(mpv, "script-opts", MPV_FORMAT_NODE, &all) < 0) return NULL;
+    for (int k = 0; all.format == MPV_FORMAT_NODE_MAP && k < all.u.list->num; k++)
+        if (strcmp(all.u.list->keys[k], OPTION) == 0 && all.u.list->values[k].format == MPV_FORMAT_STRING)
+            found = strdup(all.u.list->values[k].u.string);
+    mpv_free_node_contents(&all);
+    return found;
+}
+
+/* The path of the filter for a file of a rate, by what is wished for; or NULL. */
+static char *path_for(const char *wishes, uint32_t rate) {
+    char *all = strdup(wishes), *folder = filters(), *place = NULL, *index = NULL, *path = NULL, *rest = NULL, *each;
+    size_t size = 0;
+    if (all && folder && asprintf(&place, "%s/index.txt", folder) >= 0) index = text_of(place, &size);
+    for (each = all ? strtok_r(all, ",", &rest) : NULL; each && !path; each = strtok_r(NULL, ",", &rest)) {
+        dsdarc_wish wish = {.rate_in = rate};
+        char name[4096], more;
+        if (sscanf(each, "%9u/%2u%c", &wish.rate, &wish.width, &more) != 2)
+            path = strdup(each);
+        else if (index && dsdarc_filter_find(index, size, &wish, name, sizeof name) == DSDARC_OK &&
+                 asprintf(&path, "%s/%s", folder, name) < 0)
+            path = NULL;
+    }
+    free(index);
+    free(place);
+    free(folder);
+    free(all);
+    return path;
+}
+
+/* Whether a file begins as a DSDIFF or DSF file. */
+static int is_ours(const char *path) {
+    unsigned char head[16];
+    int file = open(path, O_RDONLY | O_CLOEXEC | O_NONBLOCK), is_known;
+    struct stat state;
+    if (file < 0) return 0;
+    is_known = fstat(file, &state) == 0 && S_ISREG(state.st_mode) && pread(file, head, sizeof head, 0) == sizeof head &&
+               (memcmp(head, "DSD ", 4) == 0 || (memcmp(head, "FRM8", 4) == 0 && memcmp(head + 12, "DSD ", 4) == 0));
+    close(file);
+    return is_known;
+}
+
+/* Has mpv open a file by the library, if it is one that the library plays. */
+static void load(mpv_handle *mpv) {
+    char *path = mpv_get_property_string(mpv, "stream-open-filename"), *filter = NULL, *name = NULL, *said = option(mpv);
+    const char *plain_path = path && strncmp(path, "file://", 7) == 0 ? path + 7 : path;
+    const char *wish = said ? said : getenv("DSDARC_FILTER");
+    stream *scout;
+    if (path && is_ours(plain_path)) {
+        if (!(scout = opened(plain_path, plain, sizeof plain - 1))) {
+            say(mpv, plain_path, "the library refuses it: mpv plays it by itself");
+        } else {
+            filter = path_for(wish ? wish : BEST, scout->info.rate_in);
+            if (!filter || access(filter, R_OK) != 0) {
+                say(mpv, plain_path, "there is no such filter for it: mpv plays it by itself");
+            } else if (asprintf(&name, SCHEME "%zu/%s%s", strlen(filter), filter, plain_path) >= 0) {
+                warn_of_rate(mpv, plain_path, filter, scout->info.rate_in);
+                mpv_set_property_string(mpv, "stream-open-filename", name);
+                free(name);
+            }
+            leave(scout);
+        }
+    }
+    free(filter);
+    free(said);
+    mpv_free(path);
+}
+
+/* What mpv calls in a thread of the plugin. */
+__attribute__((visibility("default"))) int mpv_open_cplugin(mpv_handle *mpv) {
+    mpv_event *event;
+    if (mpv_stream_cb_add_ro(mpv, "dsdarc", NULL, open_it) < 0 || mpv_hook_add(mpv, 0, "on_load", 10) < 0) return -1;
+    while ((event = mpv_wait_event(mpv, -1))->event_id != MPV_EVENT_SHUTDOWN) {
+        if (event->event_id != MPV_EVENT_HOOK) continue;
+        load(mpv);
+        mpv_hook_continue(mpv, ((mpv_event_hook *)event->data)->id);
+    }
+    return 0;
+}

@@ -8,10 +8,13 @@
         sound.seek(10 * sound.samplerate)
         for block in sound.blocks(65536, dtype="int32"):
             ...
+        print(sound.channels.names, sound.tag, sound.marks)
+        dsdarc.write("copy.dff", sound.bits(), sound.info.source_rate)
 
-A filter is the path of a project text, the name of a ready filter as "dsd64-to-88200-24", or a rate and width as
-"88200/24", for which the ready filter of the file's rate is taken, as filters/pick does. Of "88200/24,96000/24" it is
-the first that has one. FilterWarning is given if an index beside a filter says that it is for files of other rates.
+A filter is the path of a project text, the name of a ready filter as "dsd64-to-88200-24", a `Filter` of your own taps, or
+a rate and width as "88200/24", for which the ready filter of the file's rate is taken, as filters/pick does. Of
+"88200/24,96000/24" it is the first that has one. That is what plays a file if no filter is named, or what DSDARC_FILTER
+says. FilterWarning is given if an index beside a filter says that it is for files of other rates.
 
 A file is a path, or a binary file that seeks, which is read from where it is. Fault is raised if the library refuses the
 file, with the name of the fault; ValueError or TypeError if a call makes no sense; OSError if the system refuses. Frames
@@ -24,22 +27,30 @@ from __future__ import annotations
 
 from typing import Any
 
-from dsdarc._filters import FilterWarning, Path, filter_for
+from dsdarc._filters import Filter, FilterWarning, Path, Ready, filter_for
+from dsdarc._header import Channels, Mark
 from dsdarc._library import Fault, Info, version
 from dsdarc._sound import Numbers, Sound
 from dsdarc._source import File
+from dsdarc._writing import write
 
 __version__ = "0.2.0"
-__all__ = ["Fault", "FilterWarning", "Info", "Sound", "filter_for", "open", "read", "version"]
+__all__ = ["Channels", "Fault", "Filter", "FilterWarning", "Info", "Mark", "Sound"]
+__all__ += ["filter_for", "open", "read", "version", "write"]
 
 
-def open(file: File, filter: Path) -> Sound:
+def open(file: File, filter: Path | Filter | Ready = Ready.BEST) -> Sound:
     """A file that is played by a filter."""
     return Sound(file, filter)
 
 
 def read(
-    file: File, filter: Path, frames: int = -1, start: int = 0, dtype: Any = "float64", always_2d: bool = False
+    file: File,
+    filter: Path | Filter | Ready = Ready.BEST,
+    frames: int = -1,
+    start: int = 0,
+    dtype: Any = "float64",
+    always_2d: bool = False,
 ) -> tuple[Numbers, int]:
     """The frames of a file from one on, and their rate in hertz."""
     with Sound(file, filter) as sound:

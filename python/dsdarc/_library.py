@@ -69,6 +69,7 @@ _CALLS = {
         _status,
         [ctypes.c_char_p, _size, ctypes.c_char_p, _pointer, _size, ctypes.POINTER(_size)],
     ),
+    "dsdarc_channel_mask": (_status, [ctypes.c_char_p, _size, ctypes.POINTER(ctypes.c_uint32)]),
     "dsdarc_status_text": (ctypes.c_char_p, [ctypes.c_int]),
     "dsdarc_version": (ctypes.c_char_p, []),
 }
@@ -186,3 +187,10 @@ def rates_of(index: bytes, name: str) -> list[int]:
     key = os.fsencode(name)
     status = _library.dsdarc_filter_rates(index, len(index), key, rates, len(rates), ctypes.byref(count))
     return list(rates)[: count.value] if status == OK else []
+
+
+def mask_of(header: bytes) -> int:
+    """The channel mask of a file by its first bytes; 0 if it has none."""
+    mask = ctypes.c_uint32()
+    status = _library.dsdarc_channel_mask(header, len(header), ctypes.byref(mask))
+    return mask.value if status == OK else 0

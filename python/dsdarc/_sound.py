@@ -13,11 +13,13 @@ import numpy
 import numpy.typing
 
 from dsdarc import _source
-from dsdarc._filters import Path, path_of, warn_of_rate
+from dsdarc._filters import Filter, Path, Ready, text_of, warn_of_rate
+from dsdarc._header import Header, Mark, id3_of
 from dsdarc._library import Fault, Info, NotCopied, Player
 from dsdarc._source import File, Source
 
 Numbers = numpy.typing.NDArray[Any]
+Bits = numpy.typing.NDArray[numpy.uint8]
 
 BLOCK = 65536  # bytes that are pushed at once
 PIECE = 65536  # frames that are turned into other numbers at once
@@ -36,7 +38,7 @@ class Sound(NotCopied):
     Whatever interrupts a call, the next one goes on from the frame that `tell` gives: it is moved last, when all else
     is done, and a player that may be anywhere else (`_stale`) is first sent there."""
 
-    def __init__(self, file: File, filter: Path, closes: bool = True) -> None:
+    def __init__(self, file: File | Source, filter: Path | Filter | Ready = Ready.BEST, closes: bool = True) -> None:
         self._player: Player | None = None
         self._source: Source | None = None
         # Calls in C let other threads run, and a player belongs to one call at a time.
@@ -46,20 +48,21 @@ class Sound(NotCopied):
         self._rest, self._next = NONE, 0  # bytes to be pushed, and the place of those after them
         self._owed: Exception | None = None  # what is raised after the frames that were given before it
         self._is_lost = False  # the player was left in another process
+        self._stored: Sound | None = None  # by which the stored bits are read
         try:
-            self._source = Source(file, closes)
+            self._source = file if isinstance(file, Source) else Source(file, closes)
             self.name = self._source.name
-            path = path_of(filter, self._rate)
-            with open(path, "rb") as text:
-                self._text, self._filter = text.read(), f"the filter {os.fsdecode(path)}"
+            self._text, self._filter, path = text_of(filter, self._rate)
             self._player = Player(self._text, self._filter)
             self.info = self._learned(self._player)
             self._stale = False
-            warn_of_rate(path, self.info.source_rate, self.name)
+            self.channels = Header(self._source).channels(self.info.channels)
+            if path is not None:
+                warn_of_rate(path, self.info.source_rate, self.name)
         except BaseException:
             self.close()
             raise
-        self.samplerate, self.channels, self.frames = self.info.samplerate, self.info.channels, self.info.frames
+        self.samplerate, self.frames = self.info.samplerate, self.info.frames
         _sounds.add(self)
 
     def _rate(self) -> int:
@@ -151,21 +154,53 @@ class Sound(NotCopied):
                 raise ValueError("out is not C-contiguous, or can't be written")
             return self._read(out[: self.frames - self._at], "native")
 
-    def read(self, frames: SupportsIndex | None = -1, dtype: Any = "float64", always_2d: bool = False) -> Numbers:
+    def read(
+        self, frames: SupportsIndex | None = -1, dtype: Any = None, always_2d: bool = False, out: Any = None
+    ) -> Numbers:
         """The next frames, all for -1: an array with a row for each frame, or flat for one channel. As int32 the samples
         are the numbers of the WAVE file, shifted to 32 bits as soundfile has them; as int16 the same in 16 bits, for
-        filters of that width; as float32 or float64 they go from -1 to 1; as "native" they are the numbers alone.
+        filters of that width; as float32 or float64, the default, they go from -1 to 1; as "native" they are the numbers
+        alone.
+
+        With `out` they are written there, at most as many as it has room for, and the part of it that was filled is
+        returned: an array, or what else has a buffer that can be written, of one of these types. It has a column for
+        each channel, or it is flat: then a frame's samples follow each other.
 
         Fewer frames are given where the file ends, or where it is refused: the next call raises that fault, or `close`.
         """
-        kind = self._kind(dtype)
         wanted = -1 if frames is None else operator.index(frames)
+        if out is not None:
+            return self._read_out(out, wanted, dtype)
+        kind = self._kind(dtype)
         with self._lock:
             self._opened()
             left = self.frames - self._at
             numbers = numpy.empty((left if wanted < 0 else min(wanted, left), self.channels), kind)
             numbers = numbers[: self._read(numbers, dtype)]
         return numbers if always_2d or self.channels > 1 else numbers[:, 0]
+
+    def _read_out(self, out: Any, wanted: int, dtype: Any) -> Numbers:
+        """Fills what has a buffer, and returns the part of it that was filled."""
+        numbers = _array_of(out)
+        kind = self._kind(numbers.dtype if dtype is None else dtype)
+        if numbers.dtype != kind:
+            raise ValueError(f"out has numbers of {numbers.dtype}, and not of {kind}")
+        is_flat = numbers.ndim == 1
+        if (
+            numbers.ndim not in (1, 2)
+            or numbers.size % self.channels
+            or not is_flat
+            and numbers.shape[1] != self.channels
+        ):
+            raise ValueError(f"out has neither {self.channels} columns nor whole frames of {self.channels} samples")
+        if not numbers.flags.c_contiguous or not numbers.flags.writeable:
+            raise ValueError("out is not C-contiguous, or can't be written")
+        rows = numbers.reshape(-1, self.channels)
+        with self._lock:
+            self._opened()
+            left = min(len(rows), self.frames - self._at)
+            count = self._read(rows[: left if wanted < 0 else min(wanted, left)], dtype)
+        return numbers[: count * self.channels if is_flat else count]
 
     def _read(self, out: Numbers, dtype: object) -> int:
         """Fills an array from the current position on, as far as there are frames: how many."""
@@ -240,7 +275,7 @@ class Sound(NotCopied):
         return None
 
     def _kind(self, dtype: Any) -> numpy.dtype[Any]:
-        """The type of the numbers that are asked for."""
+        """The type of the numbers that are asked for; None is float64, as it is for numpy."""
         if isinstance(dtype, str) and dtype == "native":
             return numpy.dtype(numpy.int32)
         kind = None
@@ -274,6 +309,70 @@ class Sound(NotCopied):
 
     def __len__(self) -> int:
         return self.frames
+
+    def bits(self, start: SupportsIndex = 0, count: SupportsIndex | None = None) -> Bits:
+        """The stored bits, wherever the sound is: a row for each 8 bits of the channels, with a byte of each. The most
+        significant bit of a byte is the earliest. `start` is the first row, and `count` how many there are at most. If
+        the bits don't fill the last byte, zeros do. A file that is refused anywhere in these rows gives none."""
+        first = operator.index(start)
+        with self._lock:
+            stored = self._bits()
+            if not 0 <= first <= stored.frames:
+                raise ValueError(f"there is no row {first}: there are {stored.frames}")
+            left = stored.frames - first
+            rows = left if count is None else min(max(operator.index(count), 0), left)
+            out = numpy.empty((rows, self.channels), numpy.uint8)
+            try:
+                stored.seek(first)
+                for at in range(0, rows, PIECE):
+                    stored._read_bits(out[at : at + PIECE])
+            except Fault:
+                self._leave_bits()
+                raise
+            rest = self.bit_count % 8
+            if rest and first + rows == stored.frames:
+                out[-1:] &= 256 - (256 >> rest)
+        return out
+
+    @property
+    def bit_count(self) -> int:
+        """How many bits of each channel are stored."""
+        with self._lock:
+            count = Header(self._opened()).bits()
+            return 8 * self._bits().frames if count is None else count
+
+    def _bits(self) -> Sound:
+        """The same file, played by a filter whose samples are the bytes: 2 * byte - 255."""
+        source = self._opened()
+        if self._stored is None:
+            taps = [1 << bit for bit in range(8)]
+            self._stored = Sound(source.borrowed(), Filter(taps, factor=8, width=16, delay=7))
+        return self._stored
+
+    def _leave_bits(self) -> None:
+        """Closes that; the next call opens it again."""
+        stored, self._stored = self._stored, None
+        if stored is not None:
+            stored._owed = None
+            stored.close()
+
+    def _read_bits(self, out: Bits) -> None:
+        """Fills an array with the next bytes of such a sound."""
+        numbers = self.read(len(out), "native", always_2d=True)
+        owed, self._owed = self._owed, None
+        if owed is not None:
+            raise owed
+        out[:] = (numbers + 255) >> 1
+
+    @property
+    def tag(self) -> Any:
+        """The ID3 tag, as `mutagen.id3.ID3` has it; None if there is none."""
+        return id3_of(Header(self._opened()).tag())
+
+    @property
+    def marks(self) -> list[Mark]:
+        """The marks of a DSDIFF file, in its order. A DSF file has none."""
+        return Header(self._opened()).marks(self.info.source_rate)
 
     def seek(self, frame: SupportsIndex, whence: int = os.SEEK_SET) -> int:
         """Goes to a frame, counted from the start, from here or from the end; returns its number."""
@@ -311,6 +410,7 @@ class Sound(NotCopied):
             player, self._player = self._player, None
             source, self._source = self._source, None
             owed, self._owed = self._owed, None
+            self._leave_bits()
             if player is not None:
                 player.drop()
             if source is not None:
@@ -344,6 +444,16 @@ class Sound(NotCopied):
         if self._player is not None:
             self._player.forget()
             self._is_lost = True
+
+
+def _array_of(out: Any) -> Numbers:
+    """The array over a buffer, which has its shape and its type."""
+    if isinstance(out, numpy.ndarray):
+        return out
+    try:
+        return numpy.asarray(memoryview(out))
+    except (TypeError, ValueError):
+        raise TypeError(f"out is an array or a buffer of numbers, and not {type(out).__name__}") from None
 
 
 def _after_fork() -> None:

@@ -2,6 +2,7 @@
 from __future__ import annotations
 
 import builtins
+import copy
 import errno
 import io
 import os
@@ -77,6 +78,12 @@ class Source:
         if isinstance(self._file, io.FileIO) and not self._file.seekable():
             self.close()
             raise ValueError("the file doesn't seek, as a pipe: write it to a file first")
+
+    def borrowed(self) -> Source:
+        """The same file, for another sound, which leaves it open."""
+        other = copy.copy(self)
+        other._closes = False
+        return other
 
     def read(self, place: int, size: int) -> bytes:
         """At most so many bytes from a place on; none at the file's end."""

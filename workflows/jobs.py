@@ -16,14 +16,16 @@ BROKEN = (outputs.Refused, struct.error, OSError)
 @dataclasses.dataclass
 class Job:
     """The name of a file in the archive, the path of the WAVE file in OUT, and which bits of the file are played:
-    `start` to `stop` - 1, to the end for None. `track` is the number of a track, or None where the file is played
-    whole."""
+    `start` to `stop` - 1, to the end for None. `track` is the number of a track, `title` its title and `count` that of
+    the last one, or `track` is None where the file is played whole."""
 
     source: str
     result: str
     track: int | None = None
     start: int = 0
     stop: int | None = None
+    title: str | None = None
+    count: int = 0
 
     @property
     def name(self) -> str:
@@ -71,28 +73,32 @@ def tracks_of(path: str) -> list[albums.Track]:
     return playable(albums.cued(found, sheet), found) if sheet else []
 
 
-def whole(entry: dict[str, Any]) -> Job:
+def whole(entry: dict[str, Any], ending: str = ".wav") -> Job:
     """The job that plays a file whole."""
-    return Job(entry["name"], (entry["renamed"] or entry["name"]) + ".wav")
+    return Job(entry["name"], (entry["renamed"] or entry["name"]) + ending)
 
 
-def of_tracks(entry: dict[str, Any], tracks: list[albums.Track]) -> dict[int, Job]:
+def of_tracks(entry: dict[str, Any], tracks: list[albums.Track], ending: str = ".wav") -> dict[int, Job]:
     """The jobs that play the tracks of an album, by the numbers of these."""
     folder, digits = entry["renamed"] or entry["name"], albums.digits_for(tracks)
     stops = [*(track.start for track in tracks[1:]), None]
     return {
         track.number: Job(
             entry["name"],
-            os.path.join(folder, albums.file_name(track, ".wav", digits)),
+            os.path.join(folder, albums.file_name(track, ending, digits)),
             track.number,
             track.start,
             stop,
+            track.title,
+            tracks[-1].number,
         )
         for track, stop in zip(tracks, stops)
     }
 
 
-def by_tracks(archive: str, files: dict[str, dict[str, Any]]) -> tuple[dict[str, Job], list[tuple[str, str]]]:
+def by_tracks(
+    archive: str, files: dict[str, dict[str, Any]], ending: str = ".wav"
+) -> tuple[dict[str, Job], list[tuple[str, str]]]:
     """The jobs of an archive whose albums are played by tracks, by their keys, and the names of albums whose tracks
     can't be determined, with the reason."""
     jobs, refused = dict[str, Job](), []
@@ -103,9 +109,9 @@ def by_tracks(archive: str, files: dict[str, dict[str, Any]]) -> tuple[dict[str,
             refused.append((entry["name"], f"no tracks: {why}"))
             continue
         if tracks:
-            jobs |= {f"{key}-{number}": job for number, job in of_tracks(entry, tracks).items()}
+            jobs |= {f"{key}-{number}": job for number, job in of_tracks(entry, tracks, ending).items()}
         else:
-            jobs[key] = whole(entry)
+            jobs[key] = whole(entry, ending)
     return jobs, refused
 
 

@@ -1,8 +1,15 @@
 """Measures WAVE files of linear PCM, piece by piece: peak, clipped samples, offset, silence at both ends, the course of
 the level, and the spectrum. Levels are in dB relative to full scale."""
+import contextlib
 import dataclasses
-from collections.abc import Callable
-from typing import Any, BinaryIO
+import io
+import os
+import re
+import shutil
+import subprocess
+import tempfile
+from collections.abc import Callable, Iterator
+from typing import Any, BinaryIO, cast
 
 import numpy as np
 
@@ -19,6 +26,9 @@ PIECE = 1 << 18  # frames
 SPECTRA = 64  # of a file, at most
 LENGTH = 1 << 13  # frames of one spectrum
 LOWEST = 20.0  # Hz
+TEXTS = {"artist": "TPE1", "title": "TIT2", "album": "TALB"}
+# What FFmpeg's ebur128 ends with.
+SUMMARY = re.compile(rb"Summary:.*?I: +(-?[\d.]+|-?inf) LUFS.*?Peak: +(-?[\d.]+|-?inf) dBFS", re.DOTALL)
 
 
 @dataclasses.dataclass
@@ -151,9 +161,78 @@ def spectrum(file: BinaryIO, wave: Wave) -> list[float]:
     return bands
 
 
+@contextlib.contextmanager
+def decoded(file: BinaryIO) -> Iterator[BinaryIO]:
+    """The WAVE file that a FLAC file is of; any other is given as it is."""
+    if tagging.form_of(file) != b"fLaC":
+        yield file
+        return
+    with tempfile.TemporaryFile() as made:
+        os.lseek(file.fileno(), 0, os.SEEK_SET)
+        command = ["flac", "--silent", "--decode", "--stdout", "-"]
+        try:
+            done = subprocess.run(command, stdin=file, stdout=made, stderr=subprocess.DEVNULL, check=False)
+        except OSError:
+            raise Refused("flac isn't installed: apt-get install flac") from None
+        if done.returncode:
+            raise Refused("flac can't decode it")
+        yield cast(BinaryIO, made)
+
+
+def has_loudness() -> bool:
+    """Whether loudness can be measured here."""
+    return shutil.which("ffmpeg") is not None
+
+
+def loudness(name: str, go_on: Callable[[], None]) -> dict[str, float | None]:
+    """The integrated loudness of a file by EBU R128 in LUFS, and its true peak in dBFS, as FFmpeg's ebur128 measures
+    them; None of what it can't read. `go_on` is called meanwhile, as by `measure`."""
+    options = ["-nostdin", "-hide_banner", "-nostats", "-i", f"file:{os.path.abspath(name)}"]
+    options += ["-filter_complex", "ebur128=peak=true:framelog=verbose", "-f", "null", "-"]
+    with tempfile.TemporaryFile() as said:
+        child = subprocess.Popen(["ffmpeg", *options], stdin=subprocess.DEVNULL, stdout=subprocess.DEVNULL, stderr=said)
+        try:
+            while child.poll() is None:
+                go_on()
+                with contextlib.suppress(subprocess.TimeoutExpired):
+                    child.wait(0.2)
+        except BaseException:
+            child.kill()
+            child.wait()
+            raise
+        said.seek(0)
+        # It prints one for each time that it begins, and the first before the sound.
+        found = SUMMARY.findall(said.read())
+    if child.returncode or not found:
+        return {"loudness": None, "true peak": None}
+    return {key: max(float(it), FLOOR) for key, it in zip(("loudness", "true peak"), found[-1])}
+
+
+def texts(name: str) -> dict[str, str]:
+    """Title, artist and album of a WAVE or FLAC file, as far as its tag has them and mutagen reads it."""
+    if not tagging.has_mutagen():
+        return {}
+    from mutagen.flac import FLAC
+    from mutagen.id3 import ID3
+
+    try:
+        with open(name, "rb") as file:
+            is_flac = tagging.form_of(file) == b"fLaC"
+        data = b"" if is_flac else tagging.tag_of(name)
+        if not is_flac and not data:
+            return {}
+        found: Any = FLAC(name) if is_flac else ID3(io.BytesIO(data))
+        rows = ((key, found.get(key if is_flac else frame)) for key, frame in TEXTS.items())
+        return {key: "; ".join(map(str, it if is_flac else it.text)) for key, it in rows if it}
+    except tagging.broken():
+        return {}
+    except Refused:
+        return {}
+
+
 def measure(name: str, go_on: Callable[[], None]) -> dict[str, Any]:
     """The figures of a file. `go_on` is called before each piece, and may raise what ends this."""
-    with open(name, "rb") as file:
+    with open(name, "rb") as named, decoded(named) as file:
         wave = wave_of(file)
         course = Course(wave)
         for at in range(0, wave.frames, PIECE):

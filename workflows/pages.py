@@ -12,29 +12,47 @@ TEMPLATE = os.path.join(os.path.dirname(os.path.abspath(__file__)), "page.html.j
 LOWEST = {"level": -72.0, "spectrum": -150.0}  # dB, at the lower edge of a picture
 WIDTH, HEIGHT = 60, 32
 TOP = ord("?")  # The letter of the upper edge: none of those after it has a meaning in HTML.
-WIDEST, PICTURE = 42, 17  # digits, of a column of texts and of one with pictures
+WIDEST, PICTURE = 34, 17  # digits, of a column of texts and of one with pictures
+# The first ones are in sight in a window of 1280 pixels, and on a phone.
 COLUMNS = (
     "file",
-    "form",
-    "rate",
-    "channels",
+    "tag",
+    "refused",
     "duration",
-    "PCM",
+    "loudness",
+    "true peak",
+    "level",
+    "spectrum",
     "peak",
     "clipped",
     "offset",
     "silence",
-    "level",
-    "spectrum",
+    "form",
+    "rate",
+    "channels",
+    "PCM",
     "dropped",
     "kept beside",
     "SHA-256",
-    "refused",
 )
-NUMBERS = {"rate", "channels", "duration", "PCM", "peak", "clipped", "offset", "silence", "dropped"}
+IN_SIGHT = COLUMNS.index("level") + 1
+NUMBERS = {
+    "rate",
+    "channels",
+    "duration",
+    "PCM",
+    "loudness",
+    "true peak",
+    "peak",
+    "clipped",
+    "offset",
+    "silence",
+    "dropped",
+}
 KINDS = (("refused", "refused"), ("clipped", "clipped"), ("dropped", "something dropped"), ("unplayed", "not played"))
 LEGEND = (
-    "Levels are in dB relative to full scale, over all channels. Clipped: samples at the largest or the smallest value. "
+    "Levels are in dB relative to full scale, over all channels. Loudness and true peak: by EBU R128, as FFmpeg measures "
+    "them. Clipped: samples at the largest or the smallest value. "
     "Offset: the mean of the channel that is farthest off. Silence: seconds at the start and the end in which no sample "
     f"is above {measured.SILENCE:g} dB. Level: peak and mean over time, down to {LOWEST['level']:g} dB. Spectrum: from "
     f"{measured.LOWEST:g} Hz to half the rate by pitch, down to {LOWEST['spectrum']:g} dB. Dropped: marks, chunks or "
@@ -108,28 +126,33 @@ def spectrum_cell(figures: dict[str, Any]) -> Cell:
     return Cell("", "p", {"s": heights(figures["spectrum"], "spectrum")} if figures["spectrum"] else {})
 
 
-def figure_cells(figures: dict[str, Any] | None) -> list[Cell]:
-    """The cells of what was measured."""
+def figure_cells(figures: dict[str, Any] | None) -> dict[str, Cell]:
+    """The cells of what was measured, by their columns."""
     if figures is None or "fault" in figures:
-        return [
-            Cell(visible((figures or {}).get("fault", "")), "w"),
-            *(number(None) for _ in range(4)),
-            Cell(""),
-            Cell(""),
-        ]
+        return {"PCM": Cell(visible((figures or {}).get("fault", "")), "w")}
     silence = Cell("all", "n", {"v": round(figures["seconds"], 4)})
     if figures["silence"]:
         silence = number(sum(figures["silence"]))
         silence.shown = "{:.2f} + {:.2f} s".format(*figures["silence"])
-    return [
-        Cell(f"{figures['rate']}/{figures['width']}", "n", {"v": figures["rate"]}),
-        decibels(figures["peak"], "{:z.1f}"),
-        number(figures["clipped"]),
-        decibels(figures["offset"], "{:z.0f}"),
-        silence,
-        level_cell(figures),
-        spectrum_cell(figures),
-    ]
+    return {
+        "PCM": Cell(f"{figures['rate']}/{figures['width']}", "n", {"v": figures["rate"]}),
+        "peak": decibels(figures["peak"], "{:z.1f}"),
+        "clipped": number(figures["clipped"]),
+        "offset": decibels(figures["offset"], "{:z.0f}"),
+        "silence": silence,
+        "level": level_cell(figures),
+        "spectrum": spectrum_cell(figures),
+        "loudness": number(figures.get("loudness"), "{:z.1f}", " LUFS"),
+        "true peak": number(None) if figures.get("true peak") is None else decibels(figures["true peak"], "{:z.1f}"),
+        "tag": tag_cell(figures.get("tag", {})),
+    }
+
+
+def tag_cell(tag: dict[str, str]) -> Cell:
+    """The cell of what a tag says."""
+    said = ": ".join(filter(None, (tag.get("artist"), tag.get("title"))))
+    album = f" ({tag['album']})" if tag.get("album") else ""
+    return Cell(visible(said + album).strip(), "w")
 
 
 def sums_cell(sums: dict[str, str]) -> Cell:
@@ -152,18 +175,18 @@ def line_of(row: Row) -> Line:
     """The row of a file."""
     figures, has_figures = row.figures, row.figures is not None and "fault" not in row.figures
     said = "\n".join(f"{step}: {fault}" for step, fault in row.refusals)
-    cells = [
-        Cell(visible(row.name), "w"),
-        Cell(row.form),
-        number(row.rate),
-        number(row.channels),
-        duration(seconds_of(row)),
-        *figure_cells(figures),
-        number(row.dropped),
-        Cell(", ".join(row.kept), "w"),
-        sums_cell(row.sums),
-        Cell("\n".join(map(visible, said.split("\n"))), "w f"),
-    ]
+    shown = {
+        "file": Cell(visible(row.name), "w"),
+        "form": Cell(row.form),
+        "rate": number(row.rate),
+        "channels": number(row.channels),
+        "duration": duration(seconds_of(row)),
+        "dropped": number(row.dropped),
+        "kept beside": Cell(", ".join(row.kept), "w"),
+        "SHA-256": sums_cell(row.sums),
+        "refused": Cell("\n".join(map(visible, said.split("\n"))), "w f"),
+    } | figure_cells(figures)
+    cells = [shown.get(it) or (number(None) if it in NUMBERS else Cell("")) for it in COLUMNS]
     is_kind = {
         "refused": bool(row.refusals),
         "clipped": figures is not None and has_figures and figures["clipped"] > 0,
@@ -207,6 +230,7 @@ def page(title: str, rows: list[Row]) -> str:
         columns=COLUMNS,
         widths=widths(lines),
         numbers=NUMBERS,
+        in_sight=IN_SIGHT,
         rows=lines,
         legend=LEGEND,
         width=WIDTH,

@@ -15,8 +15,12 @@ from workflows import tagging
 
 # The lists of play_all.
 SUMS, REFUSED = "SHA256SUMS", "refused.txt"
+# What files end with that are played.
+PLAYED = (".wav", ".flac")
 # How a line of refused.txt goes on after a name.
-SAID = re.compile(r"(.*): (fault: .*|no (?:filter|tracks:) .*|status \d+|stopped|the program ended .*)", re.DOTALL)
+SAID = re.compile(
+    r"(.*): (fault: .*|no (?:filter|tracks:) .*|flac: .*|status \d+|stopped|the program ended .*)", re.DOTALL
+)
 
 
 @dataclasses.dataclass
@@ -57,8 +61,8 @@ def sums_of(path: str) -> dict[str, str]:
 
 
 def is_of_waves(path: str) -> bool:
-    """Whether a list of sums, if it is there, is one of WAVE files alone."""
-    return not os.path.lexists(path) or all(name.endswith(".wav") for name in sums_of(path))
+    """Whether a list of sums, if it is there, is one of WAVE and FLAC files alone."""
+    return not os.path.lexists(path) or all(name.endswith(PLAYED) for name in sums_of(path))
 
 
 def take_report(row: Row, found: dict[str, Any]) -> None:
@@ -151,7 +155,10 @@ def of_play_all(out: str, archive: str | None, pool: concurrent.futures.Executor
     """The rows of a run of play_all; what its files hold is asked where the archive is named."""
     sums = sums_of(os.path.join(out, SUMS))
     said = refusals_of(os.path.join(out, REFUSED))
-    rows = [Row(name.removesuffix(".wav"), pcm=name, sums={"WAVE": total}) for name, total in sums.items()]
+    rows = [
+        Row(os.path.splitext(name)[0], pcm=name, sums={"FLAC" if name.endswith(".flac") else "WAVE": total})
+        for name, total in sums.items()
+    ]
     rows += [Row(name, refusals=[("play", fault)]) for name, fault in said.items()]
     if archive is not None:
         if not os.path.isdir(archive):

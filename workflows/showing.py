@@ -10,8 +10,8 @@ FIRST, EACH = 1.0, 0.2  # seconds to the first line, and from line to line
 class Shown:
     """The line of a run over files of these sizes; where standard error is no terminal, nothing is shown."""
 
-    def __init__(self, sizes: Sequence[int]) -> None:
-        self.files, self.bytes = len(sizes), max(sum(sizes), 1)
+    def __init__(self, sizes: Sequence[int], done: str = "played") -> None:
+        self.files, self.bytes, self.word = len(sizes), max(sum(sizes), 1), done
         self.done = self.read = self.widest = 0
         self.began, self.lock, self.stop = time.monotonic(), threading.Lock(), threading.Event()
         self.thread = threading.Thread(target=self.show, daemon=True) if sys.stderr.isatty() else None
@@ -39,7 +39,7 @@ class Shown:
             done, share = self.done, self.read / self.bytes
         left = (time.monotonic() - self.began) * (1 / share - 1) if share else None
         rest = "" if left is None else f", {left:.0f} s left"
-        return f"{done} of {self.files} files, {100 * share:.0f} % played{rest}"
+        return f"{done} of {self.files} files, {100 * share:.0f} % {self.word}{rest}"
 
     def show(self) -> None:
         before, wait = "", FIRST

@@ -4,6 +4,7 @@ import shutil
 import subprocess
 from collections.abc import Sequence
 from pathlib import Path
+from typing import BinaryIO
 
 from dsdarc_scripts.outputs import Refused
 
@@ -32,11 +33,13 @@ def unlaunched(program: str) -> str:
     return path
 
 
-def finished(arguments: Sequence[Path | str], folder: str | None = None) -> tuple[int, bytes, bytes]:
-    """Runs a command, in a folder: its status, and what it prints on both outputs. Where this is stopped the command is
-    asked to end, so that it removes what it was writing."""
+def finished(
+    arguments: Sequence[Path | str], folder: str | None = None, given: BinaryIO | None = None
+) -> tuple[int, bytes, bytes]:
+    """Runs a command, in a folder, with a file as its input: its status, and what it prints on both outputs. Where this is
+    stopped the command is asked to end, so that it removes what it was writing."""
     child = subprocess.Popen(
-        arguments, stdin=subprocess.DEVNULL, stdout=subprocess.PIPE, stderr=subprocess.PIPE, cwd=folder
+        arguments, stdin=given or subprocess.DEVNULL, stdout=subprocess.PIPE, stderr=subprocess.PIPE, cwd=folder
     )
     try:
         out, err = child.communicate()

@@ -16,7 +16,7 @@ use Rattle.words_core.specs.declared.options.Options.{Options}
 use Rattle.words_core.specs.declared.options.Taken.{Taken}
 use Rattle.words_core.specs.declared.options.Taken.TheVariants as taken
 use Rattle.words_core.specs.declared.options.Taken.TheVariants.{Nothing}
-use Rattle.words_core.specs.declared.fault.Misfit.TheVariants.{Names}
+use Rattle.words_core.specs.declared.fault.Misfit.TheVariants.{DopNames, Names}
 use Rattle.words_core.specs.declared.fault.WordsFault.{WordsFault}
 use Rattle.words_core.specs.declared.fault.WordsFault.TheVariants.{Memory, NoText, UnknownForm, WrongUsage}
 use Rattle.words_core.specs.declared.task.Task.{Task}
@@ -462,11 +462,19 @@ option_read option_names.Dop = refl
 option_read option_names.Check = refl
 
 -- the options in the table
-pub play_options : (command : List ℕ) → command ≡ codes "play" → All (IsOptionOf command) (codes "from" ∷ codes "to" ∷ codes "speakers" ∷ [])
+pub play_options : (command : List ℕ) → command ≡ codes "play" → All (IsOptionOf command) (codes "from" ∷ codes "to" ∷ codes "previous" ∷ codes "next" ∷ codes "speakers" ∷ codes "dop" ∷ [])
 play_options command is =
-    All-cons (IsOptionOf command) (codes "from") (codes "to" ∷ codes "speakers" ∷ []) (option_names.From, refl, inl (is, tt))
-    (All-cons (IsOptionOf command) (codes "to") (codes "speakers" ∷ []) (option_names.To, refl, inl (is, tt))
-    (All-cons (IsOptionOf command) (codes "speakers") [] (option_names.Speakers, refl, inl (is, tt)) (All-nil (IsOptionOf command))))
+    All-cons (IsOptionOf command) (codes "from") (codes "to" ∷ codes "previous" ∷ codes "next" ∷ codes "speakers" ∷ codes "dop" ∷ []) (option_names.From, refl, inl (is, tt))
+    (All-cons (IsOptionOf command) (codes "to") (codes "previous" ∷ codes "next" ∷ codes "speakers" ∷ codes "dop" ∷ []) (option_names.To, refl, inl (is, tt))
+    (All-cons (IsOptionOf command) (codes "previous") (codes "next" ∷ codes "speakers" ∷ codes "dop" ∷ []) (option_names.Previous, refl, inl (is, tt))
+    (All-cons (IsOptionOf command) (codes "next") (codes "speakers" ∷ codes "dop" ∷ []) (option_names.Next, refl, inl (is, tt))
+    (All-cons (IsOptionOf command) (codes "speakers") (codes "dop" ∷ []) (option_names.Speakers, refl, inl (is, tt))
+    (All-cons (IsOptionOf command) (codes "dop") [] (option_names.Dop, refl, inl (is, tt)) (All-nil (IsOptionOf command)))))))
+
+pub convert_options : (command : List ℕ) → command ≡ codes "convert" → All (IsOptionOf command) (codes "speakers" ∷ codes "dop" ∷ [])
+convert_options command is =
+    All-cons (IsOptionOf command) (codes "speakers") (codes "dop" ∷ []) (option_names.Speakers, refl, inr (inl (is, tt)))
+    (All-cons (IsOptionOf command) (codes "dop") [] (option_names.Dop, refl, inr (inl (is, tt))) (All-nil (IsOptionOf command)))
 
 pub sum_options : (command : List ℕ) → command ≡ codes "sum" → All (IsOptionOf command) (codes "check" ∷ [])
 sum_options command is = All-cons (IsOptionOf command) (codes "check") [] (option_names.Check, refl, inr (inr (is, refl))) (All-nil (IsOptionOf command))
@@ -516,6 +524,7 @@ line_asks line read task was asks = record {
 
 line_refused : (line : Line) (read : Words) (fault : WordsFault) → IsReadAs line read → ReadRefused read.command.now read fault → IsUnasked line fault
 line_refused line read (WrongUsage named (Names count)) was is = (is.0 ∙ was.command, is.1 ∙ ap length was.names)
+line_refused line read (WrongUsage named (DopNames count)) was is = (is.0 ∙ was.command, is.1 ∙ ap length was.names, sym was.options.dop ∙ is.2)
 line_refused line read (UnknownForm named form) was is = (is.0 ∙ was.command, (is.2.0, sym was.names ∙ is.2.1, is.2.2))
 line_refused line read _ was is = tt
 

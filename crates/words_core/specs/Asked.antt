@@ -7,7 +7,7 @@ use Rattle.place_core.specs.Times.{IsTimed}
 use Rattle.place_core.specs.declared.place.Place.{Place}
 use Rattle.place_core.specs.declared.place.Place.TheVariants.{Frame, Mark}
 use Rattle.words_core.specs.Lines.{IsLineOf, Line, has_flag, names_of, values_of}
-use Rattle.words_core.specs.declared.fault.Misfit.TheVariants.{Names}
+use Rattle.words_core.specs.declared.fault.Misfit.TheVariants.{DopNames, Names}
 use Rattle.words_core.specs.declared.fault.WordsFault.{WordsFault}
 use Rattle.words_core.specs.declared.fault.WordsFault.TheVariants.{Memory, NoCommand, NoText, UnknownCommand, UnknownForm, WrongUsage}
 use Rattle.words_core.specs.declared.options.OptionName.TheVariants as option_names
@@ -19,7 +19,7 @@ use Rattle.words_core.specs.declared.task.Task.TheVariants.{Check, Convert, Conv
 -- it or one after it, or both
 abbrev pub HasPlaces : Task → Type 0
 HasPlaces (PlayPart project input output from to speakers) = from ≡ None → to ≡ None → ⊥
-HasPlaces (PlayBetween project input output previous next speakers) = previous ≡ None → next ≡ None → ⊥
+HasPlaces (PlayBetween project input output previous next) = previous ≡ None → next ≡ None → ⊥
 HasPlaces _ = ⊤
 
 -- ---- what is asked for
@@ -53,7 +53,7 @@ pub record AreGiven (line : Line) (given : Options) : Type 0 where
 abbrev pub command_of : Task → List ℕ
 command_of (Play project input output speakers) = codes "play"
 command_of (PlayPart project input output from to speakers) = codes "play"
-command_of (PlayBetween project input output previous next speakers) = codes "play"
+command_of (PlayBetween project input output previous next) = codes "play"
 command_of (PlayDop input output) = codes "play"
 command_of (Convert form input output speakers) = codes "convert"
 command_of (ConvertDop form input output) = codes "convert"
@@ -67,7 +67,7 @@ command_of (Sum is_check files) = codes "sum"
 abbrev pub AreNamesOf : Task → List (List ℕ) → Type 0
 AreNamesOf (Play project input output speakers) names = names ≡ project.now ∷ input.now ∷ output.now ∷ []
 AreNamesOf (PlayPart project input output from to speakers) names = names ≡ project.now ∷ input.now ∷ output.now ∷ []
-AreNamesOf (PlayBetween project input output previous next speakers) names = names ≡ project.now ∷ input.now ∷ output.now ∷ []
+AreNamesOf (PlayBetween project input output previous next) names = names ≡ project.now ∷ input.now ∷ output.now ∷ []
 AreNamesOf (PlayDop input output) names = names ≡ input.now ∷ output.now ∷ []
 AreNamesOf (Convert form input output speakers) names = (name : List ℕ) × (names ≡ name ∷ input.now ∷ output.now ∷ []) × (form_named name ≡ Some form)
 AreNamesOf (ConvertDop form input output) names = (name : List ℕ) × (names ≡ name ∷ input.now ∷ output.now ∷ []) × (form_named name ≡ Some form)
@@ -91,7 +91,7 @@ pub record AreOfPlay (given : Options) (start stop : Option Place) (before after
 abbrev pub AreOptionsOf : Task → Options → Type 0
 AreOptionsOf (Play project input output speakers) given = AreOfPlay given None None None None speakers false
 AreOptionsOf (PlayPart project input output from to speakers) given = AreOfPlay given from to None None speakers false
-AreOptionsOf (PlayBetween project input output previous next speakers) given = AreOfPlay given None None previous next speakers false
+AreOptionsOf (PlayBetween project input output previous next) given = AreOfPlay given None None previous next false false
 AreOptionsOf (PlayDop input output) given = AreOfPlay given None None None None false true
 AreOptionsOf (Convert form input output speakers) given = (given.speakers ≡ speakers) × (given.dop ≡ false)
 AreOptionsOf (ConvertDop form input output) given = (given.speakers ≡ false) × (given.dop ≡ true)
@@ -130,9 +130,11 @@ IsUnread words (NoText word) = Contains words word.now
 IsUnread words (UnknownForm command form) = ⊥
 IsUnread words Memory = ⊤
 
--- a fault of the names: a miscount is of the names that are there, and a form that isn't known is the first of them
+-- a fault of the names: a miscount is of the names that are there, also of those beside `--dop`, and a form that isn't
+-- known is the first of them
 abbrev pub IsUnasked : Line → WordsFault → Type 0
 IsUnasked line (WrongUsage command (Names count)) = (command.now ≡ line.command) × (count ≡ length (names_of line))
+IsUnasked line (WrongUsage command (DopNames count)) = (command.now ≡ line.command) × (count ≡ length (names_of line)) × (has_flag option_names.Dop line ≡ true)
 IsUnasked line (UnknownForm command form) = (command.now ≡ line.command) × ((rest : List (List ℕ)) × (names_of line ≡ form.now ∷ rest) × (form_named form.now ≡ None))
 IsUnasked line _ = ⊤
 

@@ -14,7 +14,7 @@ use Rattle.words_core.specs.declared.reading.Next.{Next}
 use Rattle.words_core.specs.declared.reading.Next.TheVariants.{Any, ValueOf, NameOnly}
 use Rattle.words_core.specs.declared.fault.WordsFault.{WordsFault}
 use Rattle.words_core.specs.declared.fault.WordsFault.TheVariants.{Memory, UnknownForm, WrongUsage}
-use Rattle.words_core.specs.declared.fault.Misfit.TheVariants.{Names}
+use Rattle.words_core.specs.declared.fault.Misfit.TheVariants.{DopNames, Names}
 use Rattle.words_core.specs.declared.task.Task.{Task}
 
 -- the texts of words
@@ -129,9 +129,11 @@ HasNoPart given = (given.from ≡ None) × (given.to ≡ None)
 abbrev pub HasNoNeighbour : Options → Type 0
 HasNoNeighbour given = (given.previous ≡ None) × (given.next ≡ None)
 
--- options may be together: of places and files only one kind is there, and with `--dop` none of them and no `--speakers`
+-- options may be together: of places and files only one kind is there, with files no `--speakers`, and with `--dop` none
+-- of them
 pub record AreTogether (given : Options) : Type 0 where
   pub alone : HasNoPart given ⊎ HasNoNeighbour given
+  pub unspoken : HasNoNeighbour given ⊎ (given.speakers ≡ false)
   pub dop : given.dop ≡ true → HasNoPart given × HasNoNeighbour given × (given.speakers ≡ false)
 
 -- what was read asks for a task of this command
@@ -141,8 +143,10 @@ pub record ReadAsks (command : List ℕ) (read : Words) (task : Task) : Type 0 w
   pub options : AreOptionsOf task read.options
   pub places : HasPlaces task
 
--- what was read asks for nothing: a miscount is of its names, and a form that isn't known is the first of them
+-- what was read asks for nothing: a miscount is of its names, also of those beside `--dop`, and a form that isn't known
+-- is the first of them
 abbrev pub ReadRefused : List ℕ → Words → WordsFault → Type 0
 ReadRefused command read (WrongUsage named (Names count)) = (named.now ≡ read.command.now) × (count ≡ length (texts read.names.items))
+ReadRefused command read (WrongUsage named (DopNames count)) = (named.now ≡ read.command.now) × (count ≡ length (texts read.names.items)) × (read.options.dop ≡ true)
 ReadRefused command read (UnknownForm named form) = (named.now ≡ command) × TakesForm (UnknownForm named form) × ((rest : List (List ℕ)) × (texts read.names.items ≡ form.now ∷ rest) × (form_named form.now ≡ None))
 ReadRefused command read _ = ⊤

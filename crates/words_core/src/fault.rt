@@ -22,6 +22,8 @@ pub enum WordsFault<'a> {
 pub enum Misfit<'a> {
     /// There are so many names.
     Names(usize),
+    /// There are so many names beside `--dop`, with which `play` takes two.
+    DopNames(usize),
     /// This word is taken for an option, and the command has no such option.
     NoOption(&'a str),
     /// This option is there twice.

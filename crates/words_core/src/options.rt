@@ -7,7 +7,7 @@ ghost use Rattle.words_core.specs.Reading.{AreNone, AreTogether, HasNoNeighbour,
 use place_core::Place;
 
 /// The options of `play`, without their hyphens.
-const PLAY: [&str; 3] = ["from", "to", "speakers"];
+const PLAY: [&str; 6] = ["from", "to", "previous", "next", "speakers", "dop"];
 
 /// The word after which all words are names.
 pub(crate) const END: &str = "--";
@@ -92,20 +92,21 @@ impl<'a> Options<'a> {
         }
     }
 
-    /// Two options that can't be together, if there are such: a part is not played between others, and with `--dop`
-    /// nothing else is asked for.
+    /// Two options that can't be together, if there are such: neither a part nor loudspeakers are played between
+    /// others, and with `--dop` nothing else is asked for.
     pub(crate) fn apart(&self) -> Option<(OptionName, OptionName)>
         ensures { IfNone result (AreTogether self.now) }
     {
-        let other = match (self.part(), self.neighbour()) {
-            (Some(part), Some(neighbour)) => return Some((part, neighbour)),
-            (Some(part), None) => Some(part),
-            (None, neighbour) => neighbour,
-        };
-        match (self.dop, other, self.speakers) {
-            (true, Some(other), _) => Some((OptionName::Dop, other)),
-            (true, None, true) => Some((OptionName::Dop, OptionName::Speakers)),
-            _ => None,
+        match (self.part(), self.neighbour(), self.speakers, self.dop) {
+            (Some(part), Some(neighbour), _, _) => Some((part, neighbour)),
+            (Some(part), None, _, true) => Some((OptionName::Dop, part)),
+            (None, Some(neighbour), _, true) => Some((OptionName::Dop, neighbour)),
+            (None, Some(neighbour), true, false) => Some((neighbour, OptionName::Speakers)),
+            (None, None, true, true) => Some((OptionName::Dop, OptionName::Speakers)),
+            (Some(_), None, _, false) => None,
+            (None, Some(_), false, false) => None,
+            (None, None, _, false) => None,
+            (None, None, false, true) => None,
         }
     }
 
@@ -216,6 +217,7 @@ pub fn options_of(command: &str) -> &'static [&'static str]
 {
     match command {
         "play" => &PLAY,
+        "convert" => &["speakers", "dop"],
         "sum" => &["check"],
         _ => &[],
     }

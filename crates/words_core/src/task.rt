@@ -30,7 +30,6 @@ pub enum Task<'a> {
         output: &'a str,
         previous: Option<&'a str>,
         next: Option<&'a str>,
-        speakers: bool,
     },
     /// `play --dop IN OUT`
     PlayDop {

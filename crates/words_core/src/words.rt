@@ -126,7 +126,7 @@ impl Words<'_> {
         ensures refused { IfErr result (ReadRefused (codes "play") self.now) }
     {
         let [input, output] = self.names.as_slice() else {
-            return Err(self.miscounted());
+            return Err(self.wrong(Misfit::DopNames(self.names.len())));
         };
         Ok(Task::PlayDop {
             input: *input,
@@ -261,7 +261,6 @@ impl Words<'_> {
                 output,
                 previous,
                 next,
-                speakers,
             },
         }
     }

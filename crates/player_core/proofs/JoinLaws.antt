@@ -1,5 +1,5 @@
 -- A sound that is joined to others, and the sink that plays it.
-use Rattle.std.proofs.Common.{◌≡◌, ℕ, ◌+◌, ◌-◌, ◌*◌, ◌/◌, ◌%◌, ◌<◌, ◌≤◌, Bool, true, false, List, [], ◌++◌, length, map, get_or, take, drop, Option, None, Some, Result, Ok, Err, OnOk, IfOk, refl, sym, subst, ap, ap₂, ◌∙◌, arith, append_assoc, append-nil, length-append, inl, inr, true≢false, zero-mul}
+use Rattle.std.proofs.Common.{◌≡◌, ℕ, ◌+◌, ◌-◌, ◌*◌, ◌/◌, ◌%◌, ◌^◌, ◌<◌, ◌≤◌, Bool, true, false, List, [], ◌++◌, length, map, get_or, take, drop, Option, None, Some, Result, Ok, Err, OnErr, OnOk, IfOk, refl, sym, subst, ap, ap₂, ◌∙◌, arith, append_assoc, append-nil, length-append, inl, inr, true≢false, zero-mul}
 use Rattle.std.specs.Io.KnownBytes.{Appends}
 use Rattle.std.specs.List.{range_with_len}
 use Rattle.std.proofs.Math.Nat.{add-mul, mul-le-mul_right}
@@ -28,7 +28,7 @@ use Rattle.sound_core.specs.Outlines.{AreStated, IsPlacedIn, Surroundings, with_
 use Rattle.sound_core.specs.Sinks.{IsFed, TakesFile, TakesGiven}
 use Rattle.sound_core.specs.declared.part.SoundPart.{SoundPart}
 use Rattle.sound_core.proofs.SameLaws.{holds_in}
-use Rattle.wave_core.specs.Sizes.{FitsRiff}
+use Rattle.wave_core.specs.Sizes.{FitsRiff, riff_size}
 use Rattle.wave_core.specs.Texts.{wave_text}
 use Rattle.player_core.specs.Between.{IsJoined, IsJoining, bits_after, bits_before, channels_after, channels_before, frame_after, framed, in_frames, joined, own_range, with_range}
 use Rattle.player_core.specs.Joining.{EndsJoined, HasAllOfJoined, MayTake, PlaysAround, PushesOn}
@@ -252,14 +252,14 @@ pub on_value : {T E : Type 0} (r : Result T E) (P Q : T → Type 0) → ((x : T)
 on_value (Ok x) P Q f p = f x p
 on_value (Err e) P Q f p = tt
 
--- what holds at an answer holds of what follows from it, where more holds there
-pub handed : {T E : Type 0} (r : Result T E) (S : Type 0) (P Q : T → Type 0) → OnOk r S → (S → (x : T) → P x → Q x) → IfOk r P → IfOk r Q
-handed (Ok x) S P Q s f p = f s x p
-handed (Err e) S P Q s f p = tt
+-- what holds at a refusal holds of what follows from it
+pub on_err : {T E : Type 0} (r : Result T E) (P Q : Type 0) → (P → Q) → OnErr r P → OnErr r Q
+on_err (Ok x) P Q f p = tt
+on_err (Err e) P Q f p = f p
 
 -- ---- what is played of a file
 -- how many bits each channel before or after has
-neighbour_count : (bytes : List ℕ) (n : ℕ) → 1 ≤ n → length bytes ≡ length bytes / n * n → count_of (unlaced_all bytes n) ≡ 8 * (length bytes / n)
+pub neighbour_count : (bytes : List ℕ) (n : ℕ) → 1 ≤ n → length bytes ≡ length bytes / n * n → count_of (unlaced_all bytes n) ≡ 8 * (length bytes / n)
 neighbour_count bytes n some whole =
     let k = length bytes / n in
     let eight : 8 * k / 8 ≡ k = omega arith in
@@ -314,6 +314,11 @@ module _ (around : Neighbours) (s j : Sound) (is : IsJoined around s j) (is_soun
   text_is law d least start stop ordered inside fits =
       (law all (record r { channels = both }) j d start stop has_joined (joined_sound_is around s j is is_sound) (λ bytes. joined_whole around s j is is_sound) least ordered inside).whole fits
       ∙ ap (λ bytes. Some (part_file d j start stop bytes)) bytes_are
+
+  pub text_none : PartIsPlayed → (d : Decimator) → 8 ≤ d.factor → (start stop : ℕ) → start ≤ stop → stop ≤ total_frames d j → 2 ^ 32 ≤ riff_size j.channels d.width (stop - start)
+      → wave_text (part_pcm (record r { channels = both }) d start stop) ≡ None
+  text_none law d least start stop ordered inside large =
+      (law all (record r { channels = both }) j d start stop has_joined (joined_sound_is around s j is is_sound) (λ bytes. joined_whole around s j is is_sound) least ordered inside).too_large large
 
 -- a file was read into a sink, which ended
 module _ {W : Type 0} (held : W → Option (List ℕ)) (old mid new : JoiningSink W) (o : Surroundings) (stated : AreStated o) where

@@ -23,4 +23,5 @@ pub mod WaveLaws
 pub mod SinkLaws
 pub mod FileLaws
 pub mod JoinLaws
+pub mod JoinStops
 pub mod ReachLaws

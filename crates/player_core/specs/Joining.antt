@@ -1,11 +1,12 @@
 -- A sink of a joined sound that has all bytes of the sound itself.
-use Rattle.std.specs.Prelude.{◌≡◌, ◌≤◌, ℕ, ◌+◌, List, ◌++◌, Option, length}
+use Rattle.std.specs.Prelude.{◌≡◌, ◌≤◌, ◌⊎◌, ℕ, ◌+◌, List, ◌++◌, Option, length}
 use Rattle.dsd_bits.specs.declared.sound.Sound.{Sound}
 use Rattle.dsd_bits.specs.Sounds.{IsSound}
 use Rattle.player_core.specs.Between.{IsJoined, IsJoining, PlaysBetween, channels_after, channels_before, in_frames, own_range, with_range}
+use Rattle.chunk_core.specs.Outlets.{AppendsPrefix, outlet_writer}
 use Rattle.chunk_core.specs.declared.inlet.Inlet.{Inlet}
-use Rattle.player_core.specs.Playing.{PlaysReadTo, PlaysTo}
-use Rattle.player_core.specs.Sinks.{FinishesPlaying, IsPlaying, RefusesPlaying}
+use Rattle.player_core.specs.Playing.{PlaysReadTo, PlaysTo, WritesPrefixTo}
+use Rattle.player_core.specs.Sinks.{FinishesPlaying, IsPlaying, RefusesPlaying, range_file}
 use Rattle.player_core.specs.declared.joining.JoiningSink.{JoiningSink}
 use Rattle.player_core.specs.declared.sink.PlayingSink.{PlayingSink}
 use Rattle.sound_core.specs.declared.fault.StreamFault.{StreamFault}
@@ -24,6 +25,21 @@ abbrev pub RefusesPush : {W : Type 0} → (W → Option (List ℕ)) → PlayingS
 RefusesPush held old new bytes f = (first : _) (s : Sound) (before : List ℕ) → IsPlaying held first old s before → RefusesPlaying held first new s (before ++ bytes) f
 
 -- ---- a sink of a joined sound
+-- the WAVE file that it plays of a joined sound, by all bytes of the sound itself
+abbrev pub joined_file : {W : Type 0} → JoiningSink W → Sound → Sound → List ℕ → List ℕ
+joined_file first s j bytes = range_file first.playing.now.taps.now j (own_range first.playing.now.taps.now first.around s) (first.around.before.now ++ (in_frames s s.count bytes ++ first.around.after.now))
+
+-- nothing was written, or a prefix of what is played of each sound that begins with these bytes
+abbrev pub WritesJoined : {W : Type 0} → (W → Option (List ℕ)) → JoiningSink W → JoiningSink W → Sound → List ℕ → Type 0
+WritesJoined held first now s came = (outlet_writer now.playing.now.outlet.now ≡ outlet_writer first.playing.now.outlet.now)
+    ⊎ ((j : Sound) × IsJoined first.around s j × ((rest : List ℕ) → length (came ++ rest) ≡ s.size → AppendsPrefix (held (outlet_writer first.playing.now.outlet.now)) (held (outlet_writer now.playing.now.outlet.now)) (joined_file first s j (came ++ rest))))
+
+-- it refused a sound that begins with these bytes, and no more was written
+pub record RefusesJoining {W : Type 0} (held : W → Option (List ℕ)) (first now : JoiningSink W) (s : Sound) (came : List ℕ) : Type 0 where
+  pub reference : now.playing.ghost_name ≡ first.playing.ghost_name
+  pub same : now.playing.now.outlet.ghost_name ≡ first.playing.now.outlet.ghost_name
+  pub written : WritesJoined held first now s came
+
 -- what it plays of a file
 abbrev pub PlaysAround : {W : Type 0} → JoiningSink W → List ℕ → List ℕ → Type 0
 PlaysAround p = PlaysBetween p.playing.now.taps.now p.around.rate (channels_before p.around) (channels_after p.around)
@@ -37,6 +53,10 @@ abbrev pub EndsJoined : {W : Type 0} → (W → Option (List ℕ)) → JoiningSi
 EndsJoined held old new s n = (first : _) (bytes : List ℕ) → IsJoining held first old s s.count bytes → length bytes ≡ s.size
     → (j : Sound) × IsJoined first.around s j × (new.playing.ghost_name ≡ first.playing.ghost_name) × FinishesPlaying held (with_range first.playing.now (own_range first.playing.now.taps.now first.around s)) new.playing.now j (first.around.before.now ++ (in_frames s s.count bytes ++ first.around.after.now)) n
 
+-- it refused to end, whichever bytes the sound itself had
+abbrev pub RefusesEnd : {W : Type 0} → (W → Option (List ℕ)) → JoiningSink W → JoiningSink W → Sound → StreamFault → Type 0
+RefusesEnd held old new s f = (first : _) (bytes : List ℕ) → IsJoining held first old s s.count bytes → length bytes ≡ s.size → RefusesJoining held first new s bytes
+
 -- what the inlet's file plays between its neighbours was written
 abbrev pub JoinedPlays : {R W : Type 0} → (R → Option (List ℕ)) → (W → Option (List ℕ)) → Inlet R → JoiningSink W → JoiningSink W → ℕ → Type 0
 JoinedPlays left held inlet old new = PlaysTo left held (PlaysAround old) inlet old.playing.now.outlet.now new.playing.now.outlet.now
@@ -44,3 +64,11 @@ JoinedPlays left held inlet old new = PlaysTo left held (PlaysAround old) inlet 
 -- what the bytes play that were read from the inlet was written
 abbrev pub JoinedPlaysRead : {R W : Type 0} → (R → Option (List ℕ)) → (W → Option (List ℕ)) → Inlet R → Inlet R → JoiningSink W → JoiningSink W → ℕ → Type 0
 JoinedPlaysRead left held inlet_old inlet_new old new = PlaysReadTo left held (PlaysAround old) inlet_old inlet_new old.playing.now.outlet.now new.playing.now.outlet.now
+
+-- a prefix of whatever the inlet's file plays between its neighbours was written
+abbrev pub JoinedPrefix : {R W : Type 0} → (R → Option (List ℕ)) → (W → Option (List ℕ)) → Inlet R → JoiningSink W → JoiningSink W → Type 0
+JoinedPrefix left held inlet old new = WritesPrefixTo left held (PlaysAround old) inlet old.playing.now.outlet.now new.playing.now.outlet.now
+
+-- a sink plays by the same reference to the same outlet
+abbrev pub IsSameOutlet : {W : Type 0} → JoiningSink W → JoiningSink W → Type 0
+IsSameOutlet old new = (new.playing.ghost_name ≡ old.playing.ghost_name) × (new.playing.now.outlet.ghost_name ≡ old.playing.now.outlet.ghost_name)

@@ -1,12 +1,12 @@
 //! Plays a file between others, from a reader to a writer.
 
-ghost use Rattle.std.specs.Prelude.{◌≡◌, ◌+◌, ◌-◌, ◌<◌, ◌≤◌, ◌^◌, IfErr, IfOk, OnOk};
+ghost use Rattle.std.specs.Prelude.{◌≡◌, ◌+◌, ◌-◌, ◌<◌, ◌≤◌, ◌^◌, IfErr, IfOk, OnErr};
 ghost use Rattle.chunk_core.specs.Inlets.{inlet_reads};
 ghost use Rattle.chunk_core.specs.Outlets.{outlet_failures};
 ghost use Rattle.fir_core.specs.Decimator.{IsWithinLimits};
 ghost use Rattle.player_core.specs.Between.{PlaysBetween, channels_after, channels_before};
-ghost use Rattle.player_core.specs.Joining.{JoinedPlays, JoinedPlaysRead};
-ghost use Rattle.player_core.specs.Playing.{PlaysReadTo, PlaysTo};
+ghost use Rattle.player_core.specs.Joining.{IsSameOutlet, JoinedPlays, JoinedPlaysRead, JoinedPrefix};
+ghost use Rattle.player_core.specs.Playing.{PlaysReadTo, PlaysTo, WritesPrefixTo};
 ghost use Rattle.sound_core.specs.Naming.{IfRefusedAs, NamesFault};
 
 use crate::joining::{JoiningSink, Neighbours, finish_joined};
@@ -28,7 +28,8 @@ use std::io::{Read, Write};
 /// Refusals: `Refused` with the fault that [`form_core::read_any`] answers, for bytes that are neither a DSDIFF nor a
 /// DSF file that holds a recording; `Stream` with `FileRefused` if the recording has another rate or other channels, if
 /// it or a neighbour doesn't end with a whole byte, or if they are too long; `RateNotDivided`, `TooLarge`, before the
-/// first write; `ReadFailed`, `WriteFailed`; `TurnLimit` as [`crate::play`]; `Memory`.
+/// first write; `ReadFailed`, `WriteFailed`; `TurnLimit` as [`crate::play`]; `Memory`. What was written before a refusal is
+/// a prefix of the WAVE file.
 pub fn play_between<R: Read, W: Write>(
     alloc: Global,
     taps: &Taps,
@@ -42,6 +43,8 @@ pub fn play_between<R: Read, W: Write>(
     ensures any_reader { IfOk result (PlaysReadTo R.remaining W.contents (PlaysBetween taps.now around.entry.rate (channels_before around.entry) (channels_after around.entry)) inlet.old inlet.new outlet.old outlet.new) }
     // The first fault of what was read, and of the reader's file.
     ensures named { IfErr result (λ u. IfRefusedAs u (NamesFault R.remaining inlet.old inlet.new)) }
+    // A prefix of whatever the reader's file plays was written before a refusal.
+    ensures prefix { OnErr result (WritesPrefixTo R.remaining W.contents (PlaysBetween taps.now around.entry.rate (channels_before around.entry) (channels_after around.entry)) inlet.old outlet.old outlet.new) }
     ensures reads { inlet_reads inlet.new ≤ inlet_reads inlet.old + 2 ^ 40 }
 {
     if !can_fail(outlet) {
@@ -62,6 +65,7 @@ fn play_counted<R: Read, W: Write>(
     ensures ok { IfOk result (PlaysTo R.remaining W.contents (PlaysBetween taps.now around.entry.rate (channels_before around.entry) (channels_after around.entry)) inlet.old outlet.old outlet.new) }
     ensures any_reader { IfOk result (PlaysReadTo R.remaining W.contents (PlaysBetween taps.now around.entry.rate (channels_before around.entry) (channels_after around.entry)) inlet.old inlet.new outlet.old outlet.new) }
     ensures named { IfErr result (λ u. IfRefusedAs u (NamesFault R.remaining inlet.old inlet.new)) }
+    ensures prefix { OnErr result (WritesPrefixTo R.remaining W.contents (PlaysBetween taps.now around.entry.rate (channels_before around.entry) (channels_after around.entry)) inlet.old outlet.old outlet.new) }
     ensures reads { inlet_reads inlet.new ≤ inlet_reads inlet.old + 2 ^ 40 }
 {
     keeps_limits(taps);
@@ -80,10 +84,11 @@ fn play_by<R: Read, W: Write>(
 ) -> Result<u64, Unread>
     requires least { 8 ≤ playing.old.taps.now.factor }
     requires ready { outlet_failures playing.old.outlet.now < 2 ^ 64 - 1 }
-    ensures same { OnOk result (playing.new.outlet.ghost_name ≡ playing.old.outlet.ghost_name) }
+    ensures same { playing.new.outlet.ghost_name ≡ playing.old.outlet.ghost_name }
     ensures ok { IfOk result (PlaysTo R.remaining W.contents (PlaysBetween playing.old.taps.now around.entry.rate (channels_before around.entry) (channels_after around.entry)) inlet.old playing.old.outlet.now playing.new.outlet.now) }
     ensures any_reader { IfOk result (PlaysReadTo R.remaining W.contents (PlaysBetween playing.old.taps.now around.entry.rate (channels_before around.entry) (channels_after around.entry)) inlet.old inlet.new playing.old.outlet.now playing.new.outlet.now) }
     ensures named { IfErr result (λ u. IfRefusedAs u (NamesFault R.remaining inlet.old inlet.new)) }
+    ensures prefix { OnErr result (WritesPrefixTo R.remaining W.contents (PlaysBetween playing.old.taps.now around.entry.rate (channels_before around.entry) (channels_after around.entry)) inlet.old playing.old.outlet.now playing.new.outlet.now) }
     ensures reads { inlet_reads inlet.new ≤ inlet_reads inlet.old + 2 ^ 40 }
 {
     let mut bytes = Vec::new(alloc);
@@ -103,10 +108,11 @@ fn play_joined<R: Read, W: Write>(
 ) -> Result<u64, Unread>
     requires least { 8 ≤ sink.old.playing.now.taps.now.factor }
     requires ready { outlet_failures sink.old.playing.now.outlet.now < 2 ^ 64 - 1 }
-    ensures same { OnOk result ((sink.new.playing.ghost_name ≡ sink.old.playing.ghost_name) × (sink.new.playing.now.outlet.ghost_name ≡ sink.old.playing.now.outlet.ghost_name)) }
+    ensures same { IsSameOutlet sink.old sink.new }
     ensures ok { IfOk result (JoinedPlays R.remaining W.contents inlet.old sink.old sink.new) }
     ensures any_reader { IfOk result (JoinedPlaysRead R.remaining W.contents inlet.old inlet.new sink.old sink.new) }
     ensures named { IfErr result (λ u. IfRefusedAs u (NamesFault R.remaining inlet.old inlet.new)) }
+    ensures prefix { OnErr result (JoinedPrefix R.remaining W.contents inlet.old sink.old sink.new) }
     ensures reads { inlet_reads inlet.new ≤ inlet_reads inlet.old + 2 ^ 40 }
 {
     part_is_played();

@@ -4,7 +4,7 @@ ghost use Rattle.std.specs.Prelude.{◌≡◌, ◌+◌, ◌*◌, ◌/◌, ◌<�
 ghost use Rattle.fir_core.specs.Decimator.{IsWithinLimits};
 ghost use Rattle.player_core.specs.Between as Between;
 ghost use Rattle.player_core.specs.Between.{IsJoined, bits_before};
-ghost use Rattle.player_core.specs.Joining.{EndsJoined, HasAllOfJoined};
+ghost use Rattle.player_core.specs.Joining.{EndsJoined, HasAllOfJoined, RefusesEnd};
 
 use crate::range::FrameRange;
 use crate::sink::{PlayingSink, finish};
@@ -50,12 +50,13 @@ impl<'s, 'a, 't, 'b, W: Write> SoundSink for JoiningSink<'s, 'a, 't, 'b, W> {
     ghost use Rattle.std.specs.Prelude.{◌-◌, ◌<◌, ◌^◌};
     ghost use Rattle.chunk_core.specs.Outlets.{outlet_failures};
     ghost use Rattle.player_core.specs.Between.{IsJoining};
+    ghost use Rattle.player_core.specs.Joining.{RefusesJoining};
 
     ghost ready = { λ p. outlet_failures p.playing.now.outlet.now < 2 ^ 64 - 1 };
 
     ghost has = { λ first p s done bytes. IsJoining W.contents first p s done bytes };
 
-    ghost refused = { λ first p s came f. Unit {0} };
+    ghost refused = { λ first p s came f. RefusesJoining W.contents first p s came };
 
     fn begin(&mut self, alloc: Global, sound: Sound) -> Result<(), StreamFault> {
         let Some(joined) = joined_sound(&sound, &self.around) else {
@@ -137,6 +138,7 @@ pub(crate) fn finish_joined<W: Write>(
 ) -> Result<u64, StreamFault>
     requires all { HasAllOfJoined W.contents sink.old sound.now }
     ensures ok { IfOk result (EndsJoined W.contents sink.old sink.new sound.now) }
+    ensures refused { IfErr result (RefusesEnd W.contents sink.old sink.new sound.now) }
 {
     let Some(joined) = joined_sound(sound, &sink.around) else {
         return Err(StreamFault::FileRefused);

@@ -2,8 +2,8 @@ use Rattle.std.proofs.Common.{◌≡◌, ◌∙◌, subst, sym}
 use Rattle.chunk_core.specs.Inlets.{inlet_reader}
 use Rattle.chunk_core.specs.Outlets.{outlet_writer}
 use Rattle.player_core.specs.Between.{PlaysBetween, channels_after, channels_before}
-use Rattle.player_core.specs.Playing.{PlaysFile, PlaysGiven}
-use Rattle.player_core.proofs.JoinLaws.{handed}
+use Rattle.player_core.specs.Playing.{PlaysFile, PlaysGiven, WritesPrefix}
+use Rattle.player_core.proofs.JoinLaws.{on_err, on_value}
 use Rattle.player_core.proofs.between.play_counted.Goals as goal
 
 pub play_by-requires : goal.play_by-requires
@@ -21,19 +21,20 @@ returns g c =
     let end = c.outlet-1.given.0 in
     let r = c.play_by.result in
     let made = c.new-playing.result in
-    let new = c.play_by.new.playing.outlet in
-    let same = new.ghost_name ≡ made.outlet.ghost_name in
+    let is = sym (c.outlet-1.given.1 (sym (c.play_by.ensures.same ∙ c.new-playing.ensures.reference))) in
     record {
-      ok = handed r same _ _ c.play_by.ensures.same (λ s n h.
-          let is = sym (c.outlet-1.given.1 (sym (s ∙ c.new-playing.ensures.reference))) in
+      ok = on_value r _ _ (λ n h.
           subst (λ d. PlaysFile (left (inlet_reader i)) (PlaysBetween d around.rate (channels_before around) (channels_after around)) (held (outlet_writer c.args.outlet.now)) (held (outlet_writer end)) n) taps
           (subst (λ o. PlaysFile (left (inlet_reader i)) (PlaysBetween made.taps.now around.rate (channels_before around) (channels_after around)) (held (outlet_writer o)) (held (outlet_writer end)) n) was
           (subst (λ o. PlaysFile (left (inlet_reader i)) (PlaysBetween made.taps.now around.rate (channels_before around) (channels_after around)) (held (outlet_writer made.outlet.now)) (held (outlet_writer o)) n) is h))) c.play_by.ensures.ok;
-      any_reader = handed r same _ _ c.play_by.ensures.same (λ s n h.
-          let is = sym (c.outlet-1.given.1 (sym (s ∙ c.new-playing.ensures.reference))) in
+      any_reader = on_value r _ _ (λ n h.
           subst (λ d. PlaysGiven left i j (PlaysBetween d around.rate (channels_before around) (channels_after around)) (held (outlet_writer c.args.outlet.now)) (held (outlet_writer end)) n) taps
           (subst (λ o. PlaysGiven left i j (PlaysBetween made.taps.now around.rate (channels_before around) (channels_after around)) (held (outlet_writer o)) (held (outlet_writer end)) n) was
           (subst (λ o. PlaysGiven left i j (PlaysBetween made.taps.now around.rate (channels_before around) (channels_after around)) (held (outlet_writer made.outlet.now)) (held (outlet_writer o)) n) is h))) c.play_by.ensures.any_reader;
       named = c.play_by.ensures.named;
+      prefix = on_err r _ _ (λ h.
+          subst (λ d. WritesPrefix (left (inlet_reader i)) (PlaysBetween d around.rate (channels_before around) (channels_after around)) (held (outlet_writer c.args.outlet.now)) (held (outlet_writer end))) taps
+          (subst (λ o. WritesPrefix (left (inlet_reader i)) (PlaysBetween made.taps.now around.rate (channels_before around) (channels_after around)) (held (outlet_writer o)) (held (outlet_writer end))) was
+          (subst (λ o. WritesPrefix (left (inlet_reader i)) (PlaysBetween made.taps.now around.rate (channels_before around) (channels_after around)) (held (outlet_writer made.outlet.now)) (held (outlet_writer o))) is h))) c.play_by.ensures.prefix;
       reads = c.play_by.ensures.reads;
     }

@@ -1,14 +1,25 @@
-use Rattle.chunk_core.specs.Inlets.{inlet_reader}
+use Rattle.chunk_core.specs.Inlets.{inlet_given, inlet_reader}
+use Rattle.sound_core.specs.Naming.{plain}
 use Rattle.sound_core.specs.Outlines.{around_of}
 use Rattle.player_core.proofs.FaultLaws.{fault_is}
 use Rattle.player_core.proofs.JoinLaws.{end_requires, file_played, given_played, same_end}
+use Rattle.player_core.proofs.JoinStops.{end_stops, joined_stops}
 use Rattle.player_core.proofs.between.play_joined.Goals as goal
 
 pub finish_joined-requires : goal.finish_joined-requires
 finish_joined-requires g c = record { all = end_requires g.W.Write.contents c.args.sink.now c.read_named.new.sink c.read_named.new.sink (around_of c.in_ok-outline.outline) c.in_ok-outline.ensures.ok.0 g.R.Read.remaining c.args.inlet.now c.read_named.new.inlet c.in_ok-outline.ensures.any_reader }
 
+pub returns-in_err-outline-clause-same : goal.returns-in_err-outline-clause-same
+returns-in_err-outline-clause-same g c =
+    (joined_stops g.W.Write.contents c.args.sink.now c.read_named.new.sink c.part_is_played.ensures c.requires.least (g.R.Read.remaining (inlet_reader c.args.inlet.now)) (inlet_given c.args.inlet.now) (inlet_given c.read_named.new.inlet) (plain c.in_err-outline.field-0.0) c.in_err-outline.ensures.fault).0
+
 pub returns-in_err-outline-clause-named : goal.returns-in_err-outline-clause-named
 returns-in_err-outline-clause-named g c = rw (fault_is c.from_residual.result _ c.from_residual.ensures.1) c.in_err-outline.ensures.named
+
+pub returns-in_err-outline-clause-prefix : goal.returns-in_err-outline-clause-prefix
+returns-in_err-outline-clause-prefix g c =
+    rw (fault_is c.from_residual.result _ c.from_residual.ensures.1)
+    (joined_stops g.W.Write.contents c.args.sink.now c.read_named.new.sink c.part_is_played.ensures c.requires.least (g.R.Read.remaining (inlet_reader c.args.inlet.now)) (inlet_given c.args.inlet.now) (inlet_given c.read_named.new.inlet) (plain c.in_err-outline.field-0.0) c.in_err-outline.ensures.fault).1
 
 pub returns-in-Ok : goal.returns-in-Ok
 returns-in-Ok g c =
@@ -31,5 +42,12 @@ returns-in-Ok g c =
       ok = file_played held old mid new o stated law least n ends (left (inlet_reader i)) taken.ok;
       any_reader = given_played held old mid new o stated law least n ends left i j taken.any_reader;
       named = tt;
+      prefix = tt;
       reads = c.read_named.ensures.reads;
     }
+
+pub returns : goal.returns
+returns g c =
+    let taken = c.in_ok-outline.ensures in
+    let stops = end_stops g.W.Write.contents c.args.sink.now c.read_named.new.sink c.finish_joined.new.sink (around_of c.in_ok-outline.outline) taken.ok.0 c.part_is_played.ensures c.requires.least g.R.Read.remaining c.args.inlet.now c.read_named.new.inlet taken.any_reader c.in-Err.fault c.in-Err.ensures.refused in
+    record { same = stops.0; ok = tt; any_reader = tt; named = tt; prefix = stops.1; reads = c.read_named.ensures.reads }

@@ -1,4 +1,5 @@
 pub mod AgainLaws
+pub mod CauseLaws
 pub mod ChunkLaws
 pub mod FaultLaws
 pub mod FileLaws

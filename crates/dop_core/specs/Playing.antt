@@ -8,6 +8,7 @@ use Rattle.chunk_core.specs.declared.outlet.Outlet.{Outlet}
 use Rattle.dsd_bits.specs.Channels.{count_of}
 use Rattle.dsd_bits.specs.Contents.{Content}
 use Rattle.dsd_bits.specs.declared.sound.Sound.{Sound}
+use Rattle.sound_core.specs.Faults.{IsFromOutside}
 use Rattle.sound_core.specs.Files.{HoldsRecording, IsRefused, LeadsToSound}
 use Rattle.sound_core.specs.Reads.{Reads}
 use Rattle.sound_core.specs.declared.fault.StreamFault.{StreamFault}
@@ -52,6 +53,10 @@ DopApplies file Memory = ⊤
 -- this fault applies to the reader's file, if that is known
 abbrev pub DopAppliesBy : Option (List ℕ) → StreamFault → Type 0
 DopAppliesBy left f = IfSome left (λ file. DopApplies file f)
+
+-- a file that can be played is refused only for memory, a device or the number of reads
+abbrev pub DopOnlyFromOutsideBy : Option (List ℕ) → StreamFault → Type 0
+DopOnlyFromOutsideBy left f = IfSome left (λ file. (bytes : List ℕ) → PlaysDop file bytes → IsFromOutside f)
 
 -- n bytes were written, which are what the reader's file plays, if that is known
 abbrev pub DopPlaysFile : Option (List ℕ) → Option (List ℕ) → Option (List ℕ) → ℕ → Type 0

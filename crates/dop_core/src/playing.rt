@@ -7,7 +7,7 @@ ghost use Rattle.form_core.specs.Steps.{map_err};
 ghost use Rattle.sound_core.specs.Faults.{IsBeforeWriting, failed_reads, failed_writes};
 ghost use Rattle.sound_core.specs.Naming.{IfRefusedAs, IsExact, NamesFault, plain};
 ghost use Rattle.sound_core.specs.Readers.{CanFail, RunsOut};
-ghost use Rattle.dop_core.specs.Playing.{DopAppliesBy, DopPlaysReadTo, DopPlaysTo, DopWritesPrefixTo};
+ghost use Rattle.dop_core.specs.Playing.{DopAppliesBy, DopOnlyFromOutsideBy, DopPlaysReadTo, DopPlaysTo, DopWritesPrefixTo};
 ghost use Rattle.dop_core.specs.Sinks.{DopFails, SinkPlays, SinkPlaysRead};
 
 use crate::header::file_size;
@@ -40,6 +40,8 @@ pub fn play_dop<R: Read, W: Write>(
     ensures any_reader { IfOk result (DopPlaysReadTo R.remaining W.contents inlet.old inlet.new outlet.old outlet.new) }
     // A fault of the file applies.
     ensures fault { IfErr result (λ u. DopAppliesBy (R.remaining (inlet_reader inlet.old)) (plain u)) }
+    // A file that can be played is refused only from outside.
+    ensures cause { IfErr result (λ u. DopOnlyFromOutsideBy (R.remaining (inlet_reader inlet.old)) (plain u)) }
     // The first fault of what was read, and of the reader's file; none is missing.
     ensures named { IfErr result (λ u. IfRefusedAs u (NamesFault R.remaining inlet.old inlet.new)) }
     ensures exact { IfErr result IsExact }

@@ -1,3 +1,4 @@
+pub mod Laws
 pub mod Patches
 pub mod Patched
 pub mod Reordered

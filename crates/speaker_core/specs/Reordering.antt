@@ -1,5 +1,5 @@
 -- Sound bytes whose channels come in another order.
-use Rattle.std.specs.Prelude.{ℕ, zero, suc, ◌*◌, ◌<◌, List, ◌++◌, All, drop, length, take, nat_lt, if◌then◌else◌}
+use Rattle.std.specs.Prelude.{ℕ, zero, suc, ◌*◌, ◌<◌, Bool, List, [], ◌++◌, All, drop, length, map, take, nat_lt, slice_index_or, if◌then◌else◌}
 use Rattle.std.specs.List.{flat_map}
 
 -- a group of neighbouring bytes, so many of each channel: those of the channel that an order names first, and so on
@@ -15,3 +15,7 @@ groups_in order size (suc groups) bytes = if nat_lt (length bytes) (length order
 -- an order names channels that there are
 abbrev pub NamesChannels : List ℕ → Type 0
 NamesChannels order = All (λ c. c < length order) order
+
+-- channels in an order
+abbrev pub channels_in : List ℕ → List (List Bool) → List (List Bool)
+channels_in order channels = map (λ c. slice_index_or channels c []) order

@@ -77,3 +77,27 @@ moved_groups order groups = if is_moved order 0 then groups else 0
 -- the bytes of a channel mask in the format chunk; its first form has no place for one
 abbrev pub mask_bytes : ℕ → ℕ → ℕ → List ℕ
 mask_bytes channels width mask = if is_extensible channels width then bytes_of Little 4 mask else []
+
+-- the ID of DSDIFF that names a loudspeaker of channels that aren't two
+abbrev pub speaker_id : ℕ → List ℕ
+speaker_id speaker =
+    if nat_eq speaker 0 then codes "MLFT" else if nat_eq speaker 1 then codes "MRGT"
+    else if nat_eq speaker 2 then codes "C   " else if nat_eq speaker 3 then codes "LFE "
+    else if nat_eq speaker 4 then codes "LS  " else codes "RS  "
+
+-- the IDs of DSDIFF that name the loudspeakers of a channel type, in the order of its channels
+abbrev pub layout_ids : ℕ → List (List ℕ)
+layout_ids layout = if nat_eq layout 2 then codes "SLFT" ∷ codes "SRGT" ∷ [] else map speaker_id (layout_speakers layout)
+
+-- the channel mask of a channel type
+abbrev pub layout_mask : ℕ → ℕ
+layout_mask layout = speaker_mask (map (λ speaker. Some speaker) (layout_speakers layout))
+
+-- the first of some channel types that has a mask
+abbrev pub layout_among : List ℕ → ℕ → Option ℕ
+layout_among [] mask = None
+layout_among (layout ∷ layouts) mask = if nat_eq (layout_mask layout) mask then Some layout else layout_among layouts mask
+
+-- the channel type that has the loudspeakers of a mask, if there is one
+abbrev pub layout_with : ℕ → Option ℕ
+layout_with mask = layout_among (1 ∷ 2 ∷ 3 ∷ 4 ∷ 5 ∷ 6 ∷ 7 ∷ []) mask

@@ -11,9 +11,10 @@
 //! The words of the contracts:
 //!
 //! - A loudspeaker is the number of its bit in the mask. `speaker_of` is that of an ID, `layout_speakers` are those of a
-//!   channel type, `speaker_mask` and `speaker_order` the mask and the order of channels (`specs/Speakers.antt`).
+//!   channel type, `speaker_mask` and `speaker_order` the mask and the order of channels, `layout_ids` the IDs of a
+//!   channel type, `layout_with` the type of a mask (`specs/Speakers.antt`).
 //! - `groups_in order size groups bytes` is bytes with the channels of their first groups in an order
-//!   (`specs/Reordering.antt`), `left_in_order` what a `ReorderedFile` has left (`specs/Reordered.antt`).
+//!   (`specs/Reordering.antt`), `channels_in` channels in one, `left_in_order` what a `ReorderedFile` has left (`specs/Reordered.antt`).
 //! - `patched place new bytes` is bytes with others in place of as many (`specs/Patches.antt`), `written_to` what was
 //!   written to a `PatchedFile`, before its patch (`specs/Patched.antt`).
 //!
@@ -34,4 +35,5 @@ mod speakers;
 
 pub use patched_file::{Patch, PatchedFile};
 pub use reordered_file::{ReorderedFile, Reordering};
-pub use speakers::{Speakers, mask_bytes};
+pub use reordering::reordered_bytes_hold_channels;
+pub use speakers::{Speakers, layout_ids, layout_with, mask_bytes};

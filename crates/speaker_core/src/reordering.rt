@@ -1,6 +1,7 @@
 //! Sound bytes whose channels come in another order.
 
 ghost use Rattle.std.specs.Prelude.{◌≡◌, ◌*◌, ◌≤◌, ◌++◌, OnOk, length};
+ghost use Rattle.speaker_core.specs.Laws.{ReorderedHoldChannels};
 ghost use Rattle.speaker_core.specs.Reordering.{NamesChannels, group_in, groups_in};
 
 use std::alloc::AllocError;
@@ -47,3 +48,9 @@ fn push_group(
     }
     Ok(())
 }
+
+/// The law of reordered sound: bytes of whole frames whose groups come in an order hold the channels in that order. It
+/// does nothing: a caller's proof cites what it ensures.
+pub fn reordered_bytes_hold_channels()
+    ensures { ReorderedHoldChannels }
+{}

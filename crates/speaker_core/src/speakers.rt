@@ -2,6 +2,7 @@
 
 ghost use Rattle.std.specs.Prelude.{◌≡◌, ◌<◌, ◌≤◌, ◌++◌, [], All, IfOk, IfSome, OnOk, length, map, option_to_list, true};
 ghost use Rattle.std.specs.List.{range_with_len};
+ghost use Rattle.dsd_bits.specs.Layouts.{layout_channels};
 ghost use Rattle.speaker_core.specs.Reordering.{NamesChannels};
 ghost use Rattle.speaker_core.specs.Speakers as speakers;
 
@@ -95,6 +96,56 @@ pub fn mask_bytes(
         push_u32(&mut bytes, Order::Little, mask)?;
     }
     Ok(bytes)
+}
+
+/// The channel type of DSF 1.01 that has the loudspeakers of a mask, and so its channels in the order of the mask's bits;
+/// none if no type has them.
+pub fn layout_with(mask: u32) -> Option<u32>
+    ensures { result ≡ speakers.layout_with mask }
+{
+    match mask {
+        4 => Some(1),
+        3 => Some(2),
+        7 => Some(3),
+        0x33 => Some(4),
+        0xf => Some(5),
+        0x37 => Some(6),
+        0x3f => Some(7),
+        _ => None,
+    }
+}
+
+/// The IDs of DSDIFF 1.5 that name the loudspeakers of a channel type of DSF 1.01, in the order of its channels. Two
+/// channels are `SLFT` and `SRGT`.
+///
+/// It fails only if memory runs out.
+pub fn layout_ids(alloc: Global, layout: u32) -> Result<Vec<[u8; 4]>, AllocError>
+    ensures ids { IfOk result (λ ids. ids.items ≡ speakers.layout_ids layout) }
+    ensures number { IfOk result (λ ids. length ids.items ≡ layout_channels layout) }
+{
+    if layout == 2 {
+        return Vec::from_slice(alloc, &[*b"SLFT", *b"SRGT"]);
+    }
+    let named = layout_speakers(layout);
+    let mut ids = Vec::with_capacity(alloc, named.len())?;
+    for speaker in named {
+        ids.push(speaker_id(*speaker))?;
+    }
+    Ok(ids)
+}
+
+// The ID of a loudspeaker of channels that aren't two.
+fn speaker_id(speaker: u32) -> [u8; 4]
+    ensures { result ≡ speakers.speaker_id speaker }
+{
+    match speaker {
+        0 => *b"MLFT",
+        1 => *b"MRGT",
+        2 => *b"C   ",
+        3 => *b"LFE ",
+        4 => *b"LS  ",
+        _ => *b"RS  ",
+    }
 }
 
 // Whether a channel comes at another place than its own.

@@ -5,8 +5,8 @@
  *
  * FILTER is the rate and width that you want, for which the library has a filter, or a path to one. --dop gives the bits
  * of the file as DoP samples, and --native as they are, to a device that takes them: nothing may change them on the way,
- * so name one such as hw:0. With -s each file is played from that second on. A line warns of a filter that the index
- * beside it lists for files of other rates. */
+ * so name one such as hw:0. Files that can be joined are played without a gap. With -s each file is played from that
+ * second on, by itself. A line warns of a filter that the index beside it lists for files of other rates. */
 #include <alsa/asoundlib.h>
 #include <dsdarc.h>
 #include <errno.h>
@@ -148,50 +148,113 @@ static dsdarc_status choose(dsdarc_player *player, way by) {
     return dsdarc_player_filter_ready(player, by.rate, by.width, 0);
 }
 
-static int play(const char *device, way by, double from, const char *name) {
-    static unsigned char bytes[BLOCK];
-    FILE *file = fopen(name, "rb");
-    output out = {NULL, 0, 1, 0};
-    dsdarc_player *player = NULL;
+/* What is played: the device is opened where the sound of the first file starts. */
+typedef struct session {
+    dsdarc_player *player;
+    output out;
     dsdarc_info info;
-    dsdarc_status status = dsdarc_player_new_empty(&player);
+    int is_joined;
+} session;
+
+enum { DONE, SAID, AGAIN };
+
+/* Chooses how the sound is given, and opens the device; then goes to `from` seconds. */
+static int begin(session *now, const char *device, way by, double from, FILE *file, const char *name, int *is_moved) {
+    dsdarc_status status = choose(now->player, by);
+    uint64_t offset;
+    int fault;
+    if (status == DSDARC_NOT_JOINED || (status == DSDARC_TOO_LONG && now->is_joined)) return AGAIN;
+    if (status == DSDARC_OK) status = dsdarc_player_info(now->player, &now->info);
+    if (status != DSDARC_OK) return failed_with(name, dsdarc_status_text(status)), SAID;
+    if (by.kind == FILTER && by.text) warn_of_rate(by.name, &now->info, name);
+    if ((fault = open_device(&now->out, device, &now->info, by.kind)) < 0) {
+        if (by.kind == FILTER) failed_with(device, snd_strerror(fault));
+        return SAID;
+    }
+    if (from <= 0) return DONE;
+    status = dsdarc_player_seek(now->player, (uint64_t)(from * now->info.rate), &offset);
+    if (status != DSDARC_OK) return failed_with(name, dsdarc_status_text(status)), SAID;
+    if (fseek(file, (long)offset, SEEK_SET)) return failed_with(name, snd_strerror(-errno)), SAID;
+    return *is_moved = 1, DONE;
+}
+
+/* Pushes a file and plays what is due. AGAIN: this file can't be joined to those before it. */
+static int play_file(session *now, const char *device, way by, double from, FILE *file, const char *name) {
+    static unsigned char bytes[BLOCK];
+    dsdarc_status status;
     size_t size, at, taken;
-    int fault = 0, is_said = 0;
-    if (!file) return dsdarc_player_drop(player), failed_with(name, "it can't be read");
-    while (status == DSDARC_OK && fault >= 0 && (size = fread(bytes, 1, BLOCK, file)) > 0)
-        for (at = 0; at < size && status == DSDARC_OK && fault >= 0; at += taken) {
-            status = dsdarc_player_push(player, bytes + at, size - at, &taken);
-            if (status == DSDARC_NO_CHOICE && !out.pcm) {
-                uint64_t offset;
-                if ((status = choose(player, by)) != DSDARC_OK) break;
-                if ((status = dsdarc_player_info(player, &info)) != DSDARC_OK) break;
-                if (by.kind == FILTER && by.text) warn_of_rate(by.name, &info, name);
-                if ((fault = open_device(&out, device, &info, by.kind)) < 0) {
-                    is_said = by.kind != FILTER;
-                    break;
-                }
-                if (from > 0) {
-                    status = dsdarc_player_seek(player, (uint64_t)(from * info.rate), &offset);
-                    if (status == DSDARC_OK && fseek(file, (long)offset, SEEK_SET)) fault = -errno, device = name;
-                    if (status != DSDARC_OK || fault < 0) break;
-                    size = taken = at = 0;
-                }
+    int fault, is_moved, done;
+    while ((size = fread(bytes, 1, BLOCK, file)) > 0)
+        for (at = 0, is_moved = 0; at < size && !is_moved; at += taken) {
+            status = dsdarc_player_push(now->player, bytes + at, size - at, &taken);
+            if (status == DSDARC_NO_CHOICE && !now->out.pcm) {
+                if ((done = begin(now, device, by, from, file, name, &is_moved)) != DONE) return done;
                 continue;
             }
-            if (status == DSDARC_OK && out.pcm) fault = pull_all(player, &out, &info, 0);
+            if (status == DSDARC_NOT_JOINED || (status == DSDARC_TOO_LONG && now->is_joined)) return AGAIN;
+            if (status != DSDARC_OK) return failed_with(name, dsdarc_status_text(status)), SAID;
+            if (now->out.pcm && (fault = pull_all(now->player, &now->out, &now->info, 0)) < 0)
+                return failed_with(device, snd_strerror(fault)), SAID;
         }
-    if (status == DSDARC_OK && fault >= 0 && ferror(file)) fault = -errno, device = name;
-    if (status == DSDARC_OK && fault >= 0 && out.pcm) fault = pull_all(player, &out, &info, 1);
-    if (status == DSDARC_OK && fault >= 0) status = dsdarc_player_end(player);
+    if (ferror(file)) return failed_with(name, snd_strerror(-errno)), SAID;
+    return DONE;
+}
+
+/* Ends the recording, and plays the last frames. */
+static int finish(session *now, const char *device, way by, const char *name) {
+    dsdarc_status status = dsdarc_player_end(now->player);
+    int fault = 0;
     /* The file may end where its sound, of no bytes, starts: it is judged after the choice. */
-    if (status == DSDARC_NO_CHOICE && (status = choose(player, by)) == DSDARC_OK) status = dsdarc_player_end(player);
-    if (out.pcm && fault >= 0) snd_pcm_drain(out.pcm);
-    if (out.pcm) snd_pcm_close(out.pcm);
-    dsdarc_player_drop(player);
-    fclose(file);
-    if (is_said) return 1;
+    if (status == DSDARC_NO_CHOICE && (status = choose(now->player, by)) == DSDARC_OK) status = dsdarc_player_end(now->player);
+    if (now->out.pcm) fault = pull_all(now->player, &now->out, &now->info, 1);
+    if (now->out.pcm && fault >= 0) snd_pcm_drain(now->out.pcm);
     if (fault < 0) return failed_with(device, snd_strerror(fault));
     return status == DSDARC_OK ? 0 : failed_with(name, dsdarc_status_text(status));
+}
+
+static void close_all(session *now) {
+    if (now->out.pcm) snd_pcm_close(now->out.pcm);
+    dsdarc_player_drop(now->player);
+    *now = (session){NULL, {NULL, 0, 1, 0}, {0}, 0};
+}
+
+/* Plays files one after the other: without a gap, as far as they can be joined. */
+static int play(const char *device, way by, double from, char **names, int count) {
+    session now = {NULL, {NULL, 0, 1, 0}, {0}, 0};
+    int k, failed = 0, done, is_alone = 0;
+    for (k = 0; k < count; k++) {
+        FILE *file = fopen(names[k], "rb");
+        dsdarc_status status = DSDARC_OK;
+        if (!file) {
+            failed |= failed_with(names[k], "it can't be read");
+            continue;
+        }
+        if (!now.player) {
+            now.is_joined = count > 1 && from <= 0 && !is_alone;
+            status = now.is_joined ? dsdarc_player_new_joined(&now.player) : dsdarc_player_new_empty(&now.player);
+        }
+        done = status == DSDARC_OK ? play_file(&now, device, by, from, file, names[k]) : SAID;
+        if (status != DSDARC_OK) failed_with(names[k], dsdarc_status_text(status));
+        fclose(file);
+        if (done == AGAIN) { /* with another player; the first of a recording by one that joins none */
+            is_alone = !now.out.pcm;
+            if (now.out.pcm) failed |= finish(&now, device, by, names[k]);
+            close_all(&now), k--;
+            continue;
+        }
+        is_alone = 0;
+        if (done == DONE && now.is_joined && k + 1 < count) {
+            if ((status = dsdarc_player_next(now.player)) == DSDARC_OK) continue;
+            done = SAID, failed_with(names[k], dsdarc_status_text(status));
+        }
+        if (done == DONE) failed |= finish(&now, device, by, names[k]);
+        else if (failed = 1, now.out.pcm && dsdarc_player_end(now.player) == DSDARC_OK) /* with the file before */
+            pull_all(now.player, &now.out, &now.info, 1), snd_pcm_drain(now.out.pcm);
+        close_all(&now);
+    }
+    if (now.player) failed |= finish(&now, device, by, names[count - 1]);
+    close_all(&now);
+    return failed;
 }
 
 /* Seconds from 0 on, and nothing else after them: -1 if the text isn't that. */
@@ -213,7 +276,7 @@ int main(int count, char **arguments) {
     char *text = NULL;
     way by = {FILTER, NULL, NULL, 0, 0, 0};
     double from = 0;
-    int option, failed = 0;
+    int option, failed;
     while ((option = getopt_long(count, arguments, "D:s:", options, NULL)) != -1)
         if (option == 'D') device = optarg;
         else if (option == 's') from = seconds_of(optarg);
@@ -230,7 +293,7 @@ int main(int count, char **arguments) {
             if (!(by.text = text = text_of(by.name, &by.size))) return failed_with(by.name, "it can't be read");
         }
     }
-    for (; optind < count; optind++) failed |= play(device, by, from, arguments[optind]);
+    failed = play(device, by, from, arguments + optind, count - optind);
     free(text);
     return failed;
 }

@@ -5,16 +5,14 @@
  *     GST_PLUGIN_PATH=. gst-play-1.0 in.dsf
  *
  * `filter` is a project text's path, or what to play to: RATE/BITS, or several with commas between them, the best first.
- * Without it that is what DSDARC_FILTER says, else 88200/24,96000/24. The ready filters are found by their index. They
- * are those of the installation that the library belongs to, or in the folder that DSDARC_FILTERS names. A filter that
- * the index beside it lists for files of other rates gives a warning. A seek is answered by one in bytes of the element
- * before. After a stop before the end of the file, nothing is said about the file.
+ * Without it that is what DSDARC_FILTER says, else 88200/24,96000/24. The ready filters are those of the folder that
+ * DSDARC_FILTERS names, by its index, and those that the library has. A filter that the index beside it lists for files
+ * of other rates gives a warning. A seek is answered by one in bytes of the element before. After a stop before the end
+ * of the file, nothing is said about the file.
  *
  * Tags say how long the sound is, and the bits of a second of the file. If the file is one of this system, they have also
  * what GStreamer reads of its ID3 tag: title, artist, album, cover and others. The tag comes after the sound, and the
  * elements before give the sound first; so it is read in the file that they name. */
-#define _GNU_SOURCE
-#include <dlfcn.h>
 #include <dsdarc.h>
 #include <fcntl.h>
 #include <gst/gst.h>
@@ -32,16 +30,13 @@ enum { FRAMES = 4096, FILTER = 1, MOST_RATES = 16 };
 
 GST_DEBUG_CATEGORY_STATIC(dsdarcdec_debug);
 
-/* A filter that is loaded for nothing but the rate of a file. */
-static const char plain[] = "[decimate]\ntaps = [1]\nfactor = 8\ndelay = 0\nshift = 0\nwidth = 16\n";
-
 typedef struct {
     GstElement element;
     GstPad *sink, *src;
     char *filter;
-    dsdarc_player *scout, *player; /* the scout learns the rate, by which the filter is found */
-    GByteArray *front;             /* what the scout was given */
-    guint64 place;                 /* the next byte of the file */
+    dsdarc_player *player;
+    GByteArray *front; /* what comes before the sound */
+    guint64 place;     /* the next byte of the file */
     dsdarc_info info;
     guint32 mask;            /* the loudspeakers of the channels, if the file names them */
     gboolean announced, dropping; /* what was sent before a seek is dropped */
@@ -71,45 +66,12 @@ static GstClockTime time_of(DsdarcDec *dec, guint64 frame) { return gst_util_uin
 /* The frame that begins at a time. Times are whole nanoseconds, and may be a little before it. */
 static guint64 frame_at(DsdarcDec *dec, GstClockTime time) { return gst_util_uint64_scale_round(time, dec->info.rate, GST_SECOND); }
 
-/* The folder of the ready filters. */
-static char *filters(void) {
-    const char *named = g_getenv("DSDARC_FILTERS");
-    Dl_info library;
-    char *beside, *folder;
-    if (named) return g_strdup(named);
-    if (!dladdr((void *)dsdarc_version, &library) || !library.dli_fname) return g_strdup("/usr/share/dsdarc/filters");
-    beside = g_path_get_dirname(library.dli_fname);
-    folder = g_build_filename(beside, "..", "share", "dsdarc", "filters", NULL);
-    g_free(beside);
-    return folder;
-}
-
 /* The index in the folder of a filter; it has no byte if there is none. */
 static char *index_in(const char *folder, gsize *size) {
     char *path = g_build_filename(folder, "index.txt", NULL), *index = NULL;
     if (!g_file_get_contents(path, &index, size, NULL)) *size = 0;
     g_free(path);
     return index;
-}
-
-/* The path of the filter for a file of a rate, or NULL. */
-static char *path_for(DsdarcDec *dec, guint32 rate) {
-    const char *said = dec->filter ? dec->filter : g_getenv("DSDARC_FILTER");
-    gchar **wishes = g_strsplit(said ? said : BEST, ",", 0);
-    gsize size;
-    char *path = NULL, *folder = filters(), *index = index_in(folder, &size);
-    for (gsize number = 0; wishes[number] && !path; number++) {
-        dsdarc_wish wish = {.rate_in = rate};
-        char name[4096], more;
-        if (sscanf(wishes[number], "%9u/%2u%c", &wish.rate, &wish.width, &more) != 2)
-            path = g_strdup(wishes[number]);
-        else if (dsdarc_filter_find(index, size, &wish, name, sizeof name) == DSDARC_OK)
-            path = g_build_filename(folder, name, NULL);
-    }
-    g_strfreev(wishes);
-    g_free(index);
-    g_free(folder);
-    return path;
 }
 
 /* Warns of a filter that the index beside it lists for files of other rates. */
@@ -129,27 +91,65 @@ static void warn_of_rate(DsdarcDec *dec, const char *path, guint32 rate) {
     g_free(folder);
 }
 
-/* Makes the player by the filter for a file of a rate. */
-static GstFlowReturn begin(DsdarcDec *dec, guint32 rate) {
-    char *path = path_for(dec, rate), *text = NULL;
-    gsize size = 0;
-    dsdarc_status status = DSDARC_OK;
-    GstFlowReturn flow = GST_FLOW_OK;
-    if (!path) {
-        GST_ELEMENT_ERROR(dec, RESOURCE, NOT_FOUND, ("there is no such filter for a file of %u Hz", rate), (NULL));
-        flow = GST_FLOW_ERROR;
-    } else if (!g_file_get_contents(path, &text, &size, NULL)) {
+/* Chooses the filter at a path for a file of a rate; what is refused is reported. */
+static GstFlowReturn choose_at(DsdarcDec *dec, const char *path, guint32 rate) {
+    char *text;
+    gsize size;
+    dsdarc_status status;
+    if (!g_file_get_contents(path, &text, &size, NULL)) {
         GST_ELEMENT_ERROR(dec, RESOURCE, OPEN_READ, ("the filter %s can't be read", path), (NULL));
-        flow = GST_FLOW_ERROR;
-    } else if ((status = dsdarc_player_new(text, size, &dec->player)) != DSDARC_OK) {
-        flow = refused(dec, status);
-    } else {
-        GST_DEBUG_OBJECT(dec, "a file of %u Hz, by %s", rate, path);
-        warn_of_rate(dec, path, rate);
+        return GST_FLOW_ERROR;
     }
+    status = dsdarc_player_filter(dec->player, text, size);
     g_free(text);
-    g_free(path);
-    return flow;
+    if (status != DSDARC_OK) return refused(dec, status);
+    GST_DEBUG_OBJECT(dec, "a file of %u Hz, by %s", rate, path);
+    warn_of_rate(dec, path, rate);
+    return GST_FLOW_OK;
+}
+
+/* Chooses the ready filter that is wished for; *flow says whether it could, where there is one. */
+static gboolean choose_ready(DsdarcDec *dec, const dsdarc_wish *wish, GstFlowReturn *flow) {
+    const char *folder = g_getenv("DSDARC_FILTERS");
+    char *index, *path, name[4096];
+    dsdarc_status status = DSDARC_NO_FILTER;
+    gsize size;
+    if (folder) {
+        index = index_in(folder, &size);
+        status = dsdarc_filter_find(index, size, wish, name, sizeof name);
+        g_free(index);
+    }
+    if (status == DSDARC_OK) {
+        path = g_build_filename(folder, name, NULL);
+        *flow = choose_at(dec, path, wish->rate_in);
+        g_free(path);
+        return TRUE;
+    }
+    status = dsdarc_player_filter_ready(dec->player, wish->rate, wish->width, wish->gain);
+    GST_DEBUG_OBJECT(dec, "a file of %u Hz, to %u/%u: %s", wish->rate_in, wish->rate, wish->width, dsdarc_status_text(status));
+    *flow = status == DSDARC_OK ? GST_FLOW_OK : GST_FLOW_ERROR;
+    if (status != DSDARC_OK && status != DSDARC_NO_FILTER) refused(dec, status);
+    return status != DSDARC_NO_FILTER;
+}
+
+/* Chooses the filter for a file of a rate: the first one that there is. */
+static GstFlowReturn choose(DsdarcDec *dec, guint32 rate) {
+    const char *said = dec->filter ? dec->filter : g_getenv("DSDARC_FILTER");
+    gchar **wishes = g_strsplit(said ? said : BEST, ",", 0);
+    GstFlowReturn flow = GST_FLOW_OK;
+    gboolean is_there = FALSE;
+    for (gsize number = 0; wishes[number] && !is_there; number++) {
+        dsdarc_wish wish = {.rate_in = rate};
+        char more;
+        if (sscanf(wishes[number], "%9u/%2u%c", &wish.rate, &wish.width, &more) == 2)
+            is_there = choose_ready(dec, &wish, &flow);
+        else
+            flow = choose_at(dec, wishes[number], rate), is_there = TRUE;
+    }
+    g_strfreev(wishes);
+    if (is_there) return flow;
+    GST_ELEMENT_ERROR(dec, RESOURCE, NOT_FOUND, ("there is no such filter for a file of %u Hz", rate), (NULL));
+    return GST_FLOW_ERROR;
 }
 
 /* The file that the elements before read, if it is one of this system and begins with the bytes that came; or -1. */
@@ -259,49 +259,41 @@ static GstFlowReturn give(DsdarcDec *dec) {
     }
 }
 
+/* Chooses how the sound is given, and announces it, once these bytes make it known. */
+static GstFlowReturn begin(DsdarcDec *dec, const guint8 *bytes, gsize size) {
+    dsdarc_description file;
+    GstFlowReturn flow;
+    g_byte_array_append(dec->front, bytes, (guint)size);
+    if (dsdarc_player_describe(dec->player, &file, sizeof file) != DSDARC_OK) return GST_FLOW_OK;
+    if ((flow = choose(dec, file.rate_in)) != GST_FLOW_OK) return flow;
+    dsdarc_player_info(dec->player, &dec->info);
+    dec->mask = file.mask;
+    announce(dec);
+    return GST_FLOW_OK;
+}
+
 static GstFlowReturn push(DsdarcDec *dec, const guint8 *bytes, gsize size) {
     GstFlowReturn flow = GST_FLOW_OK;
+    dsdarc_status status = DSDARC_OK;
     gsize taken;
+    if (!dec->player && (status = dsdarc_player_new_empty(&dec->player)) != DSDARC_OK) return refused(dec, status);
     for (gsize at = 0; at < size && flow == GST_FLOW_OK; at += taken) {
-        dsdarc_status status = dsdarc_player_push(dec->player, bytes + at, size - at, &taken);
-        if (status != DSDARC_OK) return refused(dec, status);
+        if ((status = dsdarc_player_push(dec->player, bytes + at, size - at, &taken)) != DSDARC_OK) return refused(dec, status);
         dec->place += taken;
-        if (!dec->announced && dsdarc_player_info(dec->player, &dec->info) == DSDARC_OK) announce(dec);
+        if (!dec->announced) flow = begin(dec, bytes + at, taken);
         if (dec->announced) flow = give(dec);
     }
     return flow;
 }
 
-/* Lets the scout take bytes until it knows the rate, and then begins with what it took: *taken says how many. */
-static GstFlowReturn look(DsdarcDec *dec, const guint8 *bytes, gsize size, gsize *taken) {
-    GstFlowReturn flow = GST_FLOW_OK;
-    dsdarc_status status = DSDARC_OK;
-    dsdarc_info info;
-    gsize count;
-    if (!dec->scout) status = dsdarc_player_new(plain, sizeof plain - 1, &dec->scout);
-    for (*taken = 0; status == DSDARC_OK && *taken < size; *taken += count) {
-        if ((status = dsdarc_player_push(dec->scout, bytes + *taken, size - *taken, &count)) != DSDARC_OK) break;
-        g_byte_array_append(dec->front, bytes + *taken, (guint)count);
-        if (dsdarc_player_info(dec->scout, &info) == DSDARC_OK) {
-            *taken += count;
-            if ((flow = begin(dec, info.rate_in)) != GST_FLOW_OK) return flow;
-            dsdarc_channel_mask(dec->front->data, dec->front->len, &dec->mask);
-            return push(dec, dec->front->data, dec->front->len);
-        }
-    }
-    return status == DSDARC_OK ? flow : refused(dec, status);
-}
-
 static GstFlowReturn chain(GstPad *pad, GstObject *parent, GstBuffer *buffer) {
     DsdarcDec *dec = (DsdarcDec *)parent;
-    GstFlowReturn flow = GST_FLOW_OK;
+    GstFlowReturn flow;
     GstMapInfo map;
-    gsize at = 0;
     (void)pad;
     if (dec->dropping) return gst_buffer_unref(buffer), GST_FLOW_OK;
     gst_buffer_map(buffer, &map, GST_MAP_READ);
-    if (!dec->player) flow = look(dec, map.data, map.size, &at);
-    if (flow == GST_FLOW_OK && dec->player) flow = push(dec, map.data + at, map.size - at);
+    flow = push(dec, map.data, map.size);
     gst_buffer_unmap(buffer, &map);
     gst_buffer_unref(buffer);
     return flow;
@@ -309,13 +301,12 @@ static GstFlowReturn chain(GstPad *pad, GstObject *parent, GstBuffer *buffer) {
 
 /* Whether the stream ends with the file, and neither by the next element nor by the application. */
 static gboolean is_at_end(DsdarcDec *dec, GstEvent *event) {
-    guint64 place = dec->player ? dec->place : dec->front->len;
     guint32 number = gst_event_get_seqnum(event);
     GstEvent *known;
     gint64 size;
     gboolean is_own = FALSE;
     if (dec->stopped || (dec->announced && dec->frame == dec->last && dec->last < dec->info.frames)) return FALSE;
-    if (gst_pad_peer_query_duration(dec->sink, GST_FORMAT_BYTES, &size) && size >= 0) return place >= (guint64)size;
+    if (gst_pad_peer_query_duration(dec->sink, GST_FORMAT_BYTES, &size) && size >= 0) return dec->place >= (guint64)size;
     /* The element before doesn't know the size: an end of the application has a number of its own. Before the first byte
      * there is no segment: then it is a number after that of the start. */
     if ((known = gst_pad_get_sticky_event(dec->sink, GST_EVENT_SEGMENT, 0)))
@@ -328,8 +319,7 @@ static gboolean is_at_end(DsdarcDec *dec, GstEvent *event) {
 
 /* Whether the file holds a recording. */
 static gboolean is_whole(DsdarcDec *dec) {
-    dsdarc_player *player = dec->player ? dec->player : dec->scout;
-    dsdarc_status status = player ? dsdarc_player_end(player) : DSDARC_FILE_REFUSED;
+    dsdarc_status status = dec->player ? dsdarc_player_end(dec->player) : DSDARC_FILE_REFUSED;
     if (status != DSDARC_OK) refused(dec, status);
     return status == DSDARC_OK;
 }
@@ -490,7 +480,6 @@ static gboolean src_query(GstPad *pad, GstObject *parent, GstQuery *query) {
 /* As before the first byte of a file. */
 static void reset(DsdarcDec *dec) {
     dsdarc_player_drop(dec->player), dec->player = NULL;
-    dsdarc_player_drop(dec->scout), dec->scout = NULL;
     g_byte_array_set_size(dec->front, 0);
     gst_segment_init(&dec->segment, GST_FORMAT_TIME);
     dec->announced = dec->dropping = dec->stopped = dec->expects_end = dec->keeps = FALSE;

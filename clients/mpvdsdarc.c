@@ -6,14 +6,13 @@
  *
  * In ~/.config/mpv/scripts mpv finds it by itself. It needs the headers of mpv, which are in libmpv-dev, and none of its
  * libraries. The filter is a project text's path, or what to play to: RATE/BITS, or several, the best first. Without the
- * option it is what DSDARC_FILTER says, else 88200/24,96000/24. The ready filters are those of the installation that the
- * library belongs to, or in the folder that DSDARC_FILTERS names.
+ * option it is what DSDARC_FILTER says, else 88200/24,96000/24. The ready filters are those of the folder that
+ * DSDARC_FILTERS names, by its index, and those that the library has.
  *
  * mpv gets a file as a stream `dsdarc://`, which is a WAVE file that isn't there: its header, the tag of the file, and the
  * frames. A seek goes to the byte that mpv asks for. A file that the library refuses, and one for whose rate there is no
  * such filter, is left to mpv, and a line says so. */
 #define _GNU_SOURCE
-#include <dlfcn.h>
 #include <dsdarc.h>
 #include <fcntl.h>
 #include <mpv/client.h>
@@ -26,15 +25,13 @@
 #define SCHEME "dsdarc://"
 #define BEST "88200/24,96000/24"
 #define OPTION "dsdarc-filter"
-enum { FRAMES = 4096, MOST_FRAME = 18, MOST_RATES = 16, MOST_HEADER = 1 << 20, BEFORE_TAG = 104, AFTER_TAG = 9 };
-
-/* A filter that is loaded for nothing but the rate of a file. */
-static const char plain[] = "[decimate]\ntaps = [1]\nfactor = 8\ndelay = 0\nshift = 0\nwidth = 16\n";
+enum { FRAMES = 4096, MOST_FRAME = 18, MOST_RATES = 16, BEFORE_TAG = 104, AFTER_TAG = 9 };
 
 typedef struct {
     int file;
     dsdarc_player *player;
-    dsdarc_info info;
+    dsdarc_description known;    /* what the file holds */
+    dsdarc_info info;            /* what is played, once a filter is chosen */
     uint64_t offset;             /* of the next byte that is read of the file */
     unsigned char bytes[65536];
     size_t count, pushed;        /* of these bytes */
@@ -84,31 +81,66 @@ static int push(stream *it) {
     return 1;
 }
 
-/* A player of a file by a filter, once it knows what is played; or NULL. */
-static stream *opened(const char *path, const void *text, size_t size) {
+/* A player of a file, once it knows the sound; or NULL. */
+static stream *opened(const char *path) {
     stream *it = calloc(1, sizeof *it);
     if (!it) return NULL;
     it->file = open(path, O_RDONLY | O_CLOEXEC);
-    if (it->file < 0 || dsdarc_player_new(text, size, &it->player) != DSDARC_OK) return leave(it), NULL;
-    while (dsdarc_player_info(it->player, &it->info) != DSDARC_OK)
+    if (it->file < 0 || dsdarc_player_new_empty(&it->player) != DSDARC_OK) return leave(it), NULL;
+    while (dsdarc_player_describe(it->player, &it->known, sizeof it->known) != DSDARC_OK)
         if (push(it) <= 0) return leave(it), NULL;
     return it;
+}
+
+/* Chooses the filter at a path. */
+static dsdarc_status choose_at(stream *it, const char *path) {
+    size_t size;
+    char *text = text_of(path, &size);
+    dsdarc_status status = text ? dsdarc_player_filter(it->player, text, size) : DSDARC_NO_FILTER;
+    free(text);
+    return status;
+}
+
+/* The path of the ready filter that the index in the folder DSDARC_FILTERS lists for a wish; or NULL. */
+static char *listed(const dsdarc_wish *wish) {
+    const char *folder = getenv("DSDARC_FILTERS");
+    char name[4096], *place = NULL, *index = NULL, *path = NULL;
+    size_t size = 0;
+    if (folder && asprintf(&place, "%s/index.txt", folder) >= 0) index = text_of(place, &size);
+    if (index && dsdarc_filter_find(index, size, wish, name, sizeof name) == DSDARC_OK &&
+        asprintf(&path, "%s/%s", folder, name) < 0)
+        path = NULL;
+    free(index);
+    if (folder) free(place);
+    return path;
+}
+
+/* Whether a filter is a rate and width, and not a path. */
+static int is_wish(const char *filter, dsdarc_wish *wish) {
+    char more;
+    return sscanf(filter, "%9u/%2u%c", &wish->rate, &wish->width, &more) == 2;
+}
+
+/* Chooses a filter: a path, or a rate and width. */
+static dsdarc_status choose(stream *it, const char *filter) {
+    dsdarc_wish wish = {.rate_in = it->known.rate_in};
+    dsdarc_status status;
+    char *path;
+    if (!is_wish(filter, &wish)) {
+        status = choose_at(it, filter);
+    } else if ((path = listed(&wish))) {
+        status = choose_at(it, path);
+        free(path);
+    } else {
+        status = dsdarc_player_filter_ready(it->player, wish.rate, wish.width, wish.gain);
+    }
+    return status == DSDARC_OK ? dsdarc_player_info(it->player, &it->info) : status;
 }
 
 static unsigned char *put(unsigned char *at, const char *name, uint64_t number, int count) {
     for (; *name; name++) *at++ = (unsigned char)*name;
     for (; count > 0; count--, number >>= 8) *at++ = (unsigned char)number;
     return at;
-}
-
-/* The loudspeakers of the channels; 0 if the file names none. */
-static uint32_t mask_of(stream *it) {
-    size_t size = it->offset < MOST_HEADER ? (size_t)it->offset : MOST_HEADER;
-    unsigned char *header = malloc(size);
-    uint32_t mask = 0;
-    if (header && pread(it->file, header, size, 0) == (ssize_t)size) dsdarc_channel_mask(header, size, &mask);
-    free(header);
-    return mask;
 }
 
 /* The header of the WAVE file, of the form for any length (RF64), with the tag. Whether there was memory for it. */
@@ -123,7 +155,7 @@ static int describe(stream *it) {
     at = put(put(put(put(at, "", 0, 8), "", size, 8), "", it->info.frames, 8), "", 0, 4);
     at = put(put(put(at, "fmt ", 40, 4), "", 0xfffe, 2), "", channels, 2);
     at = put(put(put(at, "", it->info.rate, 4), "", it->info.rate * frame, 4), "", frame, 2);
-    at = put(put(put(put(put(at, "", width, 2), "", 22, 2), "", width, 2), "", mask_of(it), 4), "", 1, 2);
+    at = put(put(put(put(put(at, "", width, 2), "", 22, 2), "", width, 2), "", it->known.mask, 4), "", 1, 2);
     memcpy(at, rest, 14);
     at += 14;
     if (tag.size > 0) {
@@ -200,16 +232,14 @@ static void close_it(void *cookie) { leave(cookie); }
 
 /* Opens dsdarc://SIZE/FILTERFILE: SIZE is how long the name of the filter is. */
 static int open_it(void *data, char *name, mpv_stream_cb_info *info) {
-    char *filter, *text, *path = NULL;
-    size_t size, length = strtoul(name + strlen(SCHEME), &filter, 10);
-    stream *it = NULL;
+    char *rest, *filter;
+    size_t length = strtoul(name + strlen(SCHEME), &rest, 10);
+    stream *it;
     (void)data;
-    if (*filter++ != '/' || length > strlen(filter) || !(path = strndup(filter, length))) return MPV_ERROR_LOADING_FAILED;
-    text = text_of(path, &size);
-    if (text) it = opened(filter + length, text, size);
-    free(text);
-    free(path);
-    if (it && !describe(it)) leave(it), it = NULL;
+    if (*rest++ != '/' || length > strlen(rest) || !(filter = strndup(rest, length))) return MPV_ERROR_LOADING_FAILED;
+    it = opened(rest + length);
+    if (it && (choose(it, filter) != DSDARC_OK || !describe(it))) leave(it), it = NULL;
+    free(filter);
     if (!it) return MPV_ERROR_LOADING_FAILED;
     *info = (mpv_stream_cb_info){it, read_bytes, seek_to, size_of, close_it, NULL};
     it->is_elsewhere = 1;
@@ -222,18 +252,6 @@ static void say(mpv_handle *mpv, const char *path, const char *what) {
     if (asprintf(&line, "dsdarc: %s: %s", path, what) < 0) return;
     mpv_command(mpv, (const char *[]){"print-text", line, NULL});
     free(line);
-}
-
-/* The folder of the ready filters. */
-static char *filters(void) {
-    const char *named = getenv("DSDARC_FILTERS"), *slash;
-    Dl_info library;
-    char *folder;
-    if (named) return strdup(named);
-    if (!dladdr((void *)dsdarc_version, &library) || !(slash = strrchr(library.dli_fname, '/')))
-        return strdup("/usr/share/dsdarc/filters");
-    if (asprintf(&folder, "%.*s/../share/dsdarc/filters", (int)(slash - library.dli_fname), library.dli_fname) < 0) return NULL;
-    return folder;
 }
 
 /* Warns of a filter that the index beside it lists for files of other rates. */
@@ -265,25 +283,17 @@ static char *option(mpv_handle *mpv) {
     return found;
 }
 
-/* The path of the filter for a file of a rate, by what is wished for; or NULL. */
-static char *path_for(const char *wishes, uint32_t rate) {
-    char *all = strdup(wishes), *folder = filters(), *place = NULL, *index = NULL, *path = NULL, *rest = NULL, *each;
-    size_t size = 0;
-    if (all && folder && asprintf(&place, "%s/index.txt", folder) >= 0) index = text_of(place, &size);
-    for (each = all ? strtok_r(all, ",", &rest) : NULL; each && !path; each = strtok_r(NULL, ",", &rest)) {
-        dsdarc_wish wish = {.rate_in = rate};
-        char name[4096], more;
-        if (sscanf(each, "%9u/%2u%c", &wish.rate, &wish.width, &more) != 2)
-            path = strdup(each);
-        else if (index && dsdarc_filter_find(index, size, &wish, name, sizeof name) == DSDARC_OK &&
-                 asprintf(&path, "%s/%s", folder, name) < 0)
-            path = NULL;
+/* Chooses the first of several filters that there is: which one; or NULL, and *status says why. */
+static char *chosen(stream *it, const char *wishes, dsdarc_status *status) {
+    char *all = strdup(wishes), *found = NULL, *rest = NULL, *each;
+    *status = all ? DSDARC_NO_FILTER : DSDARC_MEMORY;
+    for (each = all ? strtok_r(all, ",", &rest) : NULL; each && !found; each = strtok_r(NULL, ",", &rest)) {
+        dsdarc_wish wish;
+        if ((*status = choose(it, each)) == DSDARC_OK) found = strdup(each);
+        else if (*status != DSDARC_NO_FILTER || !is_wish(each, &wish)) break;
     }
-    free(index);
-    free(place);
-    free(folder);
     free(all);
-    return path;
+    return found;
 }
 
 /* Whether a file begins as a DSDIFF or DSF file. */
@@ -303,21 +313,21 @@ static void load(mpv_handle *mpv) {
     char *path = mpv_get_property_string(mpv, "stream-open-filename"), *filter = NULL, *name = NULL, *said = option(mpv);
     const char *plain_path = path && strncmp(path, "file://", 7) == 0 ? path + 7 : path;
     const char *wish = said ? said : getenv("DSDARC_FILTER");
-    stream *scout;
+    char what[100];
+    dsdarc_status status;
+    stream *it;
     if (path && is_ours(plain_path)) {
-        if (!(scout = opened(plain_path, plain, sizeof plain - 1))) {
+        if (!(it = opened(plain_path))) {
             say(mpv, plain_path, "the library refuses it: mpv plays it by itself");
-        } else {
-            filter = path_for(wish ? wish : BEST, scout->info.rate_in);
-            if (!filter || access(filter, R_OK) != 0) {
-                say(mpv, plain_path, "there is no such filter for it: mpv plays it by itself");
-            } else if (asprintf(&name, SCHEME "%zu/%s%s", strlen(filter), filter, plain_path) >= 0) {
-                warn_of_rate(mpv, plain_path, filter, scout->info.rate_in);
-                mpv_set_property_string(mpv, "stream-open-filename", name);
-                free(name);
-            }
-            leave(scout);
+        } else if (!(filter = chosen(it, wish ? wish : BEST, &status))) {
+            snprintf(what, sizeof what, "the filter is refused (%s): mpv plays it by itself", dsdarc_status_text(status));
+            say(mpv, plain_path, status == DSDARC_NO_FILTER ? "there is no such filter for it: mpv plays it by itself" : what);
+        } else if (asprintf(&name, SCHEME "%zu/%s%s", strlen(filter), filter, plain_path) >= 0) {
+            warn_of_rate(mpv, plain_path, filter, it->known.rate_in);
+            mpv_set_property_string(mpv, "stream-open-filename", name);
+            free(name);
         }
+        if (it) leave(it);
     }
     free(filter);
     free(said);

@@ -54,17 +54,65 @@ static kept kept_of(dsdarc_player *player, const sound *it, uint32_t after) {
     return from;
 }
 
-/* Counts the marks in a part of a form, and finds the one that has this number. */
-static uint32_t marks_in(kept from, const sound *it, uint64_t wanted, chunk *found) {
-    uint64_t place = first_chunk(from, it), inner;
+/* Where the next mark of a form is looked for: first among the bytes before its sound, then among those after it. In
+ * these a chunk DIIN comes next at `place`, and in the last one that was found a mark at `inner`. */
+typedef struct search {
+    dsdarc_player *player;
+    const sound *it;
+    kept from;
+    uint64_t place, inner, stop;
+} search;
+
+/* The head of a mark: its place and what else it says but its title. */
+enum { MARK_HEAD = 22 };
+
+static search begin_search(dsdarc_player *player, const sound *it, uint32_t after) {
+    search left = {player, it, kept_of(player, it, after), 0, 0, 0};
+    left.place = first_chunk(left.from, it);
+    return left;
+}
+
+/* Finds the next mark whose head is there; *found is its chunk. */
+static int next_mark(search *left, chunk *found, uint8_t *head) {
+    chunk outer;
+    for (;;) {
+        while (next_chunk(left->from, &left->inner, left->stop, found)) {
+            uint64_t most = found->data < left->stop ? left->stop - found->data : 0;
+            if (found->size > most) found->size = most;
+            if (is_named(found, "MARK") && found->size >= MARK_HEAD &&
+                take(left->from, found->data, head, MARK_HEAD) == MARK_HEAD)
+                return 1;
+        }
+        left->inner = left->stop = 0;
+        if (next_chunk(left->from, &left->place, UINT64_MAX, &outer)) {
+            if (is_named(&outer, "DIIN")) left->inner = outer.data, left->stop = outer.data + outer.size;
+        } else {
+            if (left->from.after) return 0;
+            *left = begin_search(left->player, left->it, 1);
+        }
+    }
+}
+
+static dsdarc_mark mark_of(const search *left, const chunk *found, const uint8_t *head) {
+    dsdarc_mark mark;
+    uint64_t length = high_first(head + 18, 4);
+    memset(&mark, 0, sizeof mark);
+    mark.place = (int64_t)(((high_first(head, 2) * 60 + head[2]) * 60 + head[3]) * left->it->rate + high_first(head + 4, 4)) +
+                 (int32_t)(uint32_t)high_first(head + 8, 4);
+    mark.type = (uint32_t)high_first(head + 12, 2);
+    mark.channel = (uint32_t)high_first(head + 14, 2);
+    mark.flags = (uint32_t)high_first(head + 16, 2);
+    mark.length = (uint32_t)(length < found->size - MARK_HEAD ? length : found->size - MARK_HEAD);
+    mark.title = left->from.at + found->data + MARK_HEAD;
+    return mark;
+}
+
+static uint32_t count_marks(dsdarc_player *player, const sound *it) {
+    search left = begin_search(player, it, 0);
+    uint8_t head[MARK_HEAD];
     uint32_t count = 0;
-    chunk outer, mark;
-    while (next_chunk(from, &place, UINT64_MAX, &outer))
-        if (is_named(&outer, "DIIN"))
-            for (inner = outer.data; next_chunk(from, &inner, outer.data + outer.size, &mark);)
-                if (is_named(&mark, "MARK") && mark.size >= 22) {
-                    if (count++ == wanted && found) *found = mark;
-                }
+    chunk found;
+    while (next_mark(&left, &found, head)) count++;
     return count;
 }
 
@@ -86,7 +134,8 @@ static void describe_blocks(kept header, dsdarc_description *out) {
     uint64_t total, tag;
     if (take(header, 0, head, sizeof head) < sizeof head) return;
     total = low_first(head + 12, 8), tag = low_first(head + 20, 8);
-    if (tag > 0 && tag < total) out->tag = tag, out->tag_size = total - tag;
+    /* A tag goes to the end of its file, also where the header states another size of the file. */
+    if (tag > 0) out->tag = tag, out->tag_size = tag < total ? total - tag : 0;
     out->type = (uint32_t)low_first(head + 48, 4);
     dsdarc_channel_mask(head, sizeof head, &out->mask);
 }
@@ -128,7 +177,7 @@ dsdarc_status dsdarc_player_describe(dsdarc_player *player, dsdarc_description *
         kept before = kept_of(player, &it, 0), after = kept_of(player, &it, 1);
         describe_channels(before, &it, &out);
         if (!tag_in(before, &it, &out)) tag_in(after, &it, &out);
-        out.marks = marks_in(before, &it, UINT64_MAX, NULL) + marks_in(after, &it, UINT64_MAX, NULL);
+        out.marks = count_marks(player, &it);
     }
     if (size > sizeof out) memset((char *)description + sizeof out, 0, size - sizeof out);
     memcpy(description, &out, size < sizeof out ? size : sizeof out);
@@ -137,34 +186,41 @@ dsdarc_status dsdarc_player_describe(dsdarc_player *player, dsdarc_description *
 
 dsdarc_status dsdarc_player_mark(dsdarc_player *player, uint32_t index, dsdarc_mark *mark, char *title, size_t room) {
     dsdarc_status status;
-    uint8_t head[22];
-    uint32_t before;
-    uint64_t length;
+    uint8_t head[MARK_HEAD];
+    uint32_t number = 0;
+    search left;
     chunk found;
-    kept from;
     sound it;
     if (!player || !mark || (!title && room > 0)) return DSDARC_NULL;
     status = (dsdarc_status)dsdarc_c_sound(handle_of(player), &it);
     if (status != DSDARC_OK) return status;
     if (it.blocks) return DSDARC_NO_MARK;
-    from = kept_of(player, &it, 0);
-    before = marks_in(from, &it, index, &found);
-    if (index >= before) {
-        from = kept_of(player, &it, 1);
-        if (index - before >= marks_in(from, &it, index - before, &found)) return DSDARC_NO_MARK;
-    }
-    if (take(from, found.data, head, sizeof head) < sizeof head) return DSDARC_NO_MARK;
-    mark->place = (int64_t)(((high_first(head, 2) * 60 + head[2]) * 60 + head[3]) * it.rate + high_first(head + 4, 4)) +
-                  (int32_t)(uint32_t)high_first(head + 8, 4);
-    mark->type = (uint32_t)high_first(head + 12, 2);
-    mark->channel = (uint32_t)high_first(head + 14, 2);
-    mark->flags = (uint32_t)high_first(head + 16, 2);
-    length = high_first(head + 18, 4);
-    if (length > found.size - 22) length = found.size - 22;
-    mark->length = (uint32_t)length;
+    left = begin_search(player, &it, 0);
+    do {
+        if (!next_mark(&left, &found, head)) return DSDARC_NO_MARK;
+    } while (number++ < index);
+    *mark = mark_of(&left, &found, head);
     if (room > 0) {
-        size_t count = length < room - 1 ? (size_t)length : room - 1;
-        title[take(from, found.data + 22, title, count)] = 0;
+        size_t count = mark->length < room - 1 ? mark->length : room - 1;
+        title[take(left.from, found.data + MARK_HEAD, title, count)] = 0;
+    }
+    return DSDARC_OK;
+}
+
+dsdarc_status dsdarc_player_marks(dsdarc_player *player, uint32_t index, dsdarc_mark *marks, size_t room, size_t *count) {
+    dsdarc_status status;
+    uint8_t head[MARK_HEAD];
+    search left;
+    chunk found;
+    sound it;
+    if (!player || !count || (!marks && room > 0)) return DSDARC_NULL;
+    *count = 0;
+    status = (dsdarc_status)dsdarc_c_sound(handle_of(player), &it);
+    if (status != DSDARC_OK || it.blocks) return status;
+    left = begin_search(player, &it, 0);
+    while (*count < room && next_mark(&left, &found, head)) {
+        if (index > 0) index--;
+        else marks[(*count)++] = mark_of(&left, &found, head);
     }
     return DSDARC_OK;
 }

@@ -52,6 +52,22 @@ dsdarc_status dsdarc_player_new_empty(dsdarc_player **player) {
     return status;
 }
 
+dsdarc_status dsdarc_player_new_joined(dsdarc_player **player) {
+    uint8_t *made = NULL;
+    dsdarc_status status;
+    if (!player) return DSDARC_NULL;
+    *player = NULL;
+    if (!runs_here()) return DSDARC_PROCESSOR;
+    status = (dsdarc_status)dsdarc_c_new_joined(&made);
+    if (status == DSDARC_OK) *player = (dsdarc_player *)made;
+    return status;
+}
+
+dsdarc_status dsdarc_player_next(dsdarc_player *player) {
+    if (!player) return DSDARC_NULL;
+    return (dsdarc_status)dsdarc_c_next(handle_of(player));
+}
+
 dsdarc_status dsdarc_player_filter(dsdarc_player *player, const void *project, size_t size) {
     if (!player || (!project && size > 0)) return DSDARC_NULL;
     if (size > most) return DSDARC_SIZE;
@@ -100,7 +116,7 @@ const char *dsdarc_status_text(dsdarc_status status) {
         "Ok",          "Null",           "Size",      "Memory",       "AfterFault", "NotYet",     "PastEnd",
         "FileRefused", "RateNotDivided", "TooLong",   "NoDecimation", "NotToml",    "UnknownKey", "MissingKey",
         "WrongKind",   "OutOfLimit",     "NoTake",    "ShortCue",     "LastBridge", "Processor",  "TooMuchHeld",
-        "NoFilter",    "NoChoice",   "Chosen",    "NoMark",
+        "NoFilter",    "NoChoice",       "Chosen",    "NoMark",       "NotJoined",  "NoSeek",
     };
     const char *text = (unsigned)status < sizeof texts / sizeof *texts ? texts[status] : NULL;
     return text ? text : "Unknown";

@@ -82,7 +82,9 @@ typedef enum dsdarc_status {
     DSDARC_NO_FILTER = 21,     /* there is no such ready filter */
     DSDARC_NO_CHOICE = 22,     /* how the sound is given must be chosen first */
     DSDARC_CHOSEN = 23,        /* how the sound is given was chosen before */
-    DSDARC_NO_MARK = 24        /* there is no such mark */
+    DSDARC_NO_MARK = 24,       /* there is no such mark */
+    DSDARC_NOT_JOINED = 25,    /* the file can't be joined to those before it; or the player joins no files */
+    DSDARC_NO_SEEK = 26        /* a player that joins files doesn't seek */
 } dsdarc_status;
 
 /* How samples are written. In the planar formats the samples of a channel come one after the other, and not those of a
@@ -123,6 +125,36 @@ DSDARC_API dsdarc_status dsdarc_player_new(const void *project, size_t size, dsd
  * that, dsdarc_player_describe reports what the file holds. A player that was made with a filter has its choice. */
 DSDARC_API dsdarc_status dsdarc_player_new_empty(dsdarc_player **player);
 
+/* Makes a player of files that follow each other, such as the tracks of an album. It gives the bits of the recording that
+ * they make one after the other: nothing is put between them, and DoP markers go on alternating.
+ *
+ *     dsdarc_player_new_joined(&player);
+ *     for each file: if it isn't the first, dsdarc_player_next(player);
+ *                    push its bytes, and pull what is due
+ *     dsdarc_player_end(player), and pull the last frames
+ *
+ * How the bits are given is chosen once, where the sound of the first file starts (DSDARC_NO_CHOICE): by
+ * dsdarc_player_bits or dsdarc_player_dop. dsdarc_player_filter and dsdarc_player_filter_ready return DSDARC_NOT_JOINED.
+ * What was pulled is always a prefix of the frames of the joined recording: of the bits of the first file, then those of
+ * the second one, and so on. The last frames of a file come with bits of the next one, and after the last file once
+ * dsdarc_player_end was called.
+ *
+ * Files are joined if they have the same rate and channels and each ends on a whole byte. Where the sound of one starts
+ * that can't be joined, dsdarc_player_push returns DSDARC_NOT_JOINED; for the first one the choice does. Nothing has
+ * changed then: dsdarc_player_end ends the recording with the file before, whose last frames can be pulled; use another
+ * player for this file. DSDARC_TOO_LONG says the same of a recording of 2^36 bits of each channel or more (6.7 hours at
+ * 2.8 MHz). A later file whose header is refused is left out: the player is as before its first byte.
+ *
+ * dsdarc_player_info reports the frames of the recording up to the end of the last file whose sound started. A seek
+ * returns DSDARC_NO_SEEK. */
+DSDARC_API dsdarc_status dsdarc_player_new_joined(dsdarc_player **player);
+
+/* Says that the file ends here, and that the bytes of the next one are pushed from here on. The status says whether the
+ * file holds a recording, as that of dsdarc_player_end does; a file whose sound has not started is left out. Call it once
+ * all bytes of the file were pushed. Frames that wait can still be pulled. Before the choice it returns DSDARC_NO_CHOICE,
+ * and after the end, or for a player that dsdarc_player_new_joined didn't make, DSDARC_NOT_JOINED: these change nothing. */
+DSDARC_API dsdarc_status dsdarc_player_next(dsdarc_player *player);
+
 /* Chooses a filter: what follows is as with dsdarc_player_new. Each of these four calls returns DSDARC_NOT_YET before
  * the sound is known, and DSDARC_CHOSEN after another choice. Then, and after a text that is refused or a filter that
  * doesn't divide the file's rate (DSDARC_RATE_NOT_DIVIDED), nothing has changed, so that another choice can be made. */
@@ -160,7 +192,9 @@ DSDARC_API dsdarc_status dsdarc_player_pull(dsdarc_player *player, void *pcm, si
 
 /* Tells the player that the file ends here. The status says whether the file holds a recording, as `dsdarc play`
  * decides it: a DSDIFF form must be whole, and the tag of a DSF file must be where its header says. Frames that wait
- * can still be pulled. DSDARC_OK changes nothing: the caller may still push and seek. */
+ * can still be pulled. DSDARC_OK changes nothing: the caller may still push and seek. A player that joins files ends the
+ * recording: the last frames can be pulled then, and a push returns DSDARC_NOT_JOINED. Where the sound of a file after
+ * the first has not started, the recording ends with the file before, and DSDARC_OK is returned. */
 DSDARC_API dsdarc_status dsdarc_player_end(dsdarc_player *player);
 
 /* Goes to a frame, from 0 to the number of frames, once the sound is known. *offset is the byte of the file from
@@ -173,7 +207,7 @@ typedef struct dsdarc_description {
     uint64_t bits;     /* how many bits each channel has */
     uint64_t frames;   /* how many frames there are; 0 before the choice */
     uint64_t tag;      /* the byte of the file at which an ID3 tag starts; 0 if none is known */
-    uint64_t tag_size; /* its bytes */
+    uint64_t tag_size; /* its bytes; of a DSF file as its header says, whose tag goes to the end of the file */
     uint32_t rate_in;  /* hertz: the sample rate of the file */
     uint32_t rate;     /* hertz: the sample rate of the frames; 0 before the choice */
     uint32_t width;    /* bits of a sample: 8, 16 or 24; 0 before the choice */
@@ -197,12 +231,18 @@ typedef struct dsdarc_mark {
     uint32_t channel; /* 0 for all channels, otherwise the channel, from 1 on */
     uint32_t flags;   /* its TrackFlags */
     uint32_t length;  /* bytes of its title */
+    uint64_t title;   /* the byte of the file at which its title starts */
 } dsdarc_mark;
 
 /* Reports a mark, from 0 on in the order of the file, among those that are known. `title` gets its title, cut off to
  * room - 1 bytes, with a zero after it; it may be NULL if room is 0. DSDARC_NO_MARK is returned if there is none. */
 DSDARC_API dsdarc_status dsdarc_player_mark(dsdarc_player *player, uint32_t index, dsdarc_mark *mark, char *title,
                                             size_t room);
+
+/* Reports the marks from one on, at most `room` of them; *count says how many. Of many marks it is faster than a call for
+ * each, which looks through those before it. For a DSF file *count is 0. */
+DSDARC_API dsdarc_status dsdarc_player_marks(dsdarc_player *player, uint32_t index, dsdarc_mark *marks, size_t room,
+                                             size_t *count);
 
 /* Frees a player. NULL is ignored. */
 DSDARC_API void dsdarc_player_drop(dsdarc_player *player);

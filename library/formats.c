@@ -32,10 +32,13 @@ static void spread(const void *from, size_t count, size_t size, uint8_t *to, siz
                    size_t stride) {
     const uint8_t *at = from;
     size_t frame, channel;
+    if (stride == 0) {
+        memcpy(to + first * info->channels * size, from, count * info->channels * size);
+        return;
+    }
     for (frame = 0; frame < count; frame++)
         for (channel = 0; channel < info->channels; channel++, at += size)
-            memcpy(to + (stride ? channel * stride + first + frame : (first + frame) * info->channels + channel) * size,
-                   at, size);
+            memcpy(to + (channel * stride + first + frame) * size, at, size);
 }
 
 static void to_floats(int32_t *values, size_t count, uint32_t width) {

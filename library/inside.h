@@ -17,6 +17,8 @@ typedef struct sound {
 
 uint32_t dsdarc_c_new(const uint8_t *project, size_t size, uint8_t **out);
 uint32_t dsdarc_c_new_bare(uint8_t **out);
+uint32_t dsdarc_c_new_joined(uint8_t **out);
+uint32_t dsdarc_c_next(handle);
 uint32_t dsdarc_c_filter(handle, const uint8_t *project, size_t size);
 uint32_t dsdarc_c_bits(handle, uint32_t layout);
 uint32_t dsdarc_c_push(handle, const uint8_t *bytes, size_t size, size_t *taken);

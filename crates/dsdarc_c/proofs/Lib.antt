@@ -3,6 +3,8 @@ pub mod BareEndLaws
 pub mod BareTakingLaws
 pub mod BareLaws
 pub mod HandleSteps
+pub mod JoinedLaws
+pub mod JoinedStatusLaws
 pub mod PlayLaws
 pub mod KeepLaws
 pub mod WholeLaws

@@ -12,11 +12,6 @@ use Rattle.dsdarc_c.specs.declared.fault.PlayFault.TheVariants as faults
 use Rattle.dsdarc_c.specs.declared.pushing.Pushing.{Pushing}
 use Rattle.dsdarc_c.specs.declared.pushing.Stage.TheVariants as stages
 
--- what is done, or why a call is refused, may be said by less
-pub means_less : {A B : Type 0} {F G : PlayFault → Type 0} (status : ℕ) → (A → B) → ((fault : PlayFault) → F fault → G fault) → StatusMeans A F status → StatusMeans B G status
-means_less status done refused (inl (zero, is)) = inl (zero, done is)
-means_less status done refused (inr (fault, of, is)) = inr (fault, of, refused fault is)
-
 -- the status of an outcome means what holds of the outcome
 pub means_outcome : {T : Type 0} (Done : Type 0) (Refused : PlayFault → Type 0) (status : ℕ) (r : Result T PlayFault) → MatchResult r (λ x. status ≡ 0) (λ fault. status ≡ status_of fault) → MatchResult r (λ x. Done) Refused → StatusMeans Done Refused status
 means_outcome Done Refused status (Ok x) is done = inl (is, done)

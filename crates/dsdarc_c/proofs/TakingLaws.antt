@@ -39,6 +39,8 @@ refuses_header p bytes piece fault is cut refuses = by fault (subst (λ xs. Refu
     by faults.PastEnd refused = absurd refused
     by faults.NoChoice refused = absurd refused
     by faults.Chosen refused = absurd refused
+    by faults.NotJoined refused = absurd refused
+    by faults.NoSeek refused = absurd refused
     by faults.Memory refused = tt
 
 pub refused_err : (p : Pushing) (bytes piece : List ℕ) (r : Result ℕ PlayFault) → IsInHeader p.stage → piece ≡ take 65536 bytes → IfErr r (RefusesHeader p.taps (p.header.items ++ piece)) → IfErr r (RefusesPush p bytes)
@@ -60,6 +62,8 @@ refuses_after p bytes piece s back fault is cut refuses = by fault (subst (λ xs
     by faults.PastEnd refused = absurd refused
     by faults.NoChoice refused = absurd refused
     by faults.Chosen refused = absurd refused
+    by faults.NotJoined refused = absurd refused
+    by faults.NoSeek refused = absurd refused
 
 pub after_err : (p : Pushing) (bytes piece : List ℕ) (s : Sound) (back : Vec ℕ Global) (r : Result ℕ PlayFault) → p.stage ≡ stages.After s back → piece ≡ take 65536 bytes → IfErr r (RefusesAfter p.header.items s back.items piece) → IfErr r (RefusesPush p bytes)
 after_err p bytes piece s back (Ok n) is cut refuses = tt

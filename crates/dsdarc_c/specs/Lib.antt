@@ -6,6 +6,10 @@ pub mod BareWhole
 pub mod Calls
 pub mod Ending
 pub mod Headers
+pub mod Joined
+pub mod JoinedCalls
+pub mod JoinedMoves
+pub mod JoinedWhole
 pub mod Making
 pub mod Numbers
 pub mod Players

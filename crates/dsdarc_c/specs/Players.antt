@@ -4,31 +4,36 @@ use Rattle.dsd_bits.specs.declared.sound.Sound.{Sound}
 use Rattle.native_core.specs.declared.layout.Layout.{Layout}
 use Rattle.dsdarc_c.specs.Bare.{bare_waiting}
 use Rattle.dsdarc_c.specs.BareMoves.{IsFiltered}
+use Rattle.dsdarc_c.specs.Joined.{joined_waiting}
 use Rattle.dsdarc_c.specs.Numbers.{AreSamplesIn, AreWholeSamples, first_samples}
 use Rattle.dsdarc_c.specs.Whole.{WaitsWhole, waiting}
 use Rattle.dsdarc_c.specs.declared.bare.Bare.{Bare}
 use Rattle.dsdarc_c.specs.declared.bare.BareStage.{BareStage}
 use Rattle.dsdarc_c.specs.declared.bare.BareStage.TheVariants as bare
+use Rattle.dsdarc_c.specs.declared.joined.Joined.{Joined}
 use Rattle.dsdarc_c.specs.declared.player.Player.{Player}
 use Rattle.dsdarc_c.specs.declared.player.Player.TheVariants as players
 use Rattle.dsdarc_c.specs.declared.pushing.Pushing.{Pushing}
 use Rattle.dsdarc_c.specs.declared.pushing.Stage.{Stage}
 use Rattle.dsdarc_c.specs.declared.pushing.Stage.TheVariants as stages
 
--- what holds of the player with a filter, or of the one without
-abbrev pub ByKind : Player → (Pushing → Type 0) → (Bare → Type 0) → Type 0
-ByKind (players.Frames p) P Q = P p
-ByKind (players.Bits p) P Q = Q p
+-- what holds of the player with a filter, of the one without, or of the one of files that follow each other
+abbrev pub ByKind : Player → (Pushing → Type 0) → (Bare → Type 0) → (Joined → Type 0) → Type 0
+ByKind (players.Frames p) P Q R = P p
+ByKind (players.Bits p) P Q R = Q p
+ByKind (players.Joined p) P Q R = R p
 
 -- the sound that is kept as stated
 abbrev pub stated_of : Player → Option Sound
 stated_of (players.Frames p) = p.stated
 stated_of (players.Bits p) = p.stated
+stated_of (players.Joined p) = p.bare.stated
 
 -- the bytes of frames that can be pulled
 abbrev pub waits_of : Player → List ℕ
 waits_of (players.Frames p) = waiting p
 waits_of (players.Bits p) = bare_waiting p
+waits_of (players.Joined p) = joined_waiting p
 
 -- the bytes that are kept after the sound
 abbrev pub back_of : Stage → List ℕ
@@ -46,16 +51,20 @@ kept_of (players.Frames p) false = p.header.items
 kept_of (players.Frames p) true = back_of p.stage
 kept_of (players.Bits p) false = p.header.items
 kept_of (players.Bits p) true = bare_back_of p.stage
+kept_of (players.Joined p) false = p.bare.header.items
+kept_of (players.Joined p) true = bare_back_of p.bare.stage
 
 -- the player gives bits in this layout
 abbrev pub IsLaidOut : Player → Layout → Type 0
 IsLaidOut (players.Frames p) layout = ⊥
 IsLaidOut (players.Bits p) layout = p.layout ≡ layout
+IsLaidOut (players.Joined p) layout = ⊥
 
 -- the player has the filter that the project text states, and goes on with the file of the one before
 abbrev pub HasFilterOf : Player → Bare → List ℕ → Type 0
 HasFilterOf (players.Frames p) old text = IsFiltered old text p
 HasFilterOf (players.Bits p) old text = ⊥
+HasFilterOf (players.Joined p) old text = ⊥
 
 -- n numbers were given, as many as fit of those that wait whole: the samples that the first of the waiting bytes hold; if
 -- whole frames wait and fit, the samples of whole frames

@@ -15,6 +15,8 @@ status_of faults.TooLong = 9
 status_of faults.TooMuchHeld = 20
 status_of faults.NoChoice = 22
 status_of faults.Chosen = 23
+status_of faults.NotJoined = 25
+status_of faults.NoSeek = 26
 
 -- the status is 0 and this is done, or it is that of a fault for which the call is refused
 abbrev pub StatusMeans : Type 0 → (PlayFault → Type 0) → ℕ → Type 0

@@ -3,6 +3,7 @@
 ghost use Rattle.std.specs.Prelude.{◌≡◌, [], None, List, ℕ};
 ghost use Rattle.dsdarc_c.specs.Bare.{IsBare, bare_waiting};
 ghost use Rattle.dsdarc_c.specs.BareWhole.{PlaysBits};
+ghost use Rattle.dsdarc_c.specs.Joined.{own_layout};
 
 use dsd_bits::{BitOrder, Sound};
 use native_core::{BitRun, Layout};
@@ -51,6 +52,8 @@ impl Bare {
         ensures place { result.place ≡ 0 }
         ensures stated { result.stated ≡ None }
         ensures waits { bare_waiting result ≡ [] }
+        ensures stage { result.stage ≡ BareStage.Header 16 }
+        ensures layout { result.layout ≡ own_layout }
     {
         Bare {
             layout: Layout::Bytes(BitOrder::MostFirst),

@@ -1,11 +1,13 @@
 //! Chooses how a sound is given, and goes to a frame of its bits.
 
 ghost use Rattle.std.specs.Prelude.{◌≡◌, ◌≢◌, ◌+◌, ◌≤◌, ◌⊎◌, [], List, ℕ, IfErr, IfOk, MatchResult, OnOk, Ok, Some, length};
+ghost use Rattle.dsd_bits.specs.declared.sound.Sound.{Sound};
 ghost use Rattle.fir_core.specs.Decimator.{Decimator};
 ghost use Rattle.native_core.specs.declared.layout.Layout.{Layout};
 ghost use Rattle.dsdarc_c.specs.Bare.{IsBare, bare_waiting};
 ghost use Rattle.dsdarc_c.specs.BareCalls.{GoesToBits, RefusesBareSeek, RefusesChoice, RefusesFilter};
 ghost use Rattle.dsdarc_c.specs.BareWhole.{PlaysBits};
+ghost use Rattle.dsdarc_c.specs.Joined.{IsNotOpen, IsOwn};
 ghost use Rattle.dsdarc_c.specs.Pushing.{IsPushedHeader, IsPushing};
 ghost use Rattle.dsdarc_c.specs.Whole.{BeginsWith, PlaysPushedFile};
 
@@ -31,9 +33,11 @@ pub(crate) fn choose(alloc: Global, p: &mut Bare, layout: Layout) -> Result<(), 
         → OnOk result (PlaysBits file 0 [] p.new) }
     ensures chosen { OnOk result ((p.new.layout ≡ layout) × (p.new.place ≡ p.old.place) × (p.new.stated ≡ p.old.stated)) }
     ensures goes_on { OnOk result (p.new.stage ≢ BareStage.Failed) }
+    ensures own { (sound : Sound) → p.old.stage ≡ BareStage.Open sound → OnOk result (IsOwn p.new.stage sound) }
     ensures refused { IfErr result (RefusesChoice p.old layout) }
     // But for memory, a refusal changes nothing.
     ensures same { IfErr result (λ fault. (fault ≡ PlayFault.Memory) ⊎ (p.new ≡ p.old)) }
+    ensures layout { (p.new.layout ≡ p.old.layout) ⊎ (p.new.layout ≡ layout) }
 {
     let sound = open_sound(p)?;
     if !divides(layout, sound.rate) {
@@ -44,18 +48,19 @@ pub(crate) fn choose(alloc: Global, p: &mut Bare, layout: Layout) -> Result<(), 
     Ok(())
 }
 
-// Whether a layout has whole frames in a second.
-fn divides(layout: Layout, rate: u32) -> bool {
+/// Whether a layout has whole frames in a second.
+pub(crate) fn divides(layout: Layout, rate: u32) -> bool {
     match layout {
         Layout::Bytes(_) => true,
         Layout::Dop => rate % 16 == 0,
     }
 }
 
-// The sound that comes next, before the choice.
-fn open_sound(p: &Bare) -> Result<Sound, PlayFault>
+/// The sound that comes next, before the choice.
+pub(crate) fn open_sound(p: &Bare) -> Result<Sound, PlayFault>
     requires { IsBare p.now }
     ensures open { IfOk result (λ sound. p.now.stage ≡ BareStage.Open sound) }
+    ensures closed { IfErr result (λ _. IsNotOpen p.now.stage) }
     ensures header { IfOk result (IsPushedHeader p.now.header.items) }
     ensures known { IfOk result (λ sound. p.now.stated ≡ Some sound) }
     ensures place { IfOk result (λ sound. p.now.place ≡ sound.start) }

@@ -5,6 +5,7 @@ ghost use Rattle.native_core.specs.Runs.{IsGiven, total_frames};
 ghost use Rattle.native_core.specs.declared.layout.Layout.{Layout};
 ghost use Rattle.dsdarc_c.specs.Bare.{IsAtBareStage, IsBare, IsRunAt, IsRunOrDone, KeepsBareSound, MakesNone, bare_waiting};
 ghost use Rattle.dsdarc_c.specs.BareWhole.{PlaysBareStage, PlaysBits, PlaysRun, PlaysRunOrAll};
+ghost use Rattle.dsdarc_c.specs.Joined.{IsOwn};
 ghost use Rattle.dsdarc_c.specs.Pushing.{IsPushedHeader};
 ghost use Rattle.dsdarc_c.specs.Whole.{BeginsWith, HasAt};
 
@@ -35,6 +36,7 @@ pub(crate) fn push_run(
     ensures goes_on { IfOk result (λ _. p.new.stage ≢ BareStage.Failed) }
     ensures failed { IfErr result (λ _. (p.new.stage ≡ BareStage.Failed) × (bare_waiting p.new ≡ [])) }
     ensures memory { IfErr result (λ fault. fault ≡ PlayFault.Memory) }
+    ensures own { IfOk result (λ _. IsOwn p.new.stage sound) }
     ensures stated { p.new.stated ≡ p.old.stated }
     ensures layout { p.new.layout ≡ p.old.layout }
 {
@@ -58,6 +60,7 @@ pub(crate) fn push_run(
 // The stage after a piece of a sound: the run that goes on, or the sound's end.
 fn next_stage(alloc: Global, sound: Sound, next: Option<BitRun>) -> BareStage
     ensures goes_on { result ≢ BareStage.Failed }
+    ensures own { IsOwn result sound }
     ensures known { (kept : Option Sound) → kept ≡ Some sound → KeepsBareSound result kept }
     ensures none { (pending : List ℕ) → MakesNone result pending }
     ensures keeps { (layout : Layout) (header : List ℕ) (place : ℕ) → IsPushedHeader header sound
@@ -91,6 +94,7 @@ pub(crate) fn start_run(
     ensures place { IfOk result (λ place. p.new.place ≡ place) }
     ensures within { IfOk result (λ place. (sound.start ≤ place) × (place ≤ sound.start + sound.size)) }
     ensures first { frame ≡ 0 → IfOk result (λ place. place ≡ sound.start) }
+    ensures own { IfOk result (λ _. IsOwn p.new.stage sound) }
     ensures stated { p.new.stated ≡ p.old.stated }
     ensures layout { p.new.layout ≡ p.old.layout }
 {

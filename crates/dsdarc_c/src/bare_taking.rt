@@ -4,6 +4,7 @@ ghost use Rattle.std.specs.Prelude.{◌≡◌, ◌≢◌, ◌+◌, ◌<◌, ◌�
 ghost use Rattle.dsdarc_c.specs.Bare.{IsBare, bare_waiting};
 ghost use Rattle.dsdarc_c.specs.BareCalls.{RefusesBare, RefusesBareHeader, TakesBare, TakesBareHeader};
 ghost use Rattle.dsdarc_c.specs.BareWhole.{PlaysAllBits, PlaysBits};
+ghost use Rattle.dsdarc_c.specs.Joined.{IfOwn, IsNotOwn, IsOwn};
 ghost use Rattle.dsdarc_c.specs.Pushing.{IsAfterSound, IsHeaderSoFar};
 ghost use Rattle.dsdarc_c.specs.Taking.{RefusesAfter, TakesAfter};
 ghost use Rattle.dsdarc_c.specs.Whole.{BeginsWith, HasAt};
@@ -38,6 +39,10 @@ pub(crate) fn push_bare(alloc: Global, p: &mut Bare, bytes: &[u8]) -> Result<usi
     // Before the choice nothing is taken where the sound starts.
     ensures open { (sound : Sound) → p.old.stage ≡ BareStage.Open sound → p.old.pulled ≡ length p.old.pending.items
         → (p.new ≡ p.old) × (result ≡ Err PlayFault.NoChoice) }
+    // Before the choice the sound doesn't start.
+    ensures before { (walked : ℕ) → p.old.stage ≡ BareStage.Header walked → IsNotOwn p.new.stage }
+    // A sound that has started goes on.
+    ensures own { IfOwn p.old.stage (λ sound. IfOk result (λ _. IsOwn p.new.stage sound)) }
     ensures layout { p.new.layout ≡ p.old.layout }
 {
     if p.pulled < p.pending.len() {
@@ -77,6 +82,7 @@ fn push_bare_header(
     ensures keeps { IsBare p.new }
     ensures takes { IfOk result (TakesBareHeader p.old.header.items piece.now) }
     ensures refused { IfErr result (RefusesBareHeader (p.old.header.items ++ piece.now)) }
+    ensures before { IsNotOwn p.new.stage }
     ensures plays { (file : List ℕ) → BeginsWith file p.old.header.items → HasAt file p.old.place piece.now
         → PlaysBits file 0 [] p.new }
     ensures place { IfOk result (λ n. p.new.place ≡ p.old.place + n) }
@@ -131,6 +137,7 @@ fn push_bare_after(
     ensures plays { (file : List ℕ) (start : ℕ) (pulled : List ℕ) → PlaysAllBits p.old.layout file start
         (pulled ++ bare_waiting p.old) p.old.header.items p.old.place sound back.items → HasAt file p.old.place piece.now → PlaysBits file start pulled p.new }
     ensures refused { IfErr result (RefusesAfter p.old.header.items sound back.items piece.now) }
+    ensures own { IfOk result (λ _. IsOwn p.new.stage sound) }
     ensures place { IfOk result (λ n. p.new.place ≡ p.old.place + n) }
     ensures layout { p.new.layout ≡ p.old.layout }
 {

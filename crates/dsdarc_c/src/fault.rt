@@ -26,6 +26,10 @@ pub enum PlayFault {
     NoChoice,
     /// It was chosen before how the sound is given.
     Chosen,
+    /// The file can't be joined to those before it.
+    NotJoined,
+    /// A player of files that follow each other doesn't seek.
+    NoSeek,
     /// Out of memory.
     Memory,
 }

@@ -119,8 +119,8 @@ fn bits_info_of(p: &Bare) -> Result<Info, PlayFault>
     }
 }
 
-// How many bits a sample has.
-fn width_of(layout: Layout) -> u32
+/// How many bits a sample has.
+pub(crate) fn width_of(layout: Layout) -> u32
     ensures { result ≡ width_of layout }
 {
     match layout {

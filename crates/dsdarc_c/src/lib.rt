@@ -12,6 +12,7 @@ ghost use Rattle.dsdarc_c.specs.BareCalls.{AcceptsBareEnd, GoesToBits, RefusesBa
 ghost use Rattle.dsdarc_c.specs.BareMoves.{RefusesFiltered, RefusesLayout};
 ghost use Rattle.dsdarc_c.specs.BareReporting.{AreCopied, RefusesBitsInfo, RefusesStated, ReportsBits, ReportsStated, layout_of};
 ghost use Rattle.dsdarc_c.specs.Ending.{AcceptsEnd, RefusesEnd};
+ghost use Rattle.dsdarc_c.specs.JoinedCalls.{AcceptsEndAt, AcceptsNextAt, RefusesEndAt, RefusesJoined, RefusesJoinedInfo, RefusesJoinedLayout, RefusesNextAt, ReportsJoined, TakesJoined};
 ghost use Rattle.dsdarc_c.specs.Making.{IsStatusOfProject};
 ghost use Rattle.dsdarc_c.specs.Players.{ByKind, GivesNumbers, kept_of, stated_of, waits_of};
 ghost use Rattle.dsdarc_c.specs.Pushing.{AreWholeFrames};
@@ -35,6 +36,12 @@ mod fault;
 mod handle;
 mod headers;
 mod info;
+mod joined;
+mod joined_choosing;
+mod joined_content;
+mod joined_ending;
+mod joined_pulling;
+mod joined_taking;
 mod player;
 mod playing;
 mod pulling;
@@ -49,6 +56,7 @@ use crate::bare_content::BarePlayer;
 use crate::content::PushPlayer;
 use crate::handle::{Handle, hand_over, into_box, player_of};
 use crate::info::{Info, SoundInfo};
+use crate::joined_content::JoinedPlayer;
 use crate::player::{Player, boxed};
 use crate::status::size_refused;
 use dsd_bits::BitOrder;
@@ -82,6 +90,18 @@ pub extern "C" fn dsdarc_c_new_bare(alloc: Global, out: &mut *mut u8) -> u32
     hand_over(boxed(alloc, Player::Bits(player)), out)
 }
 
+/// A player of files that follow each other, before the first byte of the first one: `out` has its pointer then.
+#[unsafe(no_mangle)]
+pub extern "C" fn dsdarc_c_new_joined(alloc: Global, out: &mut *mut u8) -> u32
+    // 0 says that a player is made, and 3 that memory ran out; `out` is as it was then.
+    ensures status { (result ≡ 0) ⊎ (result ≡ 3) }
+    ensures same { result ≢ 0 → out.new ≡ out.old }
+    ensures pointer { result ≡ 0 → InBlock out.new }
+{
+    let player = JoinedPlayer::new(alloc);
+    hand_over(boxed(alloc, Player::Joined(player)), out)
+}
+
 /// Takes bytes of the file: `taken` says how many.
 #[unsafe(no_mangle)]
 pub extern "C" fn dsdarc_c_push(
@@ -93,7 +113,8 @@ pub extern "C" fn dsdarc_c_push(
     // 0 says that so many were taken; any other status says why none were, and `taken` is as it was.
     ensures { ByKind handle.value
         (λ p. StatusMeans (Takes p bytes.now taken.new) (λ fault. RefusesPush p bytes.now fault × (taken.new ≡ taken.old)) result)
-        (λ p. StatusMeans (TakesBare p bytes.now taken.new) (λ fault. RefusesBare p bytes.now fault × (taken.new ≡ taken.old)) result) }
+        (λ p. StatusMeans (TakesBare p bytes.now taken.new) (λ fault. RefusesBare p bytes.now fault × (taken.new ≡ taken.old)) result)
+        (λ p. StatusMeans (TakesJoined p bytes.now taken.new) (λ fault. RefusesJoined p bytes.now fault × (taken.new ≡ taken.old)) result) }
 {
     let player = player_of(handle);
     player.push(alloc, bytes, taken)
@@ -108,7 +129,7 @@ pub extern "C" fn dsdarc_c_pull(handle: Handle, out: &mut [u8]) -> usize
     ensures others { drop result out.new ≡ drop result out.old }
     // If whole frames of a filter wait and fit, whole frames are given.
     ensures whole { ByKind handle.value (λ p. WaitsWhole p → AreWholeFrames p.taps p.stated (length out.old)
-        → AreWholeFrames p.taps p.stated result) (λ p. ⊤) }
+        → AreWholeFrames p.taps p.stated result) (λ p. ⊤) (λ p. ⊤) }
 {
     let player = player_of(handle);
     player.pull(out)
@@ -117,7 +138,8 @@ pub extern "C" fn dsdarc_c_pull(handle: Handle, out: &mut [u8]) -> usize
 /// Takes the samples of frames that are due, as numbers: how many. Bits are given as bytes alone.
 #[unsafe(no_mangle)]
 pub extern "C" fn dsdarc_c_pull_numbers(handle: Handle, out: &mut [i32]) -> usize
-    ensures { ByKind handle.value (λ p. GivesNumbers p out.old out.new result) (λ p. (result ≡ 0) × (out.new ≡ out.old)) }
+    ensures { ByKind handle.value (λ p. GivesNumbers p out.old out.new result) (λ p. (result ≡ 0) × (out.new ≡ out.old))
+        (λ p. (result ≡ 0) × (out.new ≡ out.old)) }
 {
     let player = player_of(handle);
     player.pull_numbers(out)
@@ -128,10 +150,22 @@ pub extern "C" fn dsdarc_c_pull_numbers(handle: Handle, out: &mut [i32]) -> usiz
 pub extern "C" fn dsdarc_c_end(alloc: Global, handle: Handle) -> u32
     // 0 says that a file that ends here holds a recording; any other status says why it isn't accepted.
     ensures { ByKind handle.value (λ p. StatusMeans (AcceptsEnd p) (RefusesEnd p) result)
-        (λ p. StatusMeans (AcceptsBareEnd p) (RefusesBareEnd p) result) }
+        (λ p. StatusMeans (AcceptsBareEnd p) (RefusesBareEnd p) result)
+        (λ p. StatusMeans (AcceptsEndAt p.stage p.bare) (RefusesEndAt p.stage p.bare) result) }
 {
     let player = player_of(handle);
     player.end(alloc)
+}
+
+/// Says that the file ends here and another one follows.
+#[unsafe(no_mangle)]
+pub extern "C" fn dsdarc_c_next(alloc: Global, handle: Handle) -> u32
+    // Only a player of files that follow each other is told so: any other refuses it by 25.
+    ensures { ByKind handle.value (λ p. result ≡ 25) (λ p. result ≡ 25)
+        (λ p. StatusMeans (AcceptsNextAt p.stage p.bare) (RefusesNextAt p.stage p.bare) result) }
+{
+    let player = player_of(handle);
+    player.next(alloc)
 }
 
 /// What is played.
@@ -140,7 +174,8 @@ pub extern "C" fn dsdarc_c_info(handle: Handle, info: &mut Info) -> u32
     // 0 says that `info` has what is played; any other status says why nothing is reported, and `info` is as it was.
     ensures { ByKind handle.value
         (λ p. StatusMeans (ReportsSound p info.new) (λ fault. RefusesInfo p fault × (info.new ≡ info.old)) result)
-        (λ p. StatusMeans (ReportsBits p info.new) (λ fault. RefusesBitsInfo p fault × (info.new ≡ info.old)) result) }
+        (λ p. StatusMeans (ReportsBits p info.new) (λ fault. RefusesBitsInfo p fault × (info.new ≡ info.old)) result)
+        (λ p. StatusMeans (ReportsJoined p info.new) (λ fault. RefusesJoinedInfo p fault × (info.new ≡ info.old)) result) }
 {
     let player = player_of(handle);
     player.info(info)
@@ -152,7 +187,8 @@ pub extern "C" fn dsdarc_c_seek(alloc: Global, handle: Handle, frame: u64, offse
     // 0 says from which byte the file is pushed on; any other status says why not, and `offset` is as it was.
     ensures { ByKind handle.value
         (λ p. StatusMeans (GoesTo p frame offset.new) (λ fault. RefusesSeek p frame fault × (offset.new ≡ offset.old)) result)
-        (λ p. StatusMeans (GoesToBits p frame offset.new) (λ fault. RefusesBareSeek p frame fault × (offset.new ≡ offset.old)) result) }
+        (λ p. StatusMeans (GoesToBits p frame offset.new) (λ fault. RefusesBareSeek p frame fault × (offset.new ≡ offset.old)) result)
+        (λ p. (result ≡ 26) × (offset.new ≡ offset.old)) }
 {
     let player = player_of(handle);
     player.seek(alloc, frame, offset)
@@ -162,7 +198,7 @@ pub extern "C" fn dsdarc_c_seek(alloc: Global, handle: Handle, frame: u64, offse
 #[unsafe(no_mangle)]
 pub extern "C" fn dsdarc_c_filter(alloc: Global, handle: Handle, project: &[u8]) -> u32
     // A player that has its choice refuses it by 23; another one says by 0 that it was made, and else why it isn't.
-    ensures { ByKind handle.value (λ p. result ≡ 23) (λ p. (result ≡ 0) ⊎ RefusesFiltered p project.now result) }
+    ensures { ByKind handle.value (λ p. result ≡ 23) (λ p. (result ≡ 0) ⊎ RefusesFiltered p project.now result) (λ p. result ≡ 25) }
 {
     let player = player_of(handle);
     player.filter(alloc, project)
@@ -174,7 +210,8 @@ pub extern "C" fn dsdarc_c_filter(alloc: Global, handle: Handle, project: &[u8])
 pub extern "C" fn dsdarc_c_bits(alloc: Global, handle: Handle, layout: u32) -> u32
     ensures other { 3 ≤ layout → result ≡ 2 }
     ensures chosen { layout < 3 → ByKind handle.value (λ p. result ≡ 23)
-        (λ p. (result ≡ 0) ⊎ RefusesLayout p (layout_of layout) result) }
+        (λ p. (result ≡ 0) ⊎ RefusesLayout p (layout_of layout) result)
+        (λ p. (result ≡ 0) ⊎ RefusesJoinedLayout p (layout_of layout) result) }
 {
     if layout >= 3 {
         return size_refused();

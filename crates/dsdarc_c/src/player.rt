@@ -6,18 +6,21 @@ use crate::bare_content::BarePlayer;
 use crate::content::PushPlayer;
 use crate::fault::PlayFault;
 use crate::info::{Info, SoundInfo, sound_info};
+use crate::joined_content::JoinedPlayer;
 use crate::status::{done, memory, status_of, status_with};
 use dsd_bits::Sound;
 use native_core::Layout;
 use std::alloc::Global;
 
-/// A player, with a filter or without.
+/// A player, with a filter, without one, or of files that follow each other.
 #[derive(Drop)]
 pub enum Player {
     /// It gives frames by a filter.
     Frames(PushPlayer),
     /// It gives bits, or it isn't chosen yet what it gives.
     Bits(BarePlayer),
+    /// It gives the recording that files make which follow each other.
+    Joined(JoinedPlayer),
 }
 
 impl Player {
@@ -27,6 +30,7 @@ impl Player {
     ghost use Rattle.dsdarc_c.specs.BareMoves.{RefusesFiltered};
     ghost use Rattle.dsdarc_c.specs.BareReporting.{AreCopied, RefusesBitsInfo, RefusesStated, ReportsBits, ReportsStated};
     ghost use Rattle.dsdarc_c.specs.Ending.{AcceptsEnd, RefusesEnd};
+    ghost use Rattle.dsdarc_c.specs.JoinedCalls.{AcceptsEndAt, AcceptsNextAt, RefusesEndAt, RefusesJoined, RefusesJoinedChoice, RefusesJoinedInfo, RefusesNextAt, ReportsJoined, TakesJoined};
     ghost use Rattle.dsdarc_c.specs.Players.{ByKind, GivesNumbers, HasFilterOf, IsLaidOut, kept_of, stated_of, waits_of};
     ghost use Rattle.dsdarc_c.specs.Pushing.{AreWholeFrames};
     ghost use Rattle.dsdarc_c.specs.Reporting.{RefusesInfo, ReportsSound};
@@ -39,11 +43,13 @@ impl Player {
     pub(crate) fn push(&mut self, alloc: Global, bytes: &[u8], taken: &mut usize) -> u32
         ensures { ByKind self.old
             (λ p. StatusMeans (Takes p bytes.now taken.new) (λ fault. RefusesPush p bytes.now fault × (taken.new ≡ taken.old)) result)
-            (λ p. StatusMeans (TakesBare p bytes.now taken.new) (λ fault. RefusesBare p bytes.now fault × (taken.new ≡ taken.old)) result) }
+            (λ p. StatusMeans (TakesBare p bytes.now taken.new) (λ fault. RefusesBare p bytes.now fault × (taken.new ≡ taken.old)) result)
+            (λ p. StatusMeans (TakesJoined p bytes.now taken.new) (λ fault. RefusesJoined p bytes.now fault × (taken.new ≡ taken.old)) result) }
     {
         match self {
             Player::Frames(player) => player.push(alloc, bytes, taken),
             Player::Bits(player) => player.push(alloc, bytes, taken),
+            Player::Joined(player) => player.push(alloc, bytes, taken),
         }
     }
 
@@ -55,32 +61,37 @@ impl Player {
         ensures others { drop result out.new ≡ drop result out.old }
         // If whole frames of a filter wait and fit, whole frames are given.
         ensures whole { ByKind self.old (λ p. WaitsWhole p → AreWholeFrames p.taps p.stated (length out.old)
-            → AreWholeFrames p.taps p.stated result) (λ p. ⊤) }
+            → AreWholeFrames p.taps p.stated result) (λ p. ⊤) (λ p. ⊤) }
     {
         match self {
             Player::Frames(player) => player.pull(out),
             Player::Bits(player) => player.pull(out),
+            Player::Joined(player) => player.pull(out),
         }
     }
 
     /// Takes the samples of frames that are due, as numbers: how many. Bits are given as bytes alone.
     pub(crate) fn pull_numbers(&mut self, out: &mut [i32]) -> usize
-        ensures { ByKind self.old (λ p. GivesNumbers p out.old out.new result) (λ p. (result ≡ 0) × (out.new ≡ out.old)) }
+        ensures { ByKind self.old (λ p. GivesNumbers p out.old out.new result) (λ p. (result ≡ 0) × (out.new ≡ out.old))
+            (λ p. (result ≡ 0) × (out.new ≡ out.old)) }
     {
         match self {
             Player::Frames(player) => player.pull_numbers(out),
             Player::Bits(_) => 0,
+            Player::Joined(_) => 0,
         }
     }
 
     /// Says that no bytes come any more.
     pub(crate) fn end(&mut self, alloc: Global) -> u32
         ensures { ByKind self.old (λ p. StatusMeans (AcceptsEnd p) (RefusesEnd p) result)
-            (λ p. StatusMeans (AcceptsBareEnd p) (RefusesBareEnd p) result) }
+            (λ p. StatusMeans (AcceptsBareEnd p) (RefusesBareEnd p) result)
+            (λ p. StatusMeans (AcceptsEndAt p.stage p.bare) (RefusesEndAt p.stage p.bare) result) }
     {
         match self {
             Player::Frames(player) => player.end(alloc),
             Player::Bits(player) => player.end(alloc),
+            Player::Joined(player) => player.end(alloc),
         }
     }
 
@@ -88,11 +99,13 @@ impl Player {
     pub(crate) fn info(&self, info: &mut Info) -> u32
         ensures { ByKind self.now
             (λ p. StatusMeans (ReportsSound p info.new) (λ fault. RefusesInfo p fault × (info.new ≡ info.old)) result)
-            (λ p. StatusMeans (ReportsBits p info.new) (λ fault. RefusesBitsInfo p fault × (info.new ≡ info.old)) result) }
+            (λ p. StatusMeans (ReportsBits p info.new) (λ fault. RefusesBitsInfo p fault × (info.new ≡ info.old)) result)
+            (λ p. StatusMeans (ReportsJoined p info.new) (λ fault. RefusesJoinedInfo p fault × (info.new ≡ info.old)) result) }
     {
         match self {
             Player::Frames(player) => player.info(info),
             Player::Bits(player) => player.info(info),
+            Player::Joined(player) => player.info(info),
         }
     }
 
@@ -100,28 +113,32 @@ impl Player {
     pub(crate) fn seek(&mut self, alloc: Global, frame: u64, offset: &mut u64) -> u32
         ensures { ByKind self.old
             (λ p. StatusMeans (GoesTo p frame offset.new) (λ fault. RefusesSeek p frame fault × (offset.new ≡ offset.old)) result)
-            (λ p. StatusMeans (GoesToBits p frame offset.new) (λ fault. RefusesBareSeek p frame fault × (offset.new ≡ offset.old)) result) }
+            (λ p. StatusMeans (GoesToBits p frame offset.new) (λ fault. RefusesBareSeek p frame fault × (offset.new ≡ offset.old)) result)
+            (λ p. (result ≡ 26) × (offset.new ≡ offset.old)) }
     {
         match self {
             Player::Frames(player) => player.seek(alloc, frame, offset),
             Player::Bits(player) => player.seek(alloc, frame, offset),
+            Player::Joined(_) => status_of(PlayFault::NoSeek),
         }
     }
 
     /// Gives the bits of the sound that comes next in this layout.
     pub(crate) fn choose(&mut self, alloc: Global, layout: Layout) -> u32
-        ensures { ByKind self.old (λ p. result ≡ 23) (λ p. StatusMeans (IsLaidOut self.new layout) (RefusesChoice p layout) result) }
+        ensures { ByKind self.old (λ p. result ≡ 23) (λ p. StatusMeans (IsLaidOut self.new layout) (RefusesChoice p layout) result)
+            (λ p. StatusMeans ⊤ (RefusesJoinedChoice p layout) result) }
     {
         match self {
             Player::Frames(_) => status_of(PlayFault::Chosen),
             Player::Bits(player) => player.choose(alloc, layout),
+            Player::Joined(player) => player.choose(alloc, layout),
         }
     }
 
     /// Gives frames of the sound that comes next by the filter of a project text.
     pub(crate) fn filter(&mut self, alloc: Global, project: &[u8]) -> u32
         ensures { ByKind self.old (λ p. result ≡ 23)
-            (λ p. ((result ≡ 0) × HasFilterOf self.new p project.now) ⊎ RefusesFiltered p project.now result) }
+            (λ p. ((result ≡ 0) × HasFilterOf self.new p project.now) ⊎ RefusesFiltered p project.now result) (λ p. result ≡ 25) }
     {
         match self {
             Player::Frames(_) => status_of(PlayFault::Chosen),
@@ -132,6 +149,18 @@ impl Player {
                 }
                 Err(status) => status,
             },
+            Player::Joined(_) => status_of(PlayFault::NotJoined),
+        }
+    }
+
+    /// Says that the file ends here and another one follows.
+    pub(crate) fn next(&mut self, alloc: Global) -> u32
+        ensures { ByKind self.old (λ p. result ≡ 25) (λ p. result ≡ 25)
+            (λ p. StatusMeans (AcceptsNextAt p.stage p.bare) (RefusesNextAt p.stage p.bare) result) }
+    {
+        match self {
+            Player::Joined(player) => player.next(alloc),
+            _ => status_of(PlayFault::NotJoined),
         }
     }
 
@@ -152,6 +181,7 @@ impl Player {
         match self {
             Player::Frames(player) => player.sound(),
             Player::Bits(player) => player.sound(),
+            Player::Joined(player) => player.sound(),
         }
     }
 
@@ -162,6 +192,7 @@ impl Player {
         match self {
             Player::Frames(player) => player.kept(after, from, out),
             Player::Bits(player) => player.kept(after, from, out),
+            Player::Joined(player) => player.kept(after, from, out),
         }
     }
 }

@@ -50,6 +50,10 @@ const NO_CHOICE: u32 = 22;
 
 const CHOSEN: u32 = 23;
 
+const NOT_JOINED: u32 = 25;
+
+const NO_SEEK: u32 = 26;
+
 /// The status of a call that is out of memory.
 pub(crate) fn memory() -> u32
     ensures { result ≡ 3 }
@@ -85,6 +89,8 @@ pub(crate) fn status_of(fault: PlayFault) -> u32
         PlayFault::PastEnd => PAST_END,
         PlayFault::NoChoice => NO_CHOICE,
         PlayFault::Chosen => CHOSEN,
+        PlayFault::NotJoined => NOT_JOINED,
+        PlayFault::NoSeek => NO_SEEK,
         PlayFault::Memory => MEMORY,
     }
 }

@@ -66,7 +66,7 @@ if_not : {A : Type 0} (n : ℕ) (x y : A) → (n ≡ 0 → ⊥) → (if n == 0 t
 if_not n x y not = grind (arith, nat_tests)
 
 -- a form without a place for channels has no text of them
-no_text : (form : Form) (r : Content) → (FitsIn form (count_of r.channels) → ⊥) → text_in form r ≡ None
+pub no_text : (form : Form) (r : Content) → (FitsIn form (count_of r.channels) → ⊥) → text_in form r ≡ None
 no_text Dsdiff r cut = if_not (count_of r.channels % 8) _ _ (λ whole. cut (λ _. whole))
 no_text Dsf r cut = absurd (cut (λ e. absurd cc))
 no_text Dsf8 r cut = absurd (cut (λ e. absurd cc))

@@ -13,4 +13,10 @@ pub mod ReportLaws
 pub mod PartLaws
 pub mod GapLaws
 pub mod SkippedLaws
+pub mod RenamingLaws
 pub mod SpeakLaws
+pub mod HeldLaws
+pub mod NeighbourLaws
+pub mod EdgeLaws
+pub mod BetweenLaws
+pub mod SpokenLaws

@@ -1,6 +1,6 @@
 -- What becomes of a file that is played with its channels in an order, and a mask.
-use Rattle.std.proofs.Common.{◌≡◌, ◌⊎◌, ◌*◌, ◌/◌, ℕ, inl, inr, Bool, List, [], ◌++◌, IsTrue, Option, None, Some, Result, Ok, Err, drop, take, false, length, true, refl, subst, sym, ap, ap₂, ◌∙◌, append_assoc}
-use Rattle.std.specs.Prelude.{IfErr, IfOk, IfSome, option_map, unwrap_or}
+use Rattle.std.proofs.Common.{◌≡◌, ◌⊎◌, ◌*◌, ◌/◌, ℕ, inl, inr, Bool, List, [], ◌++◌, IsTrue, Option, None, Some, Result, Ok, Err, drop, false, length, true, refl, subst, sym, ap, ap₂, ◌∙◌, append_assoc}
+use Rattle.std.specs.Prelude.{IfErr, IfOk, IfSome, IsOk, option_map, unwrap_or}
 use Rattle.std.specs.Fmt.{option_append}
 use Rattle.std.specs.Io.KnownBytes.{prepend_known}
 use lib.Seq.{drop-append_seam, take-append_seam}
@@ -9,7 +9,13 @@ use Rattle.player_core.specs.Groups.{part_size}
 use Rattle.player_core.specs.Playing.{PlaysFile}
 use Rattle.player_core.specs.declared.range.FrameRange.{FrameRange}
 use Rattle.request_core.specs.declared.fault.Fault as calls
-use Rattle.request_core.specs.declared.fault.Fault.TheVariants.{Memory}
+use Rattle.request_core.specs.declared.fault.Fault.TheVariants as faults
+use Rattle.request_core.specs.Faults.{OfStream}
+use Rattle.form_core.specs.Opening.{opened_of}
+use Rattle.player_core.specs.Playing.{Applies}
+use Rattle.sound_core.specs.Faults.{IsFromOutside}
+use Rattle.sound_core.specs.Naming.{IfRefusedAs}
+use Rattle.sound_core.specs.declared.fault.Unread.TheVariants as answers
 use Rattle.sound_core.specs.Files.{LeadsToSound}
 use Rattle.speaker_core.specs.Speakers.{moved_groups}
 use Rattle.speaker_core.specs.declared.speakers.Speakers.{Speakers}
@@ -20,7 +26,7 @@ use Rattle.speaker_core.specs.Reordering.{groups_in}
 use Rattle.folder_core.specs.Files.{HadNone, IsGiven, IsGivenUp, IsReadOf, KeepsOthers, View}
 use Rattle.transfer_core.specs.Streaming.{OnlyFromOutside, PlaysRange, StreamApplies, part_range}
 use Rattle.transfer_core.specs.declared.spans.Span.{Span}
-use Rattle.transfer_commands.specs.Playing.{PlaysTo}
+use Rattle.transfer_commands.specs.Playing.{PlaysSome, PlaysTo}
 use Rattle.transfer_commands.specs.PartPlaying.{FindsSpan}
 use Rattle.transfer_commands.specs.Speaking.{AreSpeakersOf, IsToBeSpoken, LeavesOld, SpeaksFile, SpeaksPart, SpeaksTo, SpokenComesTo, StopsSpeaking, WritesSpoken, left_spoken, mask_place, ordered_spoken, with_order}
 use Rattle.transfer_commands.specs.declared.fault.CommandFault.{CommandFault}
@@ -49,17 +55,41 @@ ordered_is head tail order size groups (Some rest) file is =
     ap Some (sym (ap₂ (λ a b. a ++ groups_in order size groups b) (take-append_seam head own) (drop-append_seam head own))) ∙ ap whole is
 
 -- ---- a reader's file
-pub memory_only : (left : Option (List ℕ)) (project : List ℕ) (range : FrameRange) → OnlyFromOutside left project range Memory
-memory_only None project range = tt
-memory_only (Some file) project range = λ bytes plays. (streams.Memory, refl, tt)
+any_left : (left : Option (List ℕ)) (P : List ℕ → Type 0) → ((file : List ℕ) → P file) → IfSome left P
+any_left None P holds = tt
+any_left (Some file) P holds = holds file
+
+-- a file that could not be written
+not_written : (left : Option (List ℕ)) (project : List ℕ) (range : FrameRange) (n : ℕ) → PlaysSome project range n
+    → StreamApplies left project range (faults.Stream streams.WriteFailed) × OnlyFromOutside left project range (faults.Stream streams.WriteFailed)
+not_written left project range n some =
+    let plays = some.2 in
+    let d = plays.decimator in (
+      inr (
+        d,
+        plays.project_says,
+        (
+          answers.Stream streams.WriteFailed,
+          refl,
+          record {
+            applies = any_left left (λ file. Applies d range file streams.WriteFailed) (λ file. tt);
+            first = any_left left (λ file. IfRefusedAs (answers.Stream streams.WriteFailed) (λ fault. opened_of file ≡ Err fault)) (λ file. tt);
+            exact = λ is. absurd cc;
+          },
+        ),
+      ),
+      any_left left (λ file. (bytes : List ℕ) → PlaysRange project range file bytes → OfStream IsFromOutside (faults.Stream streams.WriteFailed)) (λ file bytes played. (streams.WriteFailed, refl, tt)),
+    )
 
 pub speaks : {R : Type 0} (left : R → Option (List ℕ)) (spoken : Spoken R) {W : Type 0} (held : W → Option (List ℕ)) (old new : W) (before after : Option (List ℕ)) (played came : Result ℕ calls.Fault) (has_mask : Bool)
     → PlaysTo held spoken.project.now spoken.range (ordered_spoken left spoken) old new played → (before ≡ Some [] → held old ≡ Some []) → (has_mask ≡ true → IfSome (held new) (λ bytes. after ≡ Some (patched mask_place spoken.mask.items bytes)))
-    → IfOk came (λ n. (has_mask ≡ true) × (played ≡ Ok n)) → IfErr came (λ fault. (fault ≡ Memory) ⊎ (played ≡ Err fault)) → SpeaksTo left spoken before after came
+    → IfOk came (λ n. (has_mask ≡ true) × (played ≡ Ok n)) → IfErr came (λ fault. ((fault ≡ faults.Stream streams.WriteFailed) × IsOk played) ⊎ (played ≡ Err fault)) → SpeaksTo left spoken before after came
 speaks left spoken held old new before after played (Ok n) has_mask plays empty masked ok err =
     record { plain_before = held old; plain_after = held new; empty = empty; masked = masked ok.0; made = subst (PlaysTo held spoken.project.now spoken.range (ordered_spoken left spoken) old new) ok.1 plays }
-speaks left spoken held old new before after played (Err fault) has_mask plays empty masked ok (inl none) =
-    (inl (inl none), subst (OnlyFromOutside (ordered_spoken left spoken) spoken.project.now spoken.range) (sym none) (memory_only (ordered_spoken left spoken) spoken.project.now spoken.range))
+speaks left spoken held old new before after (Ok n) (Err fault) has_mask plays empty masked ok (inl unwritten) =
+    subst (λ (f : calls.Fault). StreamApplies (ordered_spoken left spoken) spoken.project.now spoken.range f × OnlyFromOutside (ordered_spoken left spoken) spoken.project.now spoken.range f) (sym unwritten.0)
+    (not_written (ordered_spoken left spoken) spoken.project.now spoken.range n plays.some)
+speaks left spoken held old new before after (Err other) (Err fault) has_mask plays empty masked ok (inl unwritten) = let no = unwritten.1 in absurd cc
 speaks left spoken held old new before after played (Err fault) has_mask plays empty masked ok (inr failed) =
     let stops = subst (PlaysTo held spoken.project.now spoken.range (ordered_spoken left spoken) old new) failed plays in
     (stops.stands, stops.outside)
@@ -122,13 +152,6 @@ module _ {R : Type 0} (left : R → Option (List ℕ)) (spoken : Spoken R) (inpu
       kept (inl same) = inl same
       kept (inr gone) = inr gone.1
 
--- nothing changed
-pub nothing_changed : (output : List ℕ) (old new : View) → new ≡ old → KeepsOthers output old new × LeavesOld output old new
-nothing_changed output old new same = (
-  record { others = λ other differs. ap (λ (v : View). v.file other) same; same_known = ap (λ (v : View). v.is_known) same; same_keeping = ap (λ (v : View). v.keeps_old) same },
-  λ reported. inl (ap (λ (v : View). v.file output) same),
-)
-
 -- ---- a part that is played
 -- a fault after the part was found
 pub speech_failed : (project : List ℕ) (range : FrameRange) (own : List ℕ → List ℕ) (mask input output : List ℕ) (old mid new : View) → mid ≡ old → (fault : CommandFault) → SpokenComesTo project range own mask input output mid new (Err fault)
@@ -143,7 +166,7 @@ speech_failed project range own mask input output old mid new same ReadFailed h 
 pub speech_ends : (project_name file_name output_name project : List ℕ) (span : Span) (old mid new : View) (start stop : ℕ) (speakers : Speakers) (prefix : List ℕ) (s : Sound) {R : Type 0} (spoken : Spoken R) (n : ℕ)
     → IsReadOf old project_name project → AreSpeakersOf file_name old speakers → FindsSpan project file_name old span start stop → LeadsToSound prefix s → IsToBeSpoken project start stop speakers s spoken → mid ≡ old
     → SpeaksFile spoken.project.now spoken.range (with_order (reordering_order spoken.reordering) (reordering_size spoken.reordering) (reordering_groups spoken.reordering) (length spoken.head.items)) spoken.mask.items file_name output_name mid new n
-    → SpeaksPart project_name file_name output_name span old new n
+    → SpeaksPart project_name file_name output_name span old new (record { size = n; mask = speakers.mask })
 speech_ends project_name file_name output_name project span old mid new start stop speakers prefix s spoken n project_read are_speakers has_span leads is same h =
     let mask = spoken.mask.items in
     let size = part_size s.interleaving in
@@ -162,6 +185,7 @@ speech_ends project_name file_name output_name project span old mid new start st
       prefix = prefix;
       sound = s;
       mask = mask;
+      mask_is = refl;
       project_read = project_read;
       has_mask = is.has_mask;
       are_speakers = are_speakers;

@@ -1,6 +1,7 @@
 -- Which bytes of a file are passed over where a part of its sound is played.
 use Rattle.std.specs.Prelude.{◌≡◌, ℕ, ◌+◌, ◌-◌, ◌^◌, ◌<◌, ◌≤◌, ◌⊎◌, List}
 use Rattle.dsd_bits.specs.declared.sound.Sound.{Sound}
+use Rattle.dsd_bits.specs.declared.stretches.BitRange.{BitRange}
 use Rattle.fir_core.specs.Decimator.{Decimator, IsWithinLimits}
 use Rattle.folder_core.specs.GappedFiles.{LiesInGap}
 use Rattle.folder_core.specs.declared.gapped_file.Gaps.{Gaps}
@@ -22,6 +23,10 @@ LieInSound s gaps = (place : ℕ) → LiesInGap gaps place 1 → IsOfSound s pla
 abbrev pub HoldNoBitOf : Sound → ℕ → ℕ → ℕ → Gaps → Type 0
 HoldNoBitOf s factor start stop gaps = (d : Decimator) → IsWithinLimits d → d.factor ≡ factor → (j i c : ℕ) → start ≤ j → j < stop → ReadsBit d j i → i < s.count → c < s.channels
     → LiesInGap gaps (byte_of_bit s c i) 1 → ⊥
+
+-- the gaps hold no bit of a range of a sound
+abbrev pub HoldNoBitIn : Sound → BitRange → Gaps → Type 0
+HoldNoBitIn s range gaps = (i c : ℕ) → range.start ≤ i → i < range.stop → i < s.count → c < s.channels → LiesInGap gaps (byte_of_bit s c i) 1 → ⊥
 
 -- the prefix of a file leads to a sound, and the gaps hold only bytes of it, none of which holds a bit that the range's
 -- frames read by the project's filter

@@ -1,3 +1,4 @@
+pub mod BetweenPlaying
 pub mod Converting
 pub mod Digesting
 pub mod DopConverting
@@ -5,11 +6,14 @@ pub mod DopPlaying
 pub mod Excerpts
 pub mod Faults
 pub mod Gaps
+pub mod Neighbours
 pub mod Opening
 pub mod Outlining
 pub mod PartPlaying
 pub mod Playing
+pub mod Renaming
 pub mod Reporting
 pub mod Sources
 pub mod Speaking
+pub mod SpeakersConverting
 pub mod Summing

@@ -1,5 +1,5 @@
 -- What becomes of a file that another is played to so that it names the loudspeakers of its channels.
-use Rattle.std.specs.Prelude.{◌≡◌, ◌⊎◌, ℕ, ◌*◌, ◌/◌, Bool, true, false, List, [], ◌++◌, drop, length, take, IfSome, IsTrue, Option, None, Some, Result, Ok, Err}
+use Rattle.std.specs.Prelude.{◌≡◌, ◌⊎◌, ℕ, ◌*◌, ◌/◌, Bool, true, false, List, [], ◌++◌, drop, length, take, IfSome, IsTrue, Option, Some, Result, Ok, Err}
 use Rattle.std.specs.Io.KnownBytes.{prepend_known}
 use Rattle.dsd_bits.specs.declared.sound.Sound.{Sound}
 use Rattle.fir_core.specs.Decimator.{Decimator}
@@ -17,7 +17,6 @@ use Rattle.speaker_core.specs.Reordering.{groups_in}
 use Rattle.speaker_core.specs.Speakers.{channel_speakers, mask_bytes, moved_groups, speaker_mask, speaker_order}
 use Rattle.speaker_core.specs.declared.speakers.Speakers.{Speakers}
 use Rattle.folder_core.specs.Files.{HadNone, IsGiven, IsPut, IsReadOf, KeepsOthers, OpensAs, View}
-use Rattle.place_core.specs.declared.place.Place.{Place}
 use Rattle.transfer_core.specs.Streaming.{OnlyFromOutside, PlaysRange, StreamApplies, part_range}
 use Rattle.transfer_core.specs.declared.spans.Span.{Span}
 use Rattle.transfer_commands.specs.PartPlaying.{FindsSpan, ReportsRead}
@@ -26,6 +25,7 @@ use Rattle.transfer_commands.specs.declared.fault.CommandFault.{CommandFault}
 use Rattle.transfer_commands.specs.declared.fault.CommandFault.TheVariants.{Call, ReadFailed, WriteFailed}
 use Rattle.transfer_commands.specs.declared.parts.PartFault.{PartFault}
 use Rattle.transfer_commands.specs.declared.reporting.Reported.{Reported}
+use Rattle.transfer_commands.specs.declared.speaking.PlayedSpeakers.{PlayedSpeakers}
 use Rattle.transfer_commands.specs.declared.speaking.Spoken.{Spoken}
 
 -- a file of this form has a channel type, and no IDs
@@ -136,9 +136,9 @@ pub record IsToBeSpoken {R : Type 0} (project : List ℕ) (start stop : ℕ) (sp
   pub has_mask : HasMask project s.channels speakers.mask spoken.mask.items
 
 -- ---- the files
--- the output holds `count` bytes now: the WAVE file of the span's part of a recording, whose channels come in the order
--- of the mask's bits, with the mask of their loudspeakers; no other file changed
-pub record SpeaksPart (project_name file_name output_name : List ℕ) (span : Span) (old new : View) (count : ℕ) : Type 0 where
+-- the output is now the WAVE file of the span's part of a recording, whose channels come in the order of the mask's
+-- bits, with the mask of their loudspeakers; its size and the mask are what was returned; no other file changed
+pub record SpeaksPart (project_name file_name output_name : List ℕ) (span : Span) (old new : View) (played : PlayedSpeakers) : Type 0 where
   pub project : List ℕ
   pub start : ℕ
   pub stop : ℕ
@@ -148,13 +148,14 @@ pub record SpeaksPart (project_name file_name output_name : List ℕ) (span : Sp
   pub mask : List ℕ
   pub project_read : IsReadOf old project_name project
   pub has_mask : HasMask project sound.channels speakers.mask mask
+  pub mask_is : played.mask ≡ speakers.mask
   pub are_speakers : AreSpeakersOf file_name old speakers
   pub has_span : FindsSpan project file_name old span start stop
   pub leads : LeadsToSound prefix sound
-  pub speaks : SpeaksFile project (part_range start stop) (in_order speakers.order.items sound) mask file_name output_name old new count
+  pub speaks : SpeaksFile project (part_range start stop) (in_order speakers.order.items sound) mask file_name output_name old new played.size
 
 -- the folder before and after the input was played to the output came to this: after a fault an old file is kept, and no
 -- other file changed
-abbrev pub SpeakComesTo : List ℕ → List ℕ → List ℕ → Span → View → View → Result ℕ PartFault → Type 0
-SpeakComesTo project input output span old new (Ok count) = SpeaksPart project input output span old new count
+abbrev pub SpeakComesTo : List ℕ → List ℕ → List ℕ → Span → View → View → Result PlayedSpeakers PartFault → Type 0
+SpeakComesTo project input output span old new (Ok played) = SpeaksPart project input output span old new played
 SpeakComesTo project input output span old new (Err fault) = KeepsOthers output old new × LeavesOld output old new

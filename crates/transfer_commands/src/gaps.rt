@@ -4,9 +4,9 @@ ghost use Rattle.std.specs.Prelude.{◌≡◌, ◌+◌, ◌-◌, ◌*◌, ◌/�
 ghost use Rattle.dsd_bits.specs.Sounds.{IsSound};
 ghost use Rattle.folder_core.specs.GappedFiles.{left_but_gaps, zeroed_known};
 ghost use Rattle.player_core.specs.Groups.{part_size};
-ghost use Rattle.transfer_commands.specs.Gaps.{AreEmpty, HoldNoBitOf, HoldNoneBetween, LieAfter, LieBefore, LieInSound};
+ghost use Rattle.transfer_commands.specs.Gaps.{AreEmpty, HoldNoBitIn, HoldNoBitOf, HoldNoneBetween, LieAfter, LieBefore, LieInSound};
 
-use dsd_bits::Sound;
+use dsd_bits::{BitRange, Sound};
 use folder_core::{Folder, Gap, GappedFile, Gaps};
 
 // A frame reads only bits from so many before its first on, up to as many after its last: filters have at most 4096
@@ -59,6 +59,16 @@ pub(crate) fn gaps_around(sound: &Sound, factor: u32, start: usize, stop: usize)
 {
     let before = bytes_before(sound, first_bit(start, factor));
     let up_to = bytes_up_to(sound, last_bit(stop, factor));
+    all_but(sound, before, up_to)
+}
+
+/// What holds no bit of a range of a sound.
+pub(crate) fn gaps_beside(sound: &Sound, range: BitRange) -> Gaps
+    ensures in_sound { LieInSound sound.now result }
+    ensures unkept { IsSound sound.now → HoldNoBitIn sound.now range result }
+{
+    let before = bytes_before(sound, range.start as u64);
+    let up_to = bytes_up_to(sound, range.stop as u64);
     all_but(sound, before, up_to)
 }
 

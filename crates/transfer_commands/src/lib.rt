@@ -3,6 +3,7 @@
 //!
 //! - [`play_file`] reads a project, opens a recording, and writes its WAVE file piece by piece.
 //! - [`play_part_file`] does so with a part of the recording, which it finds first by reading the recording through.
+//! - [`play_between_file`] does so with a recording between others, to which it is joined.
 //! - [`play_speakers_file`] does so too, and names the loudspeakers of the channels in the WAVE file.
 //! - [`convert_file`] reads a recording through, and only then creates the file in the other form. What can't be read
 //!   again it holds.
@@ -15,7 +16,7 @@
 //!
 //! The words of the contracts, over any folder, of which `old` is known before and `new` after:
 //!
-//! - `PlayComesTo`, `PlayPartComesTo`, `ConvertComesTo`, `ReportComesTo` and `SumComesTo` say what became of the files
+//! - `PlayComesTo`, `PlayPartComesTo`, `PlayBetweenComesTo`, `ConvertComesTo`, `ReportComesTo` and `SumComesTo` say what became of the files
 //!   by a command and what it returned, whether it was done or refused, by bytes that were read of them
 //!   (`specs/Playing.antt`, `specs/PartPlaying.antt`, `specs/Converting.antt`, `specs/Reporting.antt`,
 //!   `specs/Summing.antt`).
@@ -32,7 +33,9 @@
 //! ```
 #![tactic(auto)]
 
+mod between;
 mod convert_dop;
+mod convert_speakers;
 mod converting;
 mod digesting;
 mod excerpts;
@@ -40,24 +43,29 @@ mod fault;
 mod gaps;
 mod holding;
 mod laws;
+mod neighbour;
 mod opened;
 mod outlining;
 mod parts;
 mod play_dop;
 mod playing;
+mod renaming;
 mod reporting;
 mod sources;
 mod speaking;
 mod summing;
 
+pub use between::{BetweenFault, NeighbourNames, play_between_file};
 pub use convert_dop::{DopConvertFault, convert_dop_file};
+pub use convert_speakers::{SpeakersFault, convert_speakers_file};
 pub use converting::convert_file;
 pub use fault::CommandFault;
 pub use laws::kept_sound_has_same_sums;
+pub use neighbour::NeighbourFault;
 pub use parts::{PartFault, play_part_file};
 pub use play_dop::play_dop_file;
 pub use playing::play_file;
 pub use reporting::{Reported, open_file};
 pub use sources::{Sources, source_excerpts};
-pub use speaking::play_speakers_file;
+pub use speaking::{PlayedSpeakers, play_speakers_file};
 pub use summing::{Sums, sum_file};

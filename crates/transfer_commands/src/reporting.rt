@@ -47,8 +47,8 @@ pub(crate) fn open_past_sound<F: Folder>(
     Ok(reported_by(outline))
 }
 
-// What is reported of a file by its outline.
-fn reported_by(outline: Outline) -> Reported
+/// What is reported of a file by its outline.
+pub(crate) fn reported_by(outline: Outline) -> Reported
     requires { outline.sound.count ≤ most_bits }
     ensures { (file : _) → IsOutlined file outline → IsReportOf file result }
 {

@@ -1,6 +1,6 @@
 //! Plays a file of a folder so that its WAVE file names the loudspeakers of its channels.
 
-ghost use Rattle.std.specs.Prelude.{◌≡◌, ◌⊎◌, ◌++◌, ◌*◌, ◌/◌, ◌≤◌, Err, IfErr, IfOk, List, Ok, Option, ℕ, length, true};
+ghost use Rattle.std.specs.Prelude.{◌≡◌, ◌⊎◌, ◌++◌, ◌*◌, ◌/◌, ◌≤◌, Err, IfErr, IfOk, IsOk, List, Ok, Option, ℕ, length, true};
 ghost use Rattle.sound_core.specs.Files.{LeadsToSound};
 ghost use Rattle.dsd_bits.specs.Sounds.{IsSound};
 ghost use Rattle.player_core.specs.Groups.{part_size};
@@ -9,24 +9,32 @@ ghost use Rattle.speaker_core.specs.Reordered.{left_in_order, reordered_known, r
 ghost use Rattle.speaker_core.specs.Reordering.{NamesChannels};
 ghost use Rattle.speaker_core.specs.Speakers.{moved_groups};
 ghost use Rattle.transfer_core.specs.Streaming.{part_range};
+ghost use Rattle.folder_core.specs.Files.{IsGiven, IsReadOf};
 ghost use Rattle.transfer_commands.specs.Opening.{left_of};
-ghost use Rattle.transfer_commands.specs.Speaking.{AreSpeakersOf, HasMask, IsToBeSpoken, SpeakComesTo, SpeaksTo, SpeechComesTo, left_spoken, mask_of as reported_mask, order_of};
+ghost use Rattle.transfer_commands.specs.PartPlaying.{HasSpan, ReportsRead};
+ghost use Rattle.transfer_commands.specs.Speaking.{HasMask, IsToBeSpoken, SpeakComesTo, SpeaksTo, SpeechComesTo, left_spoken, mask_of as reported_mask, order_of};
 
 use crate::fault::CommandFault;
 use crate::gaps::neighbours;
-use crate::opened::OpenedFile;
-use crate::parts::{FoundPart, Part, PartFault, find_part};
+use crate::holding::hold_file;
+use crate::opened::{OpenedFile, open_prefix};
+use crate::outlining::outline_reader;
+use crate::parts::{FoundPart, Part, PartFault};
 use crate::playing::{play_reader, read_project};
-use crate::reporting::{Reported, open_past_sound};
+use crate::reporting::{Reported, open_past_sound, reported_by};
 use dsd_bits::Sound;
 use folder_core::{Folder, hand_back};
 use form_core::Form;
 use player_core::FrameRange;
 use request_core::decimator_of;
+use sound_core::StreamFault;
 use speaker_core::{Patch, PatchedFile, ReorderedFile, Reordering, Speakers, mask_bytes};
 use std::alloc::Global;
 use std::io::{Cursor, Read, Write};
-use transfer_core::{Fault, Span};
+use transfer_core::{Fault, Span, frames_of, span_of};
+
+// No bytes, which a file that was held has left.
+const NOTHING: [u8; 0] = [];
 
 // The place of the channel mask in a WAVE file that has one.
 const MASK_PLACE: usize = 40;
@@ -52,14 +60,25 @@ pub(crate) struct Spoken<'a, R> {
     pub(crate) patch: Patch,
 }
 
+/// A file that was played with the loudspeakers of its channels.
+#[derive(Clone, Copy)]
+pub struct PlayedSpeakers {
+    /// How many bytes its WAVE file has.
+    pub size: u64,
+    /// The channel mask of its channels, as their IDs or the channel type name them; 0 if they name none. A WAVE file of
+    /// 16 bits with one or two channels has no place for it.
+    pub mask: u32,
+}
+
 /// Plays a part of a file, or all of it, as [`play_part_file`](crate::play_part_file) does, to a WAVE file that names
 /// the loudspeakers of its channels: the channel mask has their bits, and the channels come in the order of these. The
 /// IDs of a DSDIFF file say which loudspeakers they are, or the channel type of a DSF file. If an ID names none, or two
 /// channels have the same, the mask is 0, and the channels come in their own order. A WAVE file of 16 bits with one or
 /// two channels has no place for a mask.
 ///
-/// The recording is opened three times: for its IDs, for the part, and to be played. If it can't be opened again, or has
-/// other channels then, the answer is `ReadFailed`. Otherwise refusals are as of a part.
+/// A recording that can be opened again is read through for its loudspeakers and the part, and opened again to be
+/// played. If it has other channels then, the answer is `ReadFailed`. Any other, as a pipe, is opened once and held
+/// whole. Refusals are as of a part, but that a mark is found in it, too.
 pub fn play_speakers_file<F: Folder>(
     alloc: Global,
     folder: &mut F,
@@ -67,31 +86,96 @@ pub fn play_speakers_file<F: Folder>(
     input: &str,
     output: &str,
     span: Span,
-) -> Result<u64, PartFault>
+) -> Result<PlayedSpeakers, PartFault>
     ensures { SpeakComesTo project.now input.now output.now span (F.view folder.old) (F.view folder.new) result }
 {
-    let project = read_project(alloc, folder, project)?;
-    if !folder.reopens(input) {
-        return Err(PartFault::Command(CommandFault::ReadFailed));
+    let text = read_project(alloc, folder, project)?;
+    let asked = Asked {
+        project: &text,
+        output,
+        span,
+    };
+    if folder.reopens(input) {
+        let reported = open_past_sound(alloc, folder, input)?;
+        let opened = open_prefix(alloc, folder, input)?;
+        return speak_reported(alloc, folder, asked, &reported, opened);
     }
-    let speakers = speakers_in(alloc, folder, input)?;
-    let found = find_part(alloc, folder, &project, input, span)?;
-    let spoken = spoken_of(alloc, found, speakers)?;
-    Ok(speak_to(alloc, folder, spoken, output)?)
+    let file = hold_file(alloc, folder, input)?;
+    speak_held(alloc, folder, asked, file)
 }
 
-// The loudspeakers of a file's channels.
-fn speakers_in<F: Folder>(
+// What is asked for: the project's text, the name of the WAVE file, and the part.
+#[derive(Clone, Copy)]
+struct Asked<'a> {
+    project: &'a [u8],
+    output: &'a str,
+    span: Span,
+}
+
+// Plays a file that was read whole.
+fn speak_held<F: Folder>(
     alloc: Global,
     folder: &mut F,
-    name: &str,
-) -> Result<Speakers, CommandFault>
-    ensures same { F.view folder.new ≡ F.view folder.old }
-    ensures found { IfOk result (AreSpeakersOf name.now (F.view folder.old)) }
-    ensures channels { IfOk result (λ s. NamesChannels s.order.items) }
+    asked: Asked<'_>,
+    file: Vec<u8>,
+) -> Result<PlayedSpeakers, PartFault>
+    ensures { (project input : List ℕ) → IsReadOf (F.view folder.old) project asked.entry.project.now
+        → IsReadOf (F.view folder.old) input file.items
+        → SpeakComesTo project input asked.entry.output.now asked.entry.span (F.view folder.old) (F.view folder.new) result }
 {
-    let reported = open_past_sound(alloc, folder, name)?;
-    Ok(named_by(alloc, &reported)?)
+    let outline = outline_reader(alloc, file.as_slice())?;
+    let opened = OpenedFile {
+        sound: outline.sound,
+        prefix: file,
+        file: NOTHING.as_slice(),
+    };
+    let reported = reported_by(outline);
+    speak_reported(alloc, folder, asked, &reported, opened)
+}
+
+// Plays a file that was opened, by what is reported of it.
+fn speak_reported<F: Folder, R: Read + Drop>(
+    alloc: Global,
+    folder: &mut F,
+    asked: Asked<'_>,
+    reported: &Reported,
+    opened: OpenedFile<R>,
+) -> Result<PlayedSpeakers, PartFault>
+    requires sound { IsSound opened.sound }
+    requires within { opened.sound.start ≤ length opened.prefix.items }
+    ensures { (project input prefix : List ℕ) → IsReadOf (F.view folder.old) project asked.entry.project.now
+        → ReportsRead input (F.view folder.old) reported.now → LeadsToSound prefix opened.sound
+        → IsGiven (F.view folder.old) input (left_of R.remaining opened)
+        → SpeakComesTo project input asked.entry.output.now asked.entry.span (F.view folder.old) (F.view folder.new) result }
+{
+    let speakers = named_by(alloc, reported)?;
+    let part = part_by(alloc, asked.project, reported, asked.span)?;
+    let mask = speakers.mask;
+    let spoken = spoken_of(alloc, FoundPart { part, opened }, speakers)?;
+    let size = speak_to(alloc, folder, spoken, asked.output)?;
+    Ok(PlayedSpeakers { size, mask })
+}
+
+// The part that a span names, by a project's text, of what is reported of a file.
+fn part_by<'a>(
+    alloc: Global,
+    project: &'a [u8],
+    reported: &Reported,
+    span: Span,
+) -> Result<Part<'a>, PartFault>
+    ensures project { IfOk result (λ part. part.project.now ≡ project.now) }
+    ensures span { IfOk result (λ part. HasSpan project.now span part.start part.stop
+        reported.now.description.rate reported.now.description.count reported.now.description.marks) }
+{
+    let rate = reported.description.rate();
+    let frames = frames_of(alloc, project, rate, reported.description.count())?;
+    let (start, stop) = span_of(span, frames, rate, reported.description.marks())?;
+    Ok(Part {
+        project,
+        factor: frames.factor,
+        start,
+        stop,
+    })
 }
 
 // The loudspeakers of what is reported of a file.
@@ -113,7 +197,8 @@ fn spoken_of<'a, R: Drop>(
     found: FoundPart<'a, R>,
     speakers: Speakers,
 ) -> Result<Spoken<'a, R>, CommandFault>
-    requires states { LeadsToSound found.opened.prefix.items found.opened.sound }
+    requires sound { IsSound found.opened.sound }
+    requires within { found.opened.sound.start ≤ length found.opened.prefix.items }
     requires channels { NamesChannels speakers.order.items }
     ensures spoken { IfOk result (IsToBeSpoken found.entry.part.project.now found.entry.part.start found.entry.part.stop
         speakers found.entry.opened.sound) }
@@ -184,8 +269,8 @@ fn reordering_of(alloc: Global, sound: &Sound, speakers: Speakers) -> Result<Reo
     Ok(Reordering::new(alloc, speakers.order, size, groups)?)
 }
 
-// The first bytes, and the rest.
-fn split(alloc: Global, bytes: Vec<u8>, at: usize) -> Result<(Vec<u8>, Vec<u8>), Fault>
+/// The first bytes, and the rest.
+pub(crate) fn split(alloc: Global, bytes: Vec<u8>, at: usize) -> Result<(Vec<u8>, Vec<u8>), Fault>
     requires { at ≤ length bytes.items }
     ensures parts { IfOk result (λ p. p.0.items ++ p.1.items ≡ bytes.items) }
     ensures first { IfOk result (λ p. length p.0.items ≡ at) }
@@ -198,14 +283,14 @@ fn split(alloc: Global, bytes: Vec<u8>, at: usize) -> Result<(Vec<u8>, Vec<u8>),
 }
 
 // Creates a file, plays another to it, and keeps it, or gives it up after a fault.
-fn speak_to<F: Folder>(
+fn speak_to<F: Folder, R: Read + Drop>(
     alloc: Global,
     folder: &mut F,
-    spoken: Spoken<'_, F::In>,
+    spoken: Spoken<'_, R>,
     output: &str,
 ) -> Result<u64, CommandFault>
     requires { IsFresh spoken.patch }
-    ensures { SpeechComesTo F.In.remaining spoken.entry output.now (F.view folder.old) (F.view folder.new) result }
+    ensures { SpeechComesTo R.remaining spoken.entry output.now (F.view folder.old) (F.view folder.new) result }
 {
     let Ok(wave) = folder.create(output) else {
         return Err(CommandFault::WriteFailed);
@@ -247,19 +332,23 @@ fn speak<R: Read + Drop, W: Write>(
     (masked(played, has_mask), wave.into_inner())
 }
 
-// A file whose sound comes next, with its channels in another order.
-fn reordered<R: Read>(file: R, reordering: Reordering) -> ReorderedFile<R>
+/// A file whose sound comes next, with its channels in another order.
+pub(crate) fn reordered<R: Read>(file: R, reordering: Reordering) -> ReorderedFile<R>
     ensures { left_in_order R.remaining result ≡ reordered_known (reordering_order reordering)
         (reordering_size reordering) (reordering_groups reordering) (R.remaining file) }
 {
     ReorderedFile::new(file, reordering)
 }
 
-// What playing came to, if the WAVE file has its mask: whichever writer is handed back, what is known of it is what was
-// written to it.
+// What playing came to, if the WAVE file has its mask. It has: but which writer a call hands back, its contract doesn't
+// say, so a file without it would be given up as one that could not be written.
 fn masked(played: Result<u64, Fault>, has_mask: bool) -> Result<u64, Fault>
     ensures ok { IfOk result (λ n. (has_mask ≡ true) × (played ≡ Ok n)) }
-    ensures err { IfErr result (λ fault. (fault ≡ Fault.Memory) ⊎ (played ≡ Err fault)) }
+    ensures err { IfErr result (λ fault. ((fault ≡ Fault.Stream StreamFault.WriteFailed) × IsOk played) ⊎ (played ≡ Err fault)) }
 {
-    if has_mask { played } else { Err(Fault::Memory) }
+    match played {
+        Ok(count) if has_mask => Ok(count),
+        Ok(_) => Err(Fault::Stream(StreamFault::WriteFailed)),
+        Err(fault) => Err(fault),
+    }
 }

@@ -1,4 +1,4 @@
-use Rattle.std.proofs.Common.{◌≡◌, List, ℕ, Option, Some, ap, subst, true, sym, ◌∙◌}
+use Rattle.std.proofs.Common.{◌≡◌, Some, ap, subst, true, ◌∙◌}
 use Rattle.std.specs.Prelude.{IfSome}
 use Rattle.std.specs.Io.KnownBytes.{prepend_known}
 use Rattle.speaker_core.specs.Patched.{patch_bytes, written_to}

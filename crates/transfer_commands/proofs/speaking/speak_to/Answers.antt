@@ -1,10 +1,10 @@
 use Rattle.std.proofs.Common.{◌≡◌, Err, IsTrue, [], Ok, Some, ap, false, length, subst, sym}
 use Rattle.std.specs.Prelude.{is_ok}
 use Rattle.folder_core.specs.Files.{IsGiven, View}
-use Rattle.folder_core.proofs.FileLaws.{given_up, not_kept}
-use Rattle.transfer_commands.specs.Speaking.{SpeechComesTo, SpeaksTo, SpokenComesTo, WritesSpoken, left_spoken, with_order}
+use Rattle.folder_core.proofs.FileLaws.{given_up}
+use Rattle.transfer_commands.specs.Speaking.{SpeaksTo, SpokenComesTo, WritesSpoken, left_spoken, with_order}
 use Rattle.speaker_core.specs.Reordered.{reordering_groups, reordering_order, reordering_size}
-use Rattle.transfer_commands.specs.declared.fault.CommandFault.TheVariants.{Call, WriteFailed}
+use Rattle.transfer_commands.specs.declared.fault.CommandFault.TheVariants.{Call}
 use Rattle.transfer_commands.proofs.SpeakLaws.{spoken_played, spoken_stopped}
 use Rattle.transfer_commands.proofs.speaking.speak_to.Goals as goal
 
@@ -12,7 +12,7 @@ pub returns-in-Ok-handed : goal.returns-in-Ok-handed
 returns-in-Ok-handed g c = λ input given.
     let spoken = c.args.spoken in
     let view = g.F.Folder.view in
-    let left = g.F.In.Read.remaining in
+    let left = g.R.Read.remaining in
     let same = c.in-Ok.ensures.same in
     let held = g.F.Out.Write.contents c.in-Ok.wave in
     let written = g.F.Out.Write.contents c.speak-played.result.1 in
@@ -27,7 +27,7 @@ pub returns-in-Err : goal.returns-in-Err
 returns-in-Err g c = λ input given.
     let spoken = c.args.spoken in
     let view = g.F.Folder.view in
-    let left = g.F.In.Read.remaining in
+    let left = g.R.Read.remaining in
     let same = c.in-Ok.ensures.same in
     let fault = c.in-Err.fault in
     let held = g.F.Out.Write.contents c.in-Ok.wave in

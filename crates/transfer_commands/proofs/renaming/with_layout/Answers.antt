@@ -1,0 +1,46 @@
+use Rattle.std.proofs.Common.{◌≡◌, ◌∙◌, ap, length, map, refl, subst, sym}
+use Rattle.std.proofs.lemmas.List.{length-map}
+use Rattle.dsd_bits.specs.Contents.{Content}
+use Rattle.form_core.specs.Parts.{head_in, tail_in}
+use Rattle.speaker_core.specs.Reordering.{NamesChannels}
+use Rattle.speaker_core.specs.Speakers.{layout_with, speaker_mask, speaker_of, speaker_order}
+use Rattle.speaker_core.proofs.SpeakerLaws.{layout_fits}
+use Rattle.transfer_commands.specs.Renaming.{plain_of}
+use Rattle.transfer_commands.proofs.RenamingLaws.{layout_renamed, none_named}
+use Rattle.transfer_commands.proofs.renaming.with_layout.Goals as goal
+
+pub returns-in_default-clause-none : goal.returns-in_default-clause-none
+returns-in_default-clause-none c =
+    let r = c.args.outline.now.recording in
+    let none : layout_with (speaker_mask (map speaker_of r.ids)) ≡ c.layout_with.result = sym (c.layout_with.ensures ∙ ap layout_with (c.in_ok-speakers.ensures.mask ∙ ap (λ ids. speaker_mask (map speaker_of ids)) c.ids.ensures)) in
+    none_named c.args.outline.now.sound.interleaving c.args.form r c.requires.frames c.requires.form (none ∙ cc)
+
+pub plain-requires : goal.plain-requires
+plain-requires c =
+    let r = c.args.outline.now.recording in
+    let same : c.in_ok-ids.ids.items ≡ r.ids = c.in_ok-ids.ensures.items ∙ c.ids-2.ensures in
+    let found = sym (ap layout_with (c.in_ok-speakers.ensures.mask ∙ ap (λ ids. speaker_mask (map speaker_of ids)) c.ids.ensures)) ∙ sym c.layout_with.ensures ∙ c.in-Some.is in
+    record {
+      layout = layout_fits (map speaker_of r.ids) c.in-Some.layout found ∙ length-map r.ids speaker_of ∙ ap length (sym same);
+      number = ap length same;
+    }
+
+pub returns-clause-renamed : goal.returns-clause-renamed
+returns-clause-renamed c = λ file is.
+    let outline = c.args.outline.now in
+    let r = outline.recording in
+    let count = outline.sound.count in
+    let layout = c.in-Some.layout in
+    let same : c.in_ok-ids.ids.items ≡ r.ids = c.in_ok-ids.ensures.items ∙ c.ids-2.ensures in
+    let found = sym (ap layout_with (c.in_ok-speakers.ensures.mask ∙ ap (λ ids. speaker_mask (map speaker_of ids)) c.ids.ensures)) ∙ sym c.layout_with.ensures ∙ c.in-Some.is in
+    let made = c.in_ok-recording.ensures ∙ ap (λ ids. plain_of r ids layout) same in
+    let order = c.in_ok-speakers.ensures.order ∙ ap (λ ids. speaker_order (map speaker_of ids)) c.ids.ensures in
+    layout_renamed outline file is c.requires.frames c.has_shape.ensures c.args.form c.requires.form _ layout found refl
+    (c.in_ok-ends.ensures.head ∙ ap (λ (x : Content). head_in c.args.form x count) made) (c.in_ok-ends.ensures.tail ∙ ap (λ (x : Content). tail_in c.args.form x count) made)
+    c.in_ok-ends.ensures.fits c.in_ok-new.ensures.size
+    (record {
+      order_is = c.in_ok-new.ensures.order ∙ order;
+      groups_are = c.in_ok-new.ensures.groups ∙ cc;
+      names = subst NamesChannels order c.in_ok-speakers.ensures.channels;
+      number = ap length (sym order) ∙ c.in_ok-speakers.ensures.number ∙ ap length c.ids.ensures;
+    })

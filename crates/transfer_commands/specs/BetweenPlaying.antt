@@ -1,0 +1,180 @@
+-- What a folder comes to where one of its files is played to another, between its neighbours.
+use Rattle.std.specs.Prelude.{◌≡◌, ◌≢◌, ◌≤◌, ◌⊎◌, ℕ, ◌%◌, Bool, List, [], ◌++◌, length, replicate, IsTrue, Option, None, Some, Result, Ok, Err, ⊤}
+use Rattle.std.specs.Borrow.{Bor}
+use Rattle.dsd_bits.specs.Contents.{Content}
+use Rattle.dsd_bits.specs.declared.sound.Sound.{Sound}
+use Rattle.fir_core.specs.Decimator.{Decimator}
+use Rattle.folder_core.specs.Files.{HadNone, IsPut, IsReadOf, KeepsOthers, OpensAs, View}
+use Rattle.form_core.specs.Steps.{FailsUnless}
+use Rattle.player_core.specs.Between.{PlaysBetween}
+use Rattle.player_core.specs.Playing.{PlaysFile, WritesPrefix}
+use Rattle.request_core.specs.declared.fault.Fault as calls
+use Rattle.request_core.specs.declared.fault.Fault.TheVariants.{Memory, NotWholeBytes}
+use Rattle.request_core.specs.Faults.{IfNamed}
+use Rattle.request_core.specs.Projects.{SaysDecimator, decimator_of_text}
+use Rattle.sound_core.specs.Files.{HoldsRecording}
+use Rattle.transfer_commands.specs.Outlining.{IsFirstFault, IsUnoutlined}
+use Rattle.transfer_commands.specs.PartPlaying.{DescribesRead}
+use Rattle.transfer_commands.specs.Playing.{NamesRead}
+use Rattle.transfer_commands.specs.Reporting.{IsUnreported}
+use Rattle.transfer_commands.specs.declared.between.BetweenFault.{BetweenFault}
+use Rattle.transfer_commands.specs.declared.between.BetweenFault.TheVariants.{Command, Next, Previous}
+use Rattle.transfer_commands.specs.declared.between.NeighbourNames.{NeighbourNames}
+use Rattle.transfer_commands.specs.declared.fault.CommandFault.{CommandFault}
+use Rattle.transfer_commands.specs.declared.fault.CommandFault.TheVariants.{Call, ReadFailed, WriteFailed}
+use Rattle.transfer_commands.specs.declared.neighbour.NeighbourFault.{NeighbourFault}
+use Rattle.transfer_commands.specs.declared.neighbour.NeighbourFault.TheVariants as neighbours
+
+-- ---- a neighbour
+-- bytes that were read of a file hold a recording with this rate and these channels
+pub record HoldsChannels (name : List ℕ) (old : View) (rate : ℕ) (channels : List (List Bool)) : Type 0 where
+  pub file : List ℕ
+  pub recording : Content
+  pub file_read : IsReadOf old name file
+  pub file_holds : HoldsRecording file recording
+  pub rate_is : recording.rate ≡ rate
+  pub channels_are : recording.channels ≡ channels
+
+-- the channels of a neighbour: those of bytes that were read of its file, or such without a bit if none is named
+abbrev pub AreChannelsOf : Option (Bor (List ℕ)) → View → ℕ → List (List Bool) → Type 0
+AreChannelsOf None old rate channels = channels ≡ replicate (length channels) []
+AreChannelsOf (Some name) old rate channels = HoldsChannels name.now old rate channels
+
+-- a recording that another follows has to end with a whole byte of each channel
+abbrev pub EndsBefore : ℕ → Type 0
+EndsBefore count = count % 8 ≡ 0
+
+-- one that follows another, too, if it has fewer bits than a filter may reach
+abbrev pub EndsAfter : ℕ → Type 0
+EndsAfter count = (count % 8 ≡ 0) ⊎ (4096 ≤ count)
+
+-- bytes that were read of two files describe sounds of which P holds
+abbrev pub DescribeRead : List ℕ → List ℕ → View → (Sound → Sound → Type 0) → Type 0
+DescribeRead name input old P = (s : Sound) × (t : Sound) × DescribesRead name old s × DescribesRead input old t × P s t
+
+-- why a file can't be a neighbour of the input: it was not read or holds no recording, it has another rate or other
+-- channels than the input, or it doesn't end as `Ends` says
+abbrev pub IsNoNeighbour : (ℕ → Type 0) → List ℕ → List ℕ → View → NeighbourFault → Type 0
+IsNoNeighbour Ends name input old (neighbours.Command fault) = IsUnoutlined name old fault
+IsNoNeighbour Ends name input old neighbours.OtherRate = DescribeRead name input old (λ s t. s.rate ≢ t.rate)
+IsNoNeighbour Ends name input old neighbours.OtherChannels = DescribeRead name input old (λ s t. s.channels ≢ t.channels)
+IsNoNeighbour Ends name input old neighbours.NotWholeBytes = (s : Sound) × DescribesRead name old s × (Ends s.count → ⊥)
+
+-- a neighbour is named, and can't be one for this fault; out of memory is no fault of a neighbour
+abbrev pub IsRefusedNeighbour : (ℕ → Type 0) → Option (Bor (List ℕ)) → List ℕ → View → NeighbourFault → Type 0
+IsRefusedNeighbour Ends None input old fault = ⊥
+IsRefusedNeighbour Ends (Some name) input old fault = IsNoNeighbour Ends name.now input old fault × (fault ≢ neighbours.Command (Call Memory))
+
+-- ---- the recording that is played
+-- why it isn't: it holds no recording, or doesn't end with a whole byte of each channel
+abbrev pub IsNotBetween : List ℕ → View → calls.Fault → Type 0
+IsNotBetween input old fault = IsUnreported input old fault ⊎ ((fault ≡ NotWholeBytes) × ((s : Sound) × DescribesRead input old s × (s.count % 8 ≢ 0)))
+
+-- the same, or it isn't read, or memory runs out
+abbrev pub IsNotOpened : List ℕ → View → CommandFault → Type 0
+IsNotOpened input old (Call fault) = (fault ≡ Memory) ⊎ IsNotBetween input old fault
+IsNotOpened input old ReadFailed = ⊤
+IsNotOpened input old WriteFailed = ⊥
+
+-- ---- the files
+-- the output holds `count` bytes now: the WAVE file of the frames whose place lies in the input, of the recording that it
+-- makes with its neighbours; no other file changed
+pub record PlaysBetweenFiles (project_name file_name output_name : List ℕ) (around : NeighbourNames) (old new : View) (count : ℕ) : Type 0 where
+  pub project : List ℕ
+  pub decimator : Decimator
+  pub file : List ℕ
+  pub bytes : List ℕ
+  pub rate : ℕ
+  pub before : List (List Bool)
+  pub after : List (List Bool)
+  pub project_read : IsReadOf old project_name project
+  pub project_says : SaysDecimator project decimator
+  pub before_are : AreChannelsOf around.previous old rate before
+  pub after_are : AreChannelsOf around.next old rate after
+  pub file_read : IsReadOf old file_name file
+  pub plays : PlaysBetween decimator rate before after file bytes
+  pub output_put : IsPut new output_name bytes
+  pub counted : count ≡ length bytes
+  pub others : KeepsOthers output_name old new
+
+-- a text was read of the project, and this is its first fault, or that of the input; nothing changed
+pub record IsBetweenRefused (project_name file_name : List ℕ) (old new : View) (fault : calls.Fault) : Type 0 where
+  pub project : List ℕ
+  pub project_read : IsReadOf old project_name project
+  pub why : FailsUnless Memory fault (decimator_of_text project) ⊎ IsNotBetween file_name old fault
+  pub same : new ≡ old
+
+-- a file is unchanged, or no old one had to be kept and it holds a prefix of what is played of a recording between its
+-- neighbours, if anything is
+abbrev pub LeavesPrefixBetween : Decimator → ℕ → List (List Bool) → List (List Bool) → List ℕ → List ℕ → View → View → Type 0
+LeavesPrefixBetween d rate before after file output old new = (new.file output ≡ old.file output)
+    ⊎ (((bytes : List ℕ) → PlaysBetween d rate before after file bytes → (prefix : List ℕ) × (rest : List ℕ) × (new.file output ≡ Some prefix) × (bytes ≡ prefix ++ rest)) × HadNone output old)
+
+-- the neighbours were read, and a fault ended the playing: the output has such a prefix, and no other file changed
+pub record LeavesBetween (project_name file_name output_name : List ℕ) (around : NeighbourNames) (old new : View) (fault : calls.Fault) : Type 0 where
+  pub project : List ℕ
+  pub decimator : Decimator
+  pub rate : ℕ
+  pub before : List (List Bool)
+  pub after : List (List Bool)
+  pub project_read : IsReadOf old project_name project
+  pub project_says : SaysDecimator project decimator
+  pub before_are : AreChannelsOf around.previous old rate before
+  pub after_are : AreChannelsOf around.next old rate after
+  pub ended : IsTrue old.is_known → (file : List ℕ) × OpensAs old file_name file × LeavesPrefixBetween decimator rate before after file output_name old new
+  pub named : NamesRead file_name old fault
+  pub others : KeepsOthers output_name old new
+
+-- the neighbours were read, but the output was not created, written or kept: it is as it was, and so is each other file
+pub record IsBetweenUnwritten (project_name output_name : List ℕ) (around : NeighbourNames) (old new : View) : Type 0 where
+  pub project : List ℕ
+  pub rate : ℕ
+  pub before : List (List Bool)
+  pub after : List (List Bool)
+  pub project_read : IsReadOf old project_name project
+  pub before_are : AreChannelsOf around.previous old rate before
+  pub after_are : AreChannelsOf around.next old rate after
+  pub same : new.file output_name ≡ old.file output_name
+  pub others : KeepsOthers output_name old new
+
+-- the file before was read, or none is named, but the one after can't be a neighbour for this fault; nothing changed
+pub record IsNextRefused (file_name : List ℕ) (around : NeighbourNames) (old new : View) (fault : NeighbourFault) : Type 0 where
+  pub rate : ℕ
+  pub before : List (List Bool)
+  pub before_are : AreChannelsOf around.previous old rate before
+  pub refused : IsRefusedNeighbour EndsAfter around.next file_name old fault
+  pub same : new ≡ old
+
+-- the folder before and after the input was played to the output between its neighbours by the project came to this
+abbrev pub PlayBetweenComesTo : List ℕ → List ℕ → List ℕ → NeighbourNames → View → View → Result ℕ BetweenFault → Type 0
+PlayBetweenComesTo project input output around old new (Ok count) = PlaysBetweenFiles project input output around old new count
+PlayBetweenComesTo project input output around old new (Err (Command (Call fault))) = ((new ≡ old) × (fault ≡ Memory)) ⊎ (IsBetweenRefused project input old new fault ⊎ LeavesBetween project input output around old new fault)
+PlayBetweenComesTo project input output around old new (Err (Command ReadFailed)) = new ≡ old
+PlayBetweenComesTo project input output around old new (Err (Command WriteFailed)) = IsBetweenUnwritten project output around old new
+PlayBetweenComesTo project input output around old new (Err (Previous fault)) = IsRefusedNeighbour EndsBefore around.previous input old fault × (new ≡ old)
+PlayBetweenComesTo project input output around old new (Err (Next fault)) = IsNextRefused input around old new fault
+
+-- ---- stages
+-- a reader's file was played between these channels, if it is known, and some bytes otherwise: its WAVE file of n bytes
+-- was written
+pub record WritesBetween (d : Decimator) (rate : ℕ) (before after : List (List Bool)) (left held written : Option (List ℕ)) (n : ℕ) : Type 0 where
+  pub plays : PlaysFile left (PlaysBetween d rate before after) held written n
+  pub some : (read : List ℕ) × (bytes : List ℕ) × PlaysBetween d rate before after read bytes × (n ≡ length bytes)
+
+-- a fault ended the playing of a reader's file: what was written is a prefix
+pub record StopsBetween (d : Decimator) (rate : ℕ) (before after : List (List Bool)) (left held written : Option (List ℕ)) (fault : calls.Fault) : Type 0 where
+  pub named : IfNamed fault (IsFirstFault left)
+  pub prefix : WritesPrefix left (PlaysBetween d rate before after) held written
+
+-- how playing a reader's file between these channels ends
+abbrev pub WritesTo : Decimator → ℕ → List (List Bool) → List (List Bool) → Option (List ℕ) → Option (List ℕ) → Option (List ℕ) → Result ℕ calls.Fault → Type 0
+WritesTo d rate before after left held written (Ok n) = WritesBetween d rate before after left held written n
+WritesTo d rate before after left held written (Err fault) = StopsBetween d rate before after left held written fault
+
+-- how playing a file that was opened under a name to an empty one, between these channels, ends: it is handed back, or
+-- given up after a fault
+abbrev pub JoinedComesTo : Decimator → ℕ → List (List Bool) → List (List Bool) → List ℕ → List ℕ → View → View → Result ℕ CommandFault → Type 0
+JoinedComesTo d rate before after input output old new (Ok count) = (file : List ℕ) × (bytes : List ℕ) × IsReadOf old input file × IsPut new output bytes × PlaysBetween d rate before after file bytes × (count ≡ length bytes) × KeepsOthers output old new
+JoinedComesTo d rate before after input output old new (Err (Call fault)) = (IsTrue old.is_known → (file : List ℕ) × OpensAs old input file × LeavesPrefixBetween d rate before after file output old new) × NamesRead input old fault × KeepsOthers output old new
+JoinedComesTo d rate before after input output old new (Err WriteFailed) = KeepsOthers output old new × (new.file output ≡ old.file output)
+JoinedComesTo d rate before after input output old new (Err ReadFailed) = ⊥

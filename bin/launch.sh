@@ -16,6 +16,8 @@
 # If `play` has a rate and width in place of PROJECT, such as 88200/24, and no file has this name, the program gets the
 # ready filter that plays IN to it. Of 88200/24,96000/24 this is the first that exists; with --plus6 it is the one that
 # is 6 dB louder. --plus6 and --explain may then be anywhere after `play`. IN is read first, so it must not be a pipe.
+#
+# `sum -r` and `info --json` are done by scripts in the folders beside docs/, which run the program.
 # shellcheck shell=sh
 
 print_usage() {
@@ -107,9 +109,9 @@ plays_by_wish() {
         play_place=$((play_place + 1))
         case "$play_before $play_argument" in
             program\ *) play_before='' && continue ;;
-            --from\ * | --to\ *) play_before='' && continue ;;
-            " --from" | " --to") play_before="$play_argument" && continue ;;
-            " --from="* | " --to="* | " --speakers") continue ;;
+            --from\ * | --to\ * | --previous\ * | --next\ *) play_before='' && continue ;;
+            " --from" | " --to" | " --previous" | " --next") play_before="$play_argument" && continue ;;
+            " --from="* | " --to="* | " --previous="* | " --next="* | " --speakers" | " --dop") continue ;;
             " --") play_before=names && continue ;;
             " --plus6") play_louder=yes play_drops="$play_drops$play_place " && continue ;;
             " --explain") play_explains=--explain play_drops="$play_drops$play_place " && continue ;;
@@ -222,7 +224,29 @@ find_filter() {
     fi
 }
 
+# The script that does what the program's arguments ask for, if one does.
+script_for() {
+    script_command='' script_found=''
+    for script_word; do
+        case "$script_command $script_word" in
+            *" --") break ;;
+            program\ --explain) ;;
+            program\ sum | program\ info) script_command="$script_word" ;;
+            program\ *) break ;;
+            "sum -r") script_found=workflows/sum_folder ;;
+            "info --json") script_found=tools/info_json ;;
+            *) script_command="${script_command:-program}" ;;
+        esac
+    done
+    [ -n "$script_found" ]
+}
+
 run_child() {
+    if script_for "$@"; then
+        export DSDARC="$1"
+        shift
+        exec "$usage_folder/$script_found" "$@"
+    fi
     if plays_by_wish "$@"; then
         find_filter "$1"
         play_place=0
@@ -238,11 +262,12 @@ run_child() {
         not_louder
     fi
     child_status=0
-    # A command writes the files that its last two names name, or one of them; the places of a part may follow them.
+    # A command writes the files that its last two names name, or one of them; options may follow them.
     child_first='' child_second='' child_before=''
     for child_name; do
         case "$child_before:$child_name" in
-            --from:* | --to:* | *:--from | *:--to | *:--from=* | *:--to=* | *:--speakers) ;;
+            --from:* | --to:* | --previous:* | --next:* | *:--from | *:--to | *:--previous | *:--next) ;;
+            *:--from=* | *:--to=* | *:--previous=* | *:--next=* | *:--speakers | *:--dop) ;;
             *) child_first="$child_second" child_second="$child_name" ;;
         esac
         child_before="$child_name"

@@ -76,14 +76,16 @@ _dsdarc() {
         if [ "$first" -eq 1 ]; then _dsdarc_words --explain --help --version; fi
         return
     fi
-    # The options of play come before its names, and each takes an argument of its own. Bash splits words at : and @.
-    local next=$((first + 1)) width
-    if [ "$command" = play ]; then
+    # The options of play and convert come before the names, and a place or a file is an argument of its own. Bash splits
+    # words at : and @.
+    local next=$((first + 1)) width dop=''
+    if [ "$command" = play ] || [ "$command" = convert ]; then
         while [ "$next" -lt "$COMP_CWORD" ]; do
             width=2
-            case "${COMP_WORDS[next]}" in
-                --from | --to) ;;
-                --plus6 | --speakers) width=1 ;;
+            case "$command ${COMP_WORDS[next]}" in
+                "play --from" | "play --to" | "play --previous" | "play --next") ;;
+                "play --plus6" | *" --speakers") width=1 ;;
+                *" --dop") width=1 dop=yes ;;
                 *) break ;;
             esac
             if [ "$width" -eq 2 ] && [ "${COMP_WORDS[next + 1]-}" = @ ]; then width=3; fi
@@ -91,31 +93,50 @@ _dsdarc() {
             next=$((next + width)) place=$((place - width))
         done
         if [ "$next" -gt "$COMP_CWORD" ]; then
-            compopt +o default 2>/dev/null
+            case "${COMP_WORDS[COMP_CWORD - 1]}" in
+                --previous | --next) _dsdarc_files '[dD][fF][fF]' '[dD][sS][fF]' ;;
+                *) compopt +o default 2>/dev/null ;;
+            esac
             return
         fi
         case "$cur" in
             --*)
                 compopt +o filenames +o default 2>/dev/null
-                _dsdarc_words --from --to --speakers --plus6
+                if [ "$command" = play ]; then _dsdarc_words --from --to --previous --next --plus6; fi
+                _dsdarc_words --speakers --dop
                 return
                 ;;
         esac
     fi
+    # The option of info is offered once it is begun, as - is standard input. After it any number of files may follow.
+    case "$command:$place:$cur:${COMP_WORDS[next]}" in
+        info:2:--*) compopt +o filenames 2>/dev/null; _dsdarc_words --json; return ;;
+        info:*:--json) [ "$place" -eq 2 ] || place=2 ;;
+    esac
+    # With --dop play has no project, and convert reads WAVE files.
+    if [ "$command$dop" = playyes ]; then place=$((place + 1)); fi
     case "$command:$place" in
         convert:2 | edit:2) compopt +o filenames 2>/dev/null; _dsdarc_words dsdiff dsf dsf8 ;;
         play:2 | edit:3 | check:2 | nulltest:2) _dsdarc_project "$command" ;;
-        info:2 | convert:3 | play:3 | check:3 | nulltest:3)
+        convert:3)
+            if [ -n "$dop" ]; then _dsdarc_files '[wW][aA][vV]'; else _dsdarc_files '[dD][fF][fF]' '[dD][sS][fF]'; fi
+            _dsdarc_stream
+            ;;
+        info:2 | play:3 | check:3 | nulltest:3)
             _dsdarc_files '[dD][fF][fF]' '[dD][sS][fF]'
             _dsdarc_stream
             ;;
         sum:*)
-            if [ "$place" -eq 2 ]; then _dsdarc_words --check; fi
-            if [ "$place" -gt 2 ] && [ "${COMP_WORDS[next]}" = --check ]; then
-                _dsdarc_add < <(compgen -f -- "$cur")
-            else
-                _dsdarc_files '[dD][fF][fF]' '[dD][sS][fF]'
-            fi
+            case "$place:$cur:${COMP_WORDS[next]}" in
+                2:*) _dsdarc_words --check -r ;;
+                3:-*:--check) _dsdarc_words -r; return ;;
+                3:-*:-r) _dsdarc_words --check; return ;;
+            esac
+            case "$place:${COMP_WORDS[next]}" in
+                2:*) _dsdarc_files '[dD][fF][fF]' '[dD][sS][fF]' ;;
+                *:--check | *:-r) _dsdarc_add < <(compgen -f -- "$cur") ;;
+                *) _dsdarc_files '[dD][fF][fF]' '[dD][sS][fF]' ;;
+            esac
             ;;
         convert:4 | play:4 | edit:4 | edit:5 | check:4)
             _dsdarc_add < <(compgen -f -- "$cur")

@@ -1,6 +1,6 @@
 -- What a command does to a folder, by the names that it gets. What it says of bytes holds of some that were read, in
 -- any folder, and of those that openings of the names give, if the folder's bytes are known.
-use Rattle.std.specs.Prelude.{◌≡◌, ◌≢◌, ℕ, Bool, true, false, List, IfSome, IsTrue, Option, None, Some, ◌⊎◌, Result, Ok, Err, map}
+use Rattle.std.specs.Prelude.{◌≡◌, ◌≢◌, ⊤, ℕ, Bool, true, false, List, IfSome, IsTrue, Option, None, Some, ◌⊎◌, Result, Ok, Err, map}
 use Rattle.std.specs.Borrow.{Bor}
 use Rattle.request_core.specs.declared.fault.Fault as calls
 use Rattle.request_core.specs.declared.fault.Fault.TheVariants.{Memory}
@@ -12,7 +12,10 @@ use Rattle.request_core.specs.Cutting.{said_cut}
 use Rattle.form_core.specs.Steps.{FailsUnless}
 use Rattle.archive_core.specs.Editing.{Edits, IsCertificate}
 use Rattle.folder_core.specs.Files.{OpensAs, IsPutInPart, IsPut, IsReadOf, KeepsAllBut, KeepsOthers, View}
+use Rattle.transfer_commands.specs.BetweenPlaying.{PlayBetweenComesTo}
 use Rattle.transfer_commands.specs.Converting.{ConvertComesTo}
+use Rattle.transfer_commands.specs.DopConverting.{ConvertDopComesTo}
+use Rattle.transfer_commands.specs.DopPlaying.{PlayDopComesTo}
 use Rattle.transfer_commands.specs.Playing.{PlayComesTo}
 use Rattle.transfer_commands.specs.Sources.{AreSources, IsUnnamed}
 use Rattle.transfer_commands.specs.Reporting.{ReportComesTo}
@@ -23,13 +26,14 @@ use Rattle.null_commands.specs.declared.fault.TestFault.{TestFault}
 use Rattle.null_commands.specs.declared.tested.Tested.{Tested}
 use Rattle.transfer_commands.specs.PartPlaying.{PlayPartComesTo}
 use Rattle.transfer_commands.specs.Speaking.{SpeakComesTo}
+use Rattle.transfer_commands.specs.SpeakersConverting.{ConvertSpeakersComesTo}
 use Rattle.transfer_core.specs.declared.spans.Span.{Span}
 use Rattle.transfer_commands.specs.declared.parts.PartFault.{PartFault}
 use Rattle.command_core.specs.Hosts.{State}
-use Rattle.command_core.specs.Outcomes.{of_words, outcome_of, part_outcome_of, tested_outcome, verdict_of}
+use Rattle.command_core.specs.Outcomes.{between_outcome_of, dop_outcome_of, of_words, outcome_of, part_outcome_of, speakers_outcome_of, spoken_outcome_of, tested_outcome, verdict_of}
 use Rattle.command_core.specs.SumEndings.{EndsSums}
 use Rattle.command_core.specs.declared.outcome.Outcome.{Outcome}
-use Rattle.command_core.specs.declared.outcome.Outcome.TheVariants.{Played, Converted, Edited, Info, Summed, Fault, WrongWords}
+use Rattle.command_core.specs.declared.outcome.Outcome.TheVariants.{Played, Converted, Edited, Info, Summed, Fault}
 use Rattle.command_core.specs.declared.sum_status.SumStatus.{SumStatus}
 use Rattle.words_core.specs.declared.fault.WordsFault.{WordsFault}
 use Rattle.words_core.specs.declared.task.Task.{Task}
@@ -165,6 +169,10 @@ Says {T} done P outcome = (came : Result T CommandFault) × (outcome ≡ outcome
 abbrev pub SaysPart : (Result ℕ PartFault → Type 0) → Outcome → Type 0
 SaysPart P outcome = (came : Result ℕ PartFault) × (outcome ≡ part_outcome_of came) × P came
 
+-- the same of a command with faults of its own, whose outcome of what it came to is this function
+abbrev pub SaysAs : {T F : Type 0} → (Result T F → Outcome) → (Result T F → Type 0) → Outcome → Type 0
+SaysAs {T} {F} names P outcome = (came : Result T F) × (outcome ≡ names came) × P came
+
 -- the same of a null test
 abbrev pub SaysTest : (Result Tested TestFault → Type 0) → Outcome → Type 0
 SaysTest P outcome = (came : Result Tested TestFault) × (outcome ≡ tested_outcome came) × P came
@@ -172,12 +180,29 @@ SaysTest P outcome = (came : Result Tested TestFault) × (outcome ≡ tested_out
 -- how playing all of a file ends, with the loudspeakers of its channels or without them
 abbrev pub PlaysAs : Bool → List ℕ → List ℕ → List ℕ → View → View → Outcome → Type 0
 PlaysAs false project input output old new = Says Played (PlayComesTo project input output old new)
-PlaysAs true project input output old new = SaysPart (SpeakComesTo project input output (record { from = None; to = None }) old new)
+PlaysAs true project input output old new = SaysAs spoken_outcome_of (SpeakComesTo project input output (record { from = None; to = None }) old new)
 
 -- the same of a part
 abbrev pub PlaysPartAs : Bool → List ℕ → List ℕ → List ℕ → Span → View → View → Outcome → Type 0
 PlaysPartAs false project input output span old new = SaysPart (PlayPartComesTo project input output span old new)
-PlaysPartAs true project input output span old new = SaysPart (SpeakComesTo project input output span old new)
+PlaysPartAs true project input output span old new = SaysAs spoken_outcome_of (SpeakComesTo project input output span old new)
+
+-- how converting ends, with the loudspeakers of the channels or without them
+abbrev pub ConvertsAs : Bool → Form → List ℕ → List ℕ → View → View → Outcome → Type 0
+ConvertsAs false form input output old new = Says Converted (ConvertComesTo form input output old new)
+ConvertsAs true form input output old new = SaysAs speakers_outcome_of (ConvertSpeakersComesTo form input output old new)
+
+-- a task that plays a part of a recording, or a recording between others
+abbrev pub IsPlayedInside : Task → Type 0
+IsPlayedInside (tasks.PlayPart project input output from to speakers) = ⊤
+IsPlayedInside (tasks.PlayBetween project input output previous next) = ⊤
+IsPlayedInside _ = ⊥
+
+-- a task that converts
+abbrev pub IsConverting : Task → Type 0
+IsConverting (tasks.Convert form input output speakers) = ⊤
+IsConverting (tasks.ConvertDop form input output) = ⊤
+IsConverting _ = ⊥
 
 -- how a command changes the folder: a judgement changes no file, and neither does a refusal, unless a file is played or
 -- converted piece by piece; a failed write changes one file, or two if the first is the master that was cut; and if the
@@ -185,14 +210,14 @@ PlaysPartAs true project input output span old new = SaysPart (SpeakComesTo proj
 abbrev pub TaskComesTo : Task → View → View → Outcome → Type 0
 TaskComesTo (tasks.Play project input output speakers) old new = PlaysAs speakers project.now input.now output.now old new
 TaskComesTo (tasks.PlayPart project input output from to speakers) old new = PlaysPartAs speakers project.now input.now output.now (record { from = from; to = to }) old new
-TaskComesTo (tasks.Convert form input output speakers) old new = Says Converted (ConvertComesTo form input.now output.now old new)
+TaskComesTo (tasks.Convert form input output speakers) old new = ConvertsAs speakers form input.now output.now old new
 TaskComesTo (tasks.Edit form project master cert) old new = Says Edited (EditComesTo (cut_into form project.now master.now cert.now) old new)
 TaskComesTo (tasks.Check project master cert) old new = Says verdict_of (CheckComesTo project.now master.now cert.now old new)
 TaskComesTo (tasks.NullTest mix master) old new = SaysTest (TestComesTo mix.now master.now old new)
 TaskComesTo (tasks.Info file) old new = Says Info (ReportComesTo file.now old new)
-TaskComesTo (tasks.PlayBetween project input output previous next speakers) old new = λ outcome. (outcome ≡ WrongWords) × (new ≡ old)
-TaskComesTo (tasks.PlayDop input output) old new = λ outcome. (outcome ≡ WrongWords) × (new ≡ old)
-TaskComesTo (tasks.ConvertDop form input output) old new = λ outcome. (outcome ≡ WrongWords) × (new ≡ old)
+TaskComesTo (tasks.PlayBetween project input output previous next) old new = SaysAs between_outcome_of (PlayBetweenComesTo project.now input.now output.now (record { previous = previous; next = next }) old new)
+TaskComesTo (tasks.PlayDop input output) old new = Says Played (PlayDopComesTo input.now output.now old new)
+TaskComesTo (tasks.ConvertDop form input output) old new = SaysAs dop_outcome_of (ConvertDopComesTo form input.now output.now old new)
 TaskComesTo (tasks.Sum is_check files) old new = λ outcome. ⊥
 
 -- ---- what words ask for

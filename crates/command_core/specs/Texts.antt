@@ -7,6 +7,8 @@ use Rattle.chunk_core.specs.declared.fault.ChunkFault.{ChunkFault}
 use Rattle.chunk_core.specs.declared.fault.ChunkFault.TheVariants as chunks
 use Rattle.cut_core.specs.declared.fault.CutFault.{CutFault}
 use Rattle.cut_core.specs.declared.fault.CutFault.TheVariants as cuts
+use Rattle.dop_core.specs.declared.fault.DopFault.{DopFault}
+use Rattle.dop_core.specs.declared.fault.DopFault.TheVariants as dops
 use Rattle.dsdiff_core.specs.declared.fault.DsdiffFault.{DsdiffFault}
 use Rattle.dsdiff_core.specs.declared.fault.DsdiffFault.TheVariants as dsdiffs
 use Rattle.dsf_core.specs.declared.fault.DsfFault.{DsfFault}
@@ -25,6 +27,9 @@ use Rattle.request_core.specs.declared.span_fault.SpanFault.{SpanFault}
 use Rattle.request_core.specs.declared.span_fault.SpanFault.TheVariants as spans
 use Rattle.sound_core.specs.declared.fault.StreamFault.{StreamFault}
 use Rattle.sound_core.specs.declared.fault.StreamFault.TheVariants as streams
+use Rattle.transfer_commands.specs.declared.fault.CommandFault.TheVariants as commands
+use Rattle.transfer_commands.specs.declared.neighbour.NeighbourFault.{NeighbourFault}
+use Rattle.transfer_commands.specs.declared.neighbour.NeighbourFault.TheVariants as neighbours
 
 -- of bytes that are no list of chunks: a name and the place of the chunk
 unfoldable pub chunk_text : ChunkFault → List ℕ
@@ -68,6 +73,22 @@ dsf_text (dsfs.TooLong count) = codes "TooLong"
 dsf_text (dsfs.DataCut sound) = codes "DataCut"
 dsf_text (dsfs.BadPointer tag end length) = codes "BadPointer"
 dsf_text dsfs.Memory = codes "Memory"
+
+-- of a file of DoP samples: a name, and for `BadMarker` the frame
+unfoldable pub dop_text : DopFault → List ℕ
+dop_text dops.NotWave = codes "NotWave"
+dop_text dops.NoData = codes "NoData"
+dop_text dops.NoFormat = codes "NoFormat"
+dop_text dops.NotPcm24 = codes "NotPcm24"
+dop_text (dops.BadChannelNumber number) = codes "BadChannelNumber"
+dop_text (dops.BadRate rate) = codes "BadRate"
+dop_text (dops.NoSize size) = codes "NoSize"
+dop_text (dops.DataCut size there) = codes "DataCut"
+dop_text dops.PartFrame = codes "PartFrame"
+dop_text (dops.BadMarker frame) = codes "BadMarker " ++ decimal frame
+dop_text dops.CountCut = codes "CountCut"
+dop_text (dops.BadCount count) = codes "BadCount"
+dop_text dops.Memory = codes "Memory"
 
 -- of a file of any form: the form and what is wrong with it, or a name
 unfoldable pub read_text : ReadFault → List ℕ
@@ -130,6 +151,15 @@ fault_text (faults.ClipOutside clip) = codes "ClipOutside " ++ decimal clip
 fault_text (faults.Stream fault) = stream_text fault
 fault_text faults.NotWholeBytes = codes "NotWholeBytes"
 fault_text faults.Memory = codes "Memory"
+
+-- of a file that is no neighbour of another: a name, or what is wrong with the file
+unfoldable pub neighbour_text : NeighbourFault → List ℕ
+neighbour_text (neighbours.Command (commands.Call fault)) = fault_text fault
+neighbour_text (neighbours.Command commands.ReadFailed) = codes "ReadFailed"
+neighbour_text (neighbours.Command commands.WriteFailed) = codes "WriteFailed"
+neighbour_text neighbours.OtherRate = codes "OtherRate"
+neighbour_text neighbours.OtherChannels = codes "OtherChannels"
+neighbour_text neighbours.NotWholeBytes = codes "NotWholeBytes"
 
 -- of an entry of a certificate: a name, and each number that it has
 unfoldable pub entry_text : CertReason → List ℕ

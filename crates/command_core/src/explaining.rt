@@ -2,12 +2,13 @@
 
 use crate::outcome::Outcome;
 use archive_core::Fault;
-use ended_core::{Ended, NullReason};
+use ended_core::{Ended, NeighbourReason, NullReason};
 use folder_core::{FRONT, Failure};
 use null_commands::Tested;
 use null_core::Verdict;
 use sound_core::StreamFault;
 use std::io;
+use transfer_commands::{CommandFault, NeighbourFault};
 
 /// What the disk remembers of a command: why a file could not be made, how the file begins that was kept last, and how
 /// many bytes the file gave that was opened last.
@@ -40,10 +41,28 @@ pub(crate) fn ended_of(shown: &Shown, remembered: Remembered) -> Option<Ended> {
         (Outcome::Fault(fault), _) if remembered.given == 0 => Some(Ended::Nothing(*fault)),
         (Outcome::Fault(fault), _) => Some(Ended::Fault(*fault)),
         (Outcome::Played(count), _) => Some(Ended::Played(remembered.front?, *count)),
+        (Outcome::Spoken(played), _) => {
+            Some(Ended::Spoken(remembered.front?, played.size, played.mask))
+        }
+        (Outcome::NoChannelType, _) => Some(Ended::NoChannelType),
         (Outcome::NoPart(fault), _) => Some(Ended::NoPart(*fault)),
+        (Outcome::NoPrevious(fault), _) => Some(Ended::NoPrevious(neighbour_reason_of(*fault))),
+        (Outcome::NoNext(fault), _) => Some(Ended::NoNext(neighbour_reason_of(*fault))),
+        (Outcome::DopUnread(fault), _) => Some(Ended::DopUnread(*fault)),
         (Outcome::Rejected(reason), _) => Some(Ended::Rejected(*reason)),
         (Outcome::NullTested(tested), _) => Some(Ended::NotNull(null_reason_of(tested)?)),
         _ => None,
+    }
+}
+
+// Why a file is no neighbour of another.
+fn neighbour_reason_of(fault: NeighbourFault) -> NeighbourReason {
+    match fault {
+        NeighbourFault::Command(CommandFault::Call(fault)) => NeighbourReason::Refused(fault),
+        NeighbourFault::Command(_) => NeighbourReason::Unread,
+        NeighbourFault::OtherRate => NeighbourReason::Rate,
+        NeighbourFault::OtherChannels => NeighbourReason::Channels,
+        NeighbourFault::NotWholeBytes => NeighbourReason::Rest,
     }
 }
 

@@ -38,6 +38,7 @@
 //! ```
 #![tactic(auto)]
 
+mod dop_texts;
 mod ending;
 mod explaining;
 mod file_texts;

@@ -1,8 +1,8 @@
 //! Commands over the files of a folder.
 
 ghost use Rattle.std.specs.Prelude.{◌≡◌, IfErr, IfOk, OnErr};
-ghost use Rattle.command_core.specs.Commands.{CheckComesTo, EditComesTo, PlaysAs, PlaysPartAs, TaskComesTo, cut_into};
-ghost use Rattle.command_core.specs.Outcomes.{outcome_of, part_outcome_of, tested_outcome, verdict_of};
+ghost use Rattle.command_core.specs.Commands.{CheckComesTo, ConvertsAs, EditComesTo, IsConverting, IsPlayedInside, PlaysAs, PlaysPartAs, TaskComesTo, cut_into};
+ghost use Rattle.command_core.specs.Outcomes.{between_outcome_of, dop_outcome_of, outcome_of, part_outcome_of, speakers_outcome_of, spoken_outcome_of, tested_outcome, verdict_of};
 ghost use Rattle.command_core.specs.declared.outcome.Outcome.TheVariants as outcomes;
 ghost use Rattle.words_core.specs.declared.task.Task.TheVariants as tasks;
 
@@ -17,8 +17,10 @@ use folder_core::Folder;
 use null_commands::{TestFault, Tested, null_test_files};
 use std::alloc::Global;
 use transfer_commands::{
-    CommandFault, PartFault, Reported, convert_file, open_file, play_file, play_part_file,
-    play_speakers_file, source_excerpts,
+    BetweenFault, CommandFault, DopConvertFault, NeighbourNames, PartFault, PlayedSpeakers,
+    Reported, SpeakersFault, convert_dop_file, convert_file, convert_speakers_file, open_file,
+    play_between_file, play_dop_file, play_file, play_part_file, play_speakers_file,
+    source_excerpts,
 };
 use transfer_core::Span;
 use words_core::Task;
@@ -44,8 +46,11 @@ pub struct SumTask<'a> {
 ///   piece.
 /// - `PlayPart`: The recording is read through as for `Info`, to find the part. Then it is played as by `Play`, and
 ///   what lies before the part is dropped. One that can't be opened again is played in the same opening.
-/// - Either with `speakers`: the recording is also read through as for `Info` before that, for its loudspeakers, and can't
-///   be one that can't be opened again.
+/// - `PlayBetween`: After the recording, the files before and after it are opened, one after the other, and read as far
+///   as the filter reaches and for what is around their sound. Then it is played as by `Play`.
+/// - `PlayDop`: As `Play`, without a project.
+/// - `Play` and `PlayPart` with `speakers`: the recording is read through as for `Info` before that, for its loudspeakers
+///   and the part. One that can't be opened again is held whole instead.
 /// - `Convert` and `Check`: see below.
 ///
 /// `Check` reads a master once, and its certificate while the master is judged. Both are read to their ends, whatever
@@ -60,7 +65,7 @@ pub struct SumTask<'a> {
 /// A recording for `Convert` or `Info`, and a take, is read in one pass without its sound, and refused for its first
 /// fault; of a take the bits that cues and bridges read are kept. To convert it, it is opened once more, the other file
 /// is created, and the one is read and the other written block by block. A recording for `Convert` that can't be opened
-/// again, as a pipe, is held whole instead.
+/// again, as a pipe, is held whole instead, and so is a file for `ConvertDop`.
 ///
 /// After a fault of playing, or of such a conversion, the file that was created may hold a prefix of what was due. It
 /// never replaces an old file if the folder keeps old files.
@@ -82,6 +87,32 @@ pub fn perform<'a, F: Folder>(
             output,
             speakers,
         } => Ok(play_all(alloc, folder, project, input, output, speakers)),
+        Task::PlayPart { .. } | Task::PlayBetween { .. } => Ok(play_inside(alloc, task, folder)),
+        Task::PlayDop { input, output } => Ok(played(play_dop_file(alloc, folder, input, output))),
+        Task::Convert { .. } | Task::ConvertDop { .. } => Ok(perform_convert(alloc, task, folder)),
+        Task::Edit {
+            form,
+            project,
+            master,
+            cert,
+        } => Ok(edited(edit_files(alloc, folder, form, project, master, cert))),
+        Task::Check {
+            project,
+            master,
+            cert,
+        } => Ok(judged(check_files(alloc, folder, project, master, cert))),
+        Task::NullTest { mix, master } => Ok(tested(null_test_files(alloc, folder, mix, master))),
+        Task::Info { file } => Ok(reported(open_file(alloc, folder, file))),
+        Task::Sum { is_check, files } => Err(SumTask { is_check, files }),
+    }
+}
+
+// Plays a part of a file, or a file between its neighbours.
+fn play_inside<F: Folder>(alloc: Global, task: Task, folder: &mut F) -> Outcome
+    requires { IsPlayedInside task }
+    ensures { TaskComesTo task.entry (F.view folder.old) (F.view folder.new) result }
+{
+    match task {
         Task::PlayPart {
             project,
             input,
@@ -96,31 +127,58 @@ pub fn perform<'a, F: Folder>(
                 output,
                 span: Span { from, to },
             };
-            Ok(play_some(alloc, folder, part, speakers))
+            play_some(alloc, folder, part, speakers)
         }
+        Task::PlayBetween {
+            project,
+            input,
+            output,
+            previous,
+            next,
+        } => {
+            let around = NeighbourNames { previous, next };
+            played_between(play_between_file(alloc, folder, project, input, output, around))
+        }
+        _ => unreachable!(),
+    }
+}
+
+// Does a task that converts.
+fn perform_convert<F: Folder>(alloc: Global, task: Task, folder: &mut F) -> Outcome
+    requires { IsConverting task }
+    ensures { TaskComesTo task.entry (F.view folder.old) (F.view folder.new) result }
+{
+    match task {
         Task::Convert {
             form,
             input,
             output,
-            ..
-        } => Ok(converted(convert_file(alloc, folder, form, input, output))),
-        Task::Edit {
+            speakers,
+        } => convert_all(alloc, folder, form, input, output, speakers),
+        Task::ConvertDop {
             form,
-            project,
-            master,
-            cert,
-        } => Ok(edited(edit_files(alloc, folder, form, project, master, cert))),
-        Task::Check {
-            project,
-            master,
-            cert,
-        } => Ok(judged(check_files(alloc, folder, project, master, cert))),
-        Task::NullTest { mix, master } => Ok(tested(null_test_files(alloc, folder, mix, master))),
-        Task::PlayBetween { .. } | Task::PlayDop { .. } | Task::ConvertDop { .. } => {
-            Ok(Outcome::WrongWords)
-        }
-        Task::Info { file } => Ok(reported(open_file(alloc, folder, file))),
-        Task::Sum { is_check, files } => Err(SumTask { is_check, files }),
+            input,
+            output,
+        } => converted_dop(convert_dop_file(alloc, folder, form, input, output)),
+        _ => unreachable!(),
+    }
+}
+
+// Converts a file, with the loudspeakers of its channels if they are asked for.
+fn convert_all<F: Folder>(
+    alloc: Global,
+    folder: &mut F,
+    form: Form,
+    input: &str,
+    output: &str,
+    speakers: bool,
+) -> Outcome
+    ensures { ConvertsAs speakers form input.now output.now (F.view folder.old) (F.view folder.new) result }
+{
+    if speakers {
+        converted_speakers(convert_speakers_file(alloc, folder, form, input, output))
+    } else {
+        converted(convert_file(alloc, folder, form, input, output))
     }
 }
 
@@ -149,7 +207,7 @@ fn play_all<F: Folder>(
             from: None,
             to: None,
         };
-        played_part(play_speakers_file(alloc, folder, project, input, output, all))
+        spoken(play_speakers_file(alloc, folder, project, input, output, all))
     } else {
         played(play_file(alloc, folder, project, input, output))
     }
@@ -172,7 +230,7 @@ fn play_some<F: Folder>(
         span,
     } = part;
     if speakers {
-        played_part(play_speakers_file(alloc, folder, project, input, output, span))
+        spoken(play_speakers_file(alloc, folder, project, input, output, span))
     } else {
         played_part(play_part_file(alloc, folder, project, input, output, span))
     }
@@ -242,12 +300,52 @@ fn played_part(came: Result<u64, PartFault>) -> Outcome
     }
 }
 
+// The outcome of a command that played between neighbours.
+fn played_between(came: Result<u64, BetweenFault>) -> Outcome
+    ensures { result ≡ between_outcome_of came }
+{
+    match came {
+        Ok(count) => Outcome::Played(count),
+        Err(fault) => fault.into(),
+    }
+}
+
+// The outcome of a command that played with loudspeakers.
+fn spoken(came: Result<PlayedSpeakers, PartFault>) -> Outcome
+    ensures { result ≡ spoken_outcome_of came }
+{
+    match came {
+        Ok(played) => Outcome::Spoken(played),
+        Err(fault) => fault.into(),
+    }
+}
+
+// The outcome of a command that converted with loudspeakers.
+fn converted_speakers(came: Result<u64, SpeakersFault>) -> Outcome
+    ensures { result ≡ speakers_outcome_of came }
+{
+    match came {
+        Ok(dropped) => Outcome::Converted(dropped),
+        Err(fault) => fault.into(),
+    }
+}
+
 // The outcome of a command that converted.
 fn converted(came: Result<u64, CommandFault>) -> Outcome
     ensures { result ≡ outcome_of outcomes.Converted came }
 {
     match came {
         Ok(dropped) => Outcome::Converted(dropped),
+        Err(fault) => fault.into(),
+    }
+}
+
+// The outcome of a command that converted DoP samples. Of their recording nothing is dropped.
+fn converted_dop(came: Result<(), DopConvertFault>) -> Outcome
+    ensures { result ≡ dop_outcome_of came }
+{
+    match came {
+        Ok(()) => Outcome::Converted(0),
         Err(fault) => fault.into(),
     }
 }

@@ -1,7 +1,7 @@
 //! The texts of faults and of reasons against a master, as they are printed.
 
 ghost use Rattle.std.specs.Prelude.{◌≡◌, ◌++◌, OnOk, string_bytes};
-ghost use Rattle.command_core.specs.Texts.{cut_text, entry_text, fault_text, project_text, reason_text, span_text, stream_text};
+ghost use Rattle.command_core.specs.Texts.{cut_text, entry_text, fault_text, neighbour_text, project_text, reason_text, span_text, stream_text};
 ghost use Rattle.project_core.specs.Keys.{key_name};
 
 use crate::file_texts::push_read_fault;
@@ -10,6 +10,7 @@ use cert_core::CertReason;
 use project_core::{Key, ProjectFault};
 use std::alloc::AllocError;
 use std::fmt::Write;
+use transfer_commands::{CommandFault, NeighbourFault};
 use transfer_core::SpanFault;
 
 /// Appends the text of a fault.
@@ -89,6 +90,24 @@ fn name_of_stream(fault: StreamFault) -> &'static str
         StreamFault::WriteFailed => "WriteFailed",
         StreamFault::TurnLimit => "TurnLimit",
         StreamFault::Memory => "Memory",
+    }
+}
+
+/// Appends the text of why a file is no neighbour of another.
+#[tactic(auto, unfolding(crate::specs::Texts::neighbour_text))]
+pub(crate) fn push_neighbour_fault(
+    text: &mut String,
+    fault: NeighbourFault,
+) -> Result<(), AllocError>
+    ensures { OnOk result (string_bytes text.new ≡ string_bytes text.old ++ neighbour_text fault) }
+{
+    match fault {
+        NeighbourFault::Command(CommandFault::Call(fault)) => push_fault(text, fault),
+        NeighbourFault::Command(CommandFault::ReadFailed) => text.push_str("ReadFailed"),
+        NeighbourFault::Command(CommandFault::WriteFailed) => text.push_str("WriteFailed"),
+        NeighbourFault::OtherRate => text.push_str("OtherRate"),
+        NeighbourFault::OtherChannels => text.push_str("OtherChannels"),
+        NeighbourFault::NotWholeBytes => text.push_str("NotWholeBytes"),
     }
 }
 

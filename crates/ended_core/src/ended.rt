@@ -1,6 +1,8 @@
 //! What a command came to.
 
+use crate::neighbour_reason::NeighbourReason;
 use crate::null_reason::NullReason;
+use dop_core::DopFault;
 use folder_core::{FRONT, Failure};
 use request_core::{Fault, Reason, SpanFault};
 use std::io::Error;
@@ -14,6 +16,14 @@ pub enum Ended {
     Nothing(Fault),
     /// The part that is to be played isn't there.
     NoPart(SpanFault),
+    /// The file before is no neighbour of the one that is played, for this reason.
+    NoPrevious(NeighbourReason),
+    /// The file after is no neighbour of the one that is played, for this reason.
+    NoNext(NeighbourReason),
+    /// A file isn't one of DoP samples, for this fault.
+    DopUnread(DopFault),
+    /// No channel type has the loudspeakers of a file's channels.
+    NoChannelType,
     /// A file could not be opened or read.
     ReadFailed,
     /// A file could not be created or written; this is what failed last, if anything is known.
@@ -26,6 +36,8 @@ pub enum Ended {
     NotNull(NullReason),
     /// A file was played: the first bytes of its WAVE file, and how many there are.
     Played([u8; FRONT], u64),
+    /// The same of a file that was played with the loudspeakers of its channels, and their mask.
+    Spoken([u8; FRONT], u64, u32),
     /// A line of a list of sums is none of sums, the first being 1, or for 0 the list has no line or is no text.
     ListRefused(usize),
 }

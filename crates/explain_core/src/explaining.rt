@@ -8,7 +8,7 @@ use cut_core::CutFault;
 use ended_core::{Ended, Explain, Explanation, Summed};
 use form_core::ReadFault;
 use project_core::ProjectFault;
-use request_core::{Fault, SpanFault};
+use request_core::{Fault, Reason, SpanFault};
 use sound_core::StreamFault;
 use std::rt::{Env, Files};
 use words_core::{Task, WordsFault};
@@ -56,31 +56,50 @@ impl Line {
             Ended::Fault(fault) => self.explain_fault(rt, task, fault),
             Ended::Nothing(fault) => self.explain_nothing(rt, task, fault),
             Ended::NoPart(fault) => self.explain_no_part(rt, task, fault),
+            Ended::NoPrevious(why) => self.explain_previous(rt, task, why),
+            Ended::NoNext(why) => self.explain_next(rt, task, why),
+            Ended::DopUnread(_) | Ended::NoChannelType => self.explain_input(rt, task, ended),
             Ended::ReadFailed => self.explain_unread(rt, task),
             Ended::WriteFailed(Some(failure)) => self.explain_unwritten(rt, task, &failure),
-            Ended::Rejected(reason) => {
-                if let Task::Check {
-                    project,
-                    master,
-                    cert,
-                } = task
-                {
-                    if let Some(cutting) = cutting_of(rt, self.alloc, project) {
-                        self.explain_verdict(rt, &cutting, (master, cert), reason);
-                    }
-                }
-            }
+            Ended::Rejected(reason) => self.explain_rejected(rt, task, reason),
             Ended::NotNull(reason) => {
                 if let Task::NullTest { mix, master } = task {
                     self.explain_not_null(rt, mix, master, reason);
                 }
             }
             Ended::Played(front, bytes) => self.explain_played(rt, task, &front, bytes),
+            Ended::Spoken(front, bytes, mask) => {
+                self.explain_played(rt, task, &front, bytes);
+                self.say_speakers(&front, mask);
+            }
             Ended::Unprinted(error) => {
                 self.push("standard output did not take the answer: ");
                 self.say_error(&error);
             }
             _ => {}
+        }
+    }
+
+    // Adds why the recording that a command reads can't be converted.
+    fn explain_input<R: Files>(&mut self, rt: &R, task: Task, ended: Ended) {
+        if let Some((name, word)) = input_of(task) {
+            match ended {
+                Ended::DopUnread(fault) => self.explain_dop(rt, name, fault),
+                _ => self.named(name, word, NO_TYPE),
+            }
+        }
+    }
+
+    fn explain_rejected<R: Files>(&mut self, rt: &R, task: Task, reason: Reason) {
+        if let Task::Check {
+            project,
+            master,
+            cert,
+        } = task
+        {
+            if let Some(cutting) = cutting_of(rt, self.alloc, project) {
+                self.explain_verdict(rt, &cutting, (master, cert), reason);
+            }
         }
     }
 
@@ -128,7 +147,7 @@ impl Line {
                 self.named(name, word, ": ");
                 self.explain_file(rt, name, why);
             }
-            Fault::NotWholeBytes => self.explain_rest(rt, name),
+            Fault::NotWholeBytes => self.explain_rest(rt, name, advice_of(task)),
             Fault::Stream(fault) => self.explain_stream(rt, task, fault),
             _ => self.explain_in_project(rt, task, fault),
         }
@@ -141,9 +160,13 @@ impl Line {
                 self.push("the part of ");
                 self.named(input, "IN", LARGE_PART);
             }
-            (Task::Play { project, input, .. } | Task::PlayPart { project, input, .. }, _) => {
-                self.explain_play(rt, (project, input), fault)
-            }
+            (
+                Task::Play { project, input, .. }
+                | Task::PlayPart { project, input, .. }
+                | Task::PlayBetween { project, input, .. },
+                _,
+            ) => self.explain_play(rt, (project, input), fault),
+            (Task::PlayDop { input, .. }, _) => self.explain_play_dop(rt, input, fault),
             _ => {}
         }
     }
@@ -178,11 +201,23 @@ impl Line {
     }
 }
 
+// What to do with a recording that ends inside a byte.
+fn advice_of(task: Task) -> &'static str {
+    match task {
+        Task::PlayBetween { .. } => "play it without --previous and --next",
+        _ => "convert it to dsf or dsf8",
+    }
+}
+
 // What a command holds.
 const MEMORY: &str = "what surrounds the sound is held whole, and a pipe that is converted: free \
                       some memory, or use a larger machine";
 
 const CUT_MEMORY: &str = "what is cut of the takes is held, about as many bytes as the master has: \
                           free some memory, or use a larger machine";
+
+const NO_TYPE: &str =
+    " has IDs whose loudspeakers no channel type of DSF has; dsdarc info prints them: convert it without \
+     --speakers, or to dsdiff";
 
 const LARGE_PART: &str = " would make a WAVE file of more than 4,294 MB: name shorter parts";

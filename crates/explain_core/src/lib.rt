@@ -15,9 +15,11 @@
 #![tactic(auto)]
 
 mod cutting;
+mod dop;
 mod explaining;
 mod faults;
 mod files;
+mod joining;
 mod line;
 mod mixing;
 mod opening;

@@ -2,6 +2,7 @@
 
 use crate::cutting::cutting_of;
 use crate::files::{Trouble, reopen, trouble_of};
+use crate::joining::word_beside;
 use crate::line::Line;
 use crate::mixing::mixing_of;
 use folder_core::{Failure, STANDARD, Step};
@@ -81,7 +82,7 @@ impl Line {
             _ => self.explain_played_files(rt, task),
         }
         if self.is_empty() {
-            self.push("a read failed part way, or a file was changed while it was read");
+            self.push(PART_WAY);
         }
     }
 
@@ -112,6 +113,14 @@ impl Line {
         }
     }
 
+    /// Adds what is wrong with a file that can't be read.
+    pub(crate) fn explain_first_unread<R: Files>(&mut self, rt: &R, file: File) {
+        self.explain_named(rt, file);
+        if self.is_empty() {
+            self.push(PART_WAY);
+        }
+    }
+
     // Adds what is wrong with a file that is to be read, if nothing was said before.
     fn explain_named<R: Files>(&mut self, rt: &R, (name, word): File) {
         if self.is_empty() {
@@ -125,9 +134,13 @@ impl Line {
     // Adds what of an input can't be played: all of a folder, or marks of what is read once.
     fn explain_unplayed<R: Files>(&mut self, rt: &R, task: Task, (name, word): File) {
         match (task, reopen(rt, name)) {
-            (Task::Play { .. } | Task::PlayPart { .. }, Err(Trouble::Folder)) => {
-                self.push("; workflows/play_all plays the files of a folder")
-            }
+            (
+                Task::Play { .. }
+                | Task::PlayPart { .. }
+                | Task::PlayBetween { .. }
+                | Task::PlayDop { .. },
+                Err(Trouble::Folder),
+            ) => self.push("; workflows/play_all plays the files of a folder"),
             (Task::PlayPart { from, to, .. }, Err(Trouble::Stream)) => match (from, to) {
                 (Some(Place::Mark(_)), _) | (_, Some(Place::Mark(_))) => {
                     self.named(name, word, MARKS)
@@ -181,9 +194,12 @@ impl Line {
         if let Some(file) = output_of(task, failure.step) {
             let (name, word) = file;
             self.named(name, word, ": ");
-            match project_of(task) {
-                Some(project) if is_taken(&failure.error) => {
+            match (project_of(task), word_beside(rt, task, name)) {
+                (Some(project), "") if is_taken(&failure.error) => {
                     self.explain_taken(rt, (project, input_of(task).is_none()), file, failure)
+                }
+                (Some(_), word) if is_taken(&failure.error) => {
+                    self.quote("it is ", word, " too: give another name")
                 }
                 _ => self.explain_error(rt, name, &failure.error),
             }
@@ -230,8 +246,8 @@ fn take_of<R: Files>(rt: &R, alloc: Global, project: &str, name: &str) -> Option
     None
 }
 
-// Whether a file that was to be made is one that is read.
-fn is_one<R: Files>(rt: &R, made: &str, read: &str) -> bool {
+/// Whether a file that was to be made is one that is read.
+pub(crate) fn is_one<R: Files>(rt: &R, made: &str, read: &str) -> bool {
     match (
         found(rt, made, "/proc/self/fd/1"),
         found(rt, read, "/proc/self/fd/0"),
@@ -250,6 +266,8 @@ fn found<R: Files>(rt: &R, name: &str, stream: &str) -> io::Result<Metadata> {
 fn is_taken(error: &Error) -> bool {
     error.raw_os_error().is_none() && error.kind() == ErrorKind::ResourceBusy
 }
+
+const PART_WAY: &str = "a read failed part way, or a file was changed while it was read";
 
 const MARKS: &str =
     " is read once, and marks come after the sound: name times or frames, or write it to a file first";

@@ -26,6 +26,19 @@ const ENDINGS: [&str; 12] = [
     "flac", "mp3", "aif", "aiff", "m4a", "ogg", "opus", "wv", "ape", "dsf", "dff", "dsdiff",
 ];
 
+// The tag of the first form of a WAVE file's format chunk, which has no mask.
+const PLAIN: u16 = 1;
+
+// The loudspeakers of a channel mask, and their usual short names.
+const SPEAKERS: [(u32, &str); 6] = [
+    (1, "FL"),
+    (2, "FR"),
+    (4, "FC"),
+    (8, "LFE"),
+    (16, "BL"),
+    (32, "BR"),
+];
+
 /// The project and the input of a command that plays.
 pub(crate) type Played<'a> = (&'a str, &'a str);
 
@@ -143,14 +156,16 @@ impl Line {
         self.say(" ({c0} frame{s0} at {c1} Hz)", [frames, rate, 0]);
     }
 
-    /// Adds by how much the channels of a file are not whole bytes.
-    pub(crate) fn explain_rest<R: Files>(&mut self, rt: &R, input: &str) {
+    /// Adds by how much the channels of a file are not whole bytes, and what to do.
+    pub(crate) fn explain_rest<R: Files>(&mut self, rt: &R, input: &str, advice: &str) {
         if let Some(sound) = sound_of(rt, self.alloc, input) {
             let bits = sound.count as u64;
             self.named(input, "IN", "");
             self.say(REST, [bits, bits % 8, 0]);
+        } else {
+            self.named(input, "IN", " does not have whole bytes of bits: ");
         }
-        self.push("convert it to dsf or dsf8");
+        self.push(advice);
     }
 
     /// Adds what a WAVE file of so many bytes holds, by the first of them: its rate, width, channels and duration. Then
@@ -166,11 +181,32 @@ impl Line {
         if let Some(project) = project_of(task) {
             self.explain_filter(rt, project, rate);
         }
+        if let Task::PlayDop { .. } = task {
+            self.explain_dop_played(rate);
+        }
         if let Some((output, _)) = output_of(task, Step::First) {
             self.explain_name(output);
         }
         if frames == 0 {
             self.explain_silence(task);
+        }
+    }
+
+    /// Adds which loudspeakers a WAVE file names, by its first bytes and the mask of the channels.
+    pub(crate) fn say_speakers(&mut self, front: &[u8; FRONT], mask: u32) {
+        if mask == 0 {
+            return self.push(NO_SPEAKERS);
+        }
+        if u16_at(Order::Little, front, 20) == PLAIN {
+            return self.push(NO_MASK);
+        }
+        let mut is_begun = false;
+        for (bit, name) in &SPEAKERS {
+            if mask & *bit != 0 {
+                self.push(if is_begun { ", " } else { "; loudspeakers " });
+                self.push(name);
+                is_begun = true;
+            }
         }
     }
 
@@ -191,7 +227,9 @@ impl Line {
     // Adds why a WAVE file has no frames.
     fn explain_silence(&mut self, task: Task) {
         match task {
-            Task::Play { input, .. } => {
+            Task::Play { input, .. }
+            | Task::PlayBetween { input, .. }
+            | Task::PlayDop { input, .. } => {
                 self.push("; ");
                 self.named(input, "IN", " has no sound");
             }
@@ -344,6 +382,12 @@ fn has_rate(rates: &str, rate: u64) -> bool {
 const LARGE: &str =
     " would make a WAVE file of {b0}, and 4,294 MB are the most: choose a filter for a lower rate or \
      16 bits, or play it in parts";
+
+const NO_SPEAKERS: &str =
+    "; no loudspeakers: an ID is none of theirs, or two channels have the same";
+
+const NO_MASK: &str =
+    "; with 16 bits and one or two channels a WAVE file names no loudspeakers, which are the usual ones";
 
 const REST: &str = " has {c0} bits per channel, {n1} more than whole bytes: ";
 

@@ -55,6 +55,10 @@ impl Line {
     fn explain_misfit(&mut self, command: &str, misfit: Misfit) -> bool {
         match misfit {
             Misfit::Names(got) => self.say_number(command, got as u64),
+            Misfit::DopNames(got) => {
+                self.say(DOP_NAMES, [got as u64, 0, 0]);
+                return false;
+            }
             Misfit::NoOption(word) => return self.explain_option(command, word),
             Misfit::Twice(option) => self.quote("--", option, " is named twice"),
             Misfit::Valued(option) => self.quote("--", option, " takes no value"),
@@ -98,6 +102,9 @@ impl Line {
     fn say_usage(&mut self, command: &str) {
         self.quote("; usage: dsdarc ", command, "");
         for option in options_of(command) {
+            if command == "play" && *option == "dop" {
+                continue;
+            }
             let after = match named(option).map(|option| option.takes()) {
                 Some(Taken::Place) => " T]",
                 Some(Taken::File) => " FILE]",
@@ -112,6 +119,9 @@ impl Line {
         for name in names_of(command).unwrap_or(&["FILE.."]) {
             self.quote(" ", name, "");
         }
+        if command == "play" {
+            self.push(", or dsdarc play --dop IN OUT");
+        }
     }
 
     // Adds why a word that begins with a hyphen is none of a command. Returns whether the usage is to follow.
@@ -123,15 +133,15 @@ impl Line {
             self.quote("did you mean --", meant, "?");
             return false;
         }
-        match (option, home_of(option)) {
+        match (option, is_of_any(option)) {
             ("explain", _) => self.quote("", word, " comes before the command"),
             ("help" | "h", _) => {
                 self.quote("", command, " has no ");
                 self.quote("", word, "; dsdarc --help prints what each command does");
             }
-            (_, Some(home)) => {
+            (_, true) => {
                 self.say_no_option(command, word);
-                self.quote("it belongs to ", home, "");
+                self.say_homes(option);
             }
             _ => {
                 self.quote("", word, " begins with -; as a name it is written ./");
@@ -139,6 +149,18 @@ impl Line {
             }
         }
         true
+    }
+
+    // Adds which commands have an option.
+    fn say_homes(&mut self, option: &str) {
+        let mut is_begun = false;
+        for command in NAMES {
+            if options_of(command).contains(&option) {
+                self.push(if is_begun { " and " } else { "it belongs to " });
+                self.push(command);
+                is_begun = true;
+            }
+        }
     }
 
     fn say_no_option(&mut self, command: &str, word: &str) {
@@ -193,15 +215,17 @@ fn names_of(command: &str) -> Option<&'static [&'static str]> {
     None
 }
 
-// The command that has an option.
-fn home_of(option: &str) -> Option<&'static str> {
+// Whether a command has this option.
+fn is_of_any(option: &str) -> bool {
     for command in NAMES {
         if options_of(command).contains(&option) {
-            return Some(command);
+            return true;
         }
     }
-    None
+    false
 }
+
+const DOP_NAMES: &str = "play --dop takes 2 words and got {n0}; usage: dsdarc play --dop IN OUT";
 
 const PLACE: &str =
     "takes a time (90, 1:30 or 1:02:03.5), a frame (@123456) or a mark of a DSDIFF file (#3)";

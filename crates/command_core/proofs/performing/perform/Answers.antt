@@ -3,8 +3,8 @@ use Rattle.command_core.proofs.performing.perform.Goals as goal
 pub returns-in-Play : goal.returns-in-Play
 returns-in-Play g c = record { done = rw c.in-Play.is c.play_all.ensures; sums = tt; same = tt }
 
-pub returns-in-Convert : goal.returns-in-Convert
-returns-in-Convert g c = record { done = rw c.in-Convert.is (c.convert_file.result, c.converted.ensures, c.convert_file.ensures); sums = tt; same = tt }
+pub returns-in-PlayDop : goal.returns-in-PlayDop
+returns-in-PlayDop g c = record { done = rw c.in-PlayDop.is (c.play_dop_file.result, c.played.ensures, c.play_dop_file.ensures); sums = tt; same = tt }
 
 pub returns-in-Edit : goal.returns-in-Edit
 returns-in-Edit g c = record { done = rw c.in-Edit.is (c.edit_files.result, c.edited.ensures, c.edit_files.ensures); sums = tt; same = tt }
@@ -17,6 +17,3 @@ returns-in-NullTest g c = record { done = rw c.in-NullTest.is (c.null_test_files
 
 pub returns-in-Info : goal.returns-in-Info
 returns-in-Info g c = record { done = rw c.in-Info.is (c.open_file.result, c.reported.ensures, c.open_file.ensures); sums = tt; same = tt }
-
-pub returns-in-PlayPart : goal.returns-in-PlayPart
-returns-in-PlayPart g c = record { done = rw c.in-PlayPart.is c.play_some.ensures; sums = tt; same = tt }

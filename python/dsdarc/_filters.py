@@ -9,10 +9,10 @@ import os
 import re
 import sys
 import warnings
-from collections.abc import Callable, Iterable, Iterator
-from typing import Any, SupportsIndex
+from collections.abc import Iterable, Iterator
+from typing import Any, NamedTuple, SupportsIndex
 
-from dsdarc._library import HERE, Fault, Player, found, rates_of
+from dsdarc._library import HERE, Fault, Player, found, rates_of, refusal_of
 
 INDEX = "index.txt"
 BEST = "88200/24,96000/24"
@@ -32,8 +32,6 @@ class Ready(enum.Enum):
     BEST = BEST
 
 
-# What is never said of a filter, but of the machine.
-_OF_MACHINE = ("Memory", "Processor")
 # The limits of a filter, in the order in which the library looks at them.
 _LIMITS = {
     "taps": "the taps are 1 to 4096 whole numbers of 32 bits with an absolute sum of at most 2**30",
@@ -66,6 +64,8 @@ class Filter:
         width: SupportsIndex = 24,
         delay: SupportsIndex | None = None,
     ) -> None:
+        if not isinstance(taps, Iterable) or getattr(taps, "ndim", 1) == 0:
+            raise ValueError(f"WrongKind: taps are whole numbers, and not {taps!r}")
         numbers = tuple(_whole("taps", it) for it in taps)
         middle = max(len(numbers) - 1, 0) // 2
         given = {"factor": factor, "shift": shift, "width": width, "delay": middle if delay is None else delay}
@@ -81,12 +81,12 @@ class Filter:
 
     def _demand(self) -> None:
         """Raises the fault for which the library refuses the filter, with the first number that it refuses alone."""
-        fault, numbers = _fault_of(self.text), dataclasses.asdict(self)
+        fault, numbers = refusal_of(self.text), dataclasses.asdict(self)
         if fault is None:
             return
         for name, limit in _LIMITS.items():
             taps = self.taps if name in ("taps", "delay") else (1,)
-            if _fault_of(_text(taps, _HARMLESS | {name: numbers[name]})) is not None:
+            if refusal_of(_text(taps, _HARMLESS | {name: numbers[name]})) is not None:
                 raise ValueError(f"{fault}: {limit.format(**numbers)}")
         raise ValueError(f"{fault}: {self!r}")
 
@@ -107,17 +107,6 @@ def _text(taps: tuple[int, ...], numbers: dict[str, Any]) -> bytes:
     """The project text of a filter."""
     lines = [f"taps = {list(taps)}", *(f"{name} = {numbers[name]}" for name in _HARMLESS)]
     return "\n".join(["[decimate]", *lines, ""]).encode()
-
-
-def _fault_of(text: bytes) -> str | None:
-    """The name of the fault for which the library refuses a project text; None if it takes it."""
-    try:
-        Player(text, "a filter").drop()
-    except Fault as fault:
-        if fault.name in _OF_MACHINE:
-            raise
-        return fault.name
-    return None
 
 
 def _folders() -> Iterator[str]:
@@ -149,38 +138,91 @@ def _ready(name: str) -> str | None:
     return None
 
 
-def filter_for(wish: str, rate: int, louder: bool = False) -> str:
-    """The path of the ready filter that plays this stored rate (hertz) to a wish as "88200/24", or to the first of
-    several, with commas between them, for which there is one."""
+def _wishes(wish: str) -> list[tuple[int, int]]:
+    """The rates and widths that are wished for, the best first."""
     parts = [WISH.fullmatch(it) for it in wish.split(",")]
     wishes = [(int(it[1]), int(it[2])) for it in parts if it]
     if len(wishes) < len(parts):
         raise ValueError(f"{wish!r} is no RATE/BITS, as 88200/24 is")
+    return wishes
+
+
+def _none_for(wish: str, rate: int) -> ValueError:
+    return ValueError(f"no ready filter plays {rate} Hz to {wish.replace(',', ' or ')}")
+
+
+def filter_for(wish: str, rate: int, louder: bool = False) -> str:
+    """The path of the ready filter that plays this stored rate (hertz) to a wish as "88200/24", or to the first of
+    several, with commas between them, for which there is one."""
+    path = _found_for(wish, rate, LOUDER if louder else 0)
+    if path is None:
+        raise _none_for(wish, rate)
+    return path
+
+
+def _found_for(wish: str, rate: int, gain: int) -> str | None:
+    """The path of the ready filter for a wish in the folders of filters; None if there is none."""
     there = [(folder, _index_in(folder)) for folder in _folders()]
-    for out, width in wishes:
+    for out, width in _wishes(wish):
         for folder, index in there:
-            name = found(index, rate, out, width, LOUDER if louder else 0)
+            name = found(index, rate, out, width, gain)
             if name is not None:
                 return os.path.join(folder, name)
-    raise ValueError(f"no ready filter plays {rate} Hz to {wish.replace(',', ' or ')}")
+    return None
 
 
-def text_of(filter: Path | Filter | Ready, rate: Callable[[], int]) -> tuple[bytes, str, Path | None]:
-    """The project text of a filter for a file whose rate can be asked for, what it is to the user, and its path."""
-    if isinstance(filter, Filter):
-        return filter.text, repr(filter), None
+class Chosen(NamedTuple):
+    """The filter that plays a file: its project text, what it is to the user, and its path, if it has one. Or, without a
+    text, the rate and width for which the library itself has the filter."""
+
+    what: str
+    text: bytes = b""
+    path: Path | None = None
+    ready: tuple[int, int] | None = None
+
+    def choose(self, player: Player, name: str) -> bool:
+        """Has a player play the file of this name by the filter; whether there is such a filter."""
+        if self.ready is not None:
+            return player.filter_ready(*self.ready, 0, name)
+        try:
+            player.filter(self.text, self.what)
+        except Fault as fault:
+            if fault.name != "RateNotDivided":
+                raise
+            raise Fault(fault.name, name) from None
+        return True
+
+
+def choose(filter: Path | Filter | Ready, player: Player, rate: int, name: str) -> Chosen:
+    """Has a player play the file of this name and rate, whose sound it knows, by a filter: by which."""
     if isinstance(filter, Ready):
         filter = os.environ.get("DSDARC_FILTER") or filter.value
-    path = _path_of(filter, rate)
+    if isinstance(filter, Filter):
+        each = [Chosen(repr(filter), filter.text)]
+    elif isinstance(filter, str) and re.fullmatch(r"\d+/\d+(,\d+/\d+)*", filter, re.ASCII):
+        each = _wished(filter, rate)
+    else:
+        each = [_chosen_at(_path_of(filter))]
+    for it in each:
+        if it.choose(player, name):
+            return it
+    raise _none_for(str(filter), rate)
+
+
+def _wished(wish: str, rate: int) -> list[Chosen]:
+    """The filters for a wish: the one that is found in a folder, or else those that the library itself may have."""
+    path = _found_for(wish, rate, 0)
+    return [Chosen(wish, ready=it) for it in _wishes(wish)] if path is None else [_chosen_at(path)]
+
+
+def _chosen_at(path: Path) -> Chosen:
     with builtins.open(path, "rb") as text:
-        return text.read(), f"the filter {os.fsdecode(path)}", path
+        return Chosen(f"the filter {os.fsdecode(path)}", text.read(), path)
 
 
-def _path_of(filter: Path, rate: Callable[[], int]) -> Path:
+def _path_of(filter: Path) -> Path:
     if not isinstance(filter, (str, bytes, os.PathLike)):
         raise TypeError(f"a filter is a path, a name or RATE/BITS, and not {type(filter).__name__}")
-    if isinstance(filter, str) and re.fullmatch(r"\d+/\d+(,\d+/\d+)*", filter, re.ASCII):
-        return filter_for(filter, rate())
     if isinstance(filter, str) and os.sep not in filter and not os.path.exists(filter):
         path = _ready(filter.removesuffix(".toml"))
         if path is None:
@@ -199,12 +241,12 @@ def warn_of_rate(path: Path, rate: int, name: str) -> None:
     if rates and rate not in rates:
         made_for = " or ".join(map(str, rates))
         said = f"the filter {plain} is for files of {made_for} Hz, and {name or 'the file'} has {rate} Hz"
-        warnings.warn(said, FilterWarning, stacklevel=_level())
+        warnings.warn(said, FilterWarning, stacklevel=level())
 
 
-def _level() -> int:
+def level() -> int:
     """How many calls up the caller of this package is."""
-    frame, level = sys._getframe(1), 1
+    frame, count = sys._getframe(1), 1
     while frame.f_back is not None and os.path.dirname(frame.f_code.co_filename) == os.path.dirname(__file__):
-        frame, level = frame.f_back, level + 1
-    return level
+        frame, count = frame.f_back, count + 1
+    return count

@@ -8,8 +8,10 @@ from collections.abc import Iterator
 from typing import NamedTuple, NoReturn, SupportsIndex
 
 HERE = os.path.dirname(os.path.realpath(__file__))
-S32 = 1
-OK, PROCESSOR = 0, 19
+PACKED, S32 = 0, 1
+FORM = 1  # a DSDIFF file
+OK, MEMORY, PROCESSOR, NO_FILTER = 0, 3, 19, 21
+MOST_BYTES = 1 << 28  # bytes: as much as a player holds before a sound, or after it
 
 
 class Info(NamedTuple):
@@ -51,13 +53,65 @@ class _Info(ctypes.Structure):
     ]
 
 
+class _Description(ctypes.Structure):
+    _fields_ = [
+        *((name, ctypes.c_uint64) for name in ("bits", "frames", "tag", "tag_size")),
+        *(
+            (name, ctypes.c_uint32)
+            for name in ("rate_in", "rate", "width", "channels", "mask", "form", "type", "marks")
+        ),
+        ("ids", ctypes.c_char * 24),
+    ]
+
+
+class _Mark(ctypes.Structure):
+    _fields_ = [
+        ("place", ctypes.c_int64),
+        *((name, ctypes.c_uint32) for name in ("type", "channel", "flags", "length")),
+        ("title", ctypes.c_uint64),
+    ]
+
+
 class _Wish(ctypes.Structure):
     _fields_ = [(name, ctypes.c_uint32) for name in ("rate_in", "rate", "width", "gain")]
+
+
+class Description(NamedTuple):
+    """What a file holds: bits of each channel, hertz, channels, their mask and their IDs, how many marks are known, and
+    the place of the tag, with its bytes; 0 if none is known."""
+
+    bits: int
+    rate: int
+    channels: int
+    mask: int
+    ids: bytes
+    is_form: bool
+    marks: int
+    tag: int
+    tag_size: int
+
+
+class StatedMark(NamedTuple):
+    """A mark of a file: bits from the start of the sound, its type, channel and flags, the place of its title in the file,
+    and the bytes of that."""
+
+    place: int
+    type: int
+    channel: int
+    flags: int
+    title: int
+    length: int
 
 
 _size, _pointer, _status = ctypes.c_size_t, ctypes.c_void_p, ctypes.c_int
 _CALLS = {
     "dsdarc_player_new": (_status, [ctypes.c_char_p, _size, ctypes.POINTER(_pointer)]),
+    "dsdarc_player_new_empty": (_status, [ctypes.POINTER(_pointer)]),
+    "dsdarc_player_filter": (_status, [_pointer, ctypes.c_char_p, _size]),
+    "dsdarc_player_filter_ready": (_status, [_pointer, ctypes.c_uint32, ctypes.c_uint32, ctypes.c_uint32]),
+    "dsdarc_player_bits": (_status, [_pointer, ctypes.c_int]),
+    "dsdarc_player_describe": (_status, [_pointer, ctypes.POINTER(_Description), _size]),
+    "dsdarc_player_marks": (_status, [_pointer, ctypes.c_uint32, _pointer, _size, ctypes.POINTER(_size)]),
     "dsdarc_player_push": (_status, [_pointer, _pointer, _size, ctypes.POINTER(_size)]),
     "dsdarc_player_info": (_status, [_pointer, ctypes.POINTER(_Info)]),
     "dsdarc_player_pull": (_status, [_pointer, _pointer, _size, ctypes.c_int, ctypes.POINTER(_size)]),
@@ -69,7 +123,6 @@ _CALLS = {
         _status,
         [ctypes.c_char_p, _size, ctypes.c_char_p, _pointer, _size, ctypes.POINTER(_size)],
     ),
-    "dsdarc_channel_mask": (_status, [ctypes.c_char_p, _size, ctypes.POINTER(ctypes.c_uint32)]),
     "dsdarc_status_text": (ctypes.c_char_p, [ctypes.c_int]),
     "dsdarc_version": (ctypes.c_char_p, []),
 }
@@ -119,12 +172,58 @@ def _check(status: int, what: str) -> None:
         raise Fault(_library.dsdarc_status_text(status).decode(), what)
 
 
-class Player(NotCopied):
-    """A player of the library. What the library refuses is raised as a fault of `what`. One call at a time uses it."""
+def refusal_of(text: bytes) -> str | None:
+    """The name of the fault for which a project text is no filter; None if it is one. What isn't said of a text, as that
+    memory ran out, is raised."""
+    handle = ctypes.c_void_p()
+    try:
+        status = _library.dsdarc_player_new(text, len(text), ctypes.byref(handle))
+        if status in (MEMORY, PROCESSOR):
+            _check(status, "a filter")
+    finally:
+        _library.dsdarc_player_drop(handle)
+    return None if status == OK else _library.dsdarc_status_text(status).decode()
 
-    def __init__(self, text: bytes, what: str) -> None:
+
+class Player(NotCopied):
+    """A player of the library, for which nothing is chosen yet. What the library refuses is raised as a fault of `what`.
+    One call at a time uses it."""
+
+    def __init__(self, what: str) -> None:
         self._handle = ctypes.c_void_p()
-        _check(_library.dsdarc_player_new(text, len(text), ctypes.byref(self._handle)), what)
+        _check(_library.dsdarc_player_new_empty(ctypes.byref(self._handle)), what)
+
+    def filter(self, text: bytes, what: str) -> None:
+        """Chooses the filter of a project text."""
+        _check(_library.dsdarc_player_filter(self._handle, text, len(text)), what)
+
+    def filter_ready(self, rate: int, width: int, gain: int, what: str) -> bool:
+        """Chooses the ready filter of the library to this rate; whether there is one."""
+        if max(rate, width, gain) >= 1 << 32:
+            return False
+        status = _library.dsdarc_player_filter_ready(self._handle, rate, width, gain)
+        if status != NO_FILTER:
+            _check(status, what)
+        return bool(status != NO_FILTER)
+
+    def bits(self, what: str) -> None:
+        """Chooses the bits, as bytes of which the most significant bit is the earliest."""
+        _check(_library.dsdarc_player_bits(self._handle, 0), what)
+
+    def describe(self) -> Description | None:
+        """What the file holds, once its sound is known."""
+        it = _Description()
+        if _library.dsdarc_player_describe(self._handle, ctypes.byref(it), ctypes.sizeof(it)) != OK:
+            return None
+        ids = bytes(it)[_Description.ids.offset :][: 4 * it.channels]
+        found = it.bits, it.rate_in, it.channels, it.mask, ids, it.form == FORM, it.marks, it.tag, it.tag_size
+        return Description(*found)
+
+    def marks(self, first: int, count: int) -> list[StatedMark]:
+        """The marks from one on, at most so many."""
+        made, given = (_Mark * count)(), ctypes.c_size_t()
+        _check(_library.dsdarc_player_marks(self._handle, first, made, count, ctypes.byref(given)), "marks")
+        return [StatedMark(it.place, it.type, it.channel, it.flags, it.title, it.length) for it in made[: given.value]]
 
     def push(self, place: int, size: int, what: str) -> int:
         """Pushes the bytes at a place in memory: how many are taken."""
@@ -139,10 +238,10 @@ class Player(NotCopied):
             return None
         return Info(it.rate, it.channels, it.frames, it.width, it.rate_in)
 
-    def pull(self, place: int, frames: int, what: str) -> int:
-        """Gives frames to a place in memory, as numbers of 32 bits: how many."""
+    def pull(self, place: int, frames: int, format: int, what: str) -> int:
+        """Gives frames to a place in memory, as numbers of 32 bits or packed: how many."""
         given = ctypes.c_size_t()
-        _check(_library.dsdarc_player_pull(self._handle, place, frames, S32, ctypes.byref(given)), what)
+        _check(_library.dsdarc_player_pull(self._handle, place, frames, format, ctypes.byref(given)), what)
         return given.value
 
     def end(self, what: str) -> None:
@@ -187,10 +286,3 @@ def rates_of(index: bytes, name: str) -> list[int]:
     key = os.fsencode(name)
     status = _library.dsdarc_filter_rates(index, len(index), key, rates, len(rates), ctypes.byref(count))
     return list(rates)[: count.value] if status == OK else []
-
-
-def mask_of(header: bytes) -> int:
-    """The channel mask of a file by its first bytes; 0 if it has none."""
-    mask = ctypes.c_uint32()
-    status = _library.dsdarc_channel_mask(header, len(header), ctypes.byref(mask))
-    return mask.value if status == OK else 0

@@ -13,21 +13,17 @@ import numpy
 import numpy.typing
 
 from dsdarc import _source
-from dsdarc._filters import Filter, Path, Ready, text_of, warn_of_rate
-from dsdarc._header import Header, Mark, id3_of
-from dsdarc._library import Fault, Info, NotCopied, Player
+from dsdarc._described import Mark, channels_of, marks_of, spoken, tag_of
+from dsdarc._feed import Bits, Feed, Stored
+from dsdarc._filters import Filter, Path, Ready, choose, warn_of_rate
+from dsdarc._joined import Joined
+from dsdarc._library import S32, Fault, NotCopied
 from dsdarc._source import File, Source
 
 Numbers = numpy.typing.NDArray[Any]
-Bits = numpy.typing.NDArray[numpy.uint8]
 
-BLOCK = 65536  # bytes that are pushed at once
 PIECE = 65536  # frames that are turned into other numbers at once
 DTYPES = ("float64", "float32", "int32", "int16", "native")
-NONE: numpy.typing.NDArray[numpy.uint8] = numpy.frombuffer(b"", numpy.uint8)
-
-# A filter that is loaded for nothing but the rate of a file: a tap of 1, a sample for each byte.
-_PLAIN = b"[decimate]\ntaps = [1]\nfactor = 8\ndelay = 0\nshift = 0\nwidth = 16\n"
 
 _sounds: weakref.WeakSet[Sound] = weakref.WeakSet()
 
@@ -38,74 +34,55 @@ class Sound(NotCopied):
     Whatever interrupts a call, the next one goes on from the frame that `tell` gives: it is moved last, when all else
     is done, and a player that may be anywhere else (`_stale`) is first sent there."""
 
-    def __init__(self, file: File | Source, filter: Path | Filter | Ready = Ready.BEST, closes: bool = True) -> None:
-        self._player: Player | None = None
+    def __init__(
+        self,
+        file: File | Source,
+        filter: Path | Filter | Ready = Ready.BEST,
+        closes: bool = True,
+        speakers: bool = False,
+    ) -> None:
+        self._feed: Feed | None = None
         self._source: Source | None = None
         # Calls in C let other threads run, and a player belongs to one call at a time.
         self._lock = threading.RLock()
         self._at, self._stale, self._ended = 0, True, False
         self._turn = object()  # the call that moves the player now
-        self._rest, self._next = NONE, 0  # bytes to be pushed, and the place of those after them
         self._owed: Exception | None = None  # what is raised after the frames that were given before it
         self._is_lost = False  # the player was left in another process
-        self._stored: Sound | None = None  # by which the stored bits are read
+        self._stored: Stored | None = None  # by which the stored bits are read; a call that uses it takes it away
         try:
             self._source = file if isinstance(file, Source) else Source(file, closes)
             self.name = self._source.name
-            self._text, self._filter, path = text_of(filter, self._rate)
-            self._player = Player(self._text, self._filter)
-            self.info = self._learned(self._player)
+            feed = Feed(self._source, self.name)
+            self._described = feed.described
+            self._filter = choose(filter, feed.player, feed.described.rate, self.name)
+            self.info, self._feed = feed.chosen(), feed
             self._stale = False
-            self.channels = Header(self._source).channels(self.info.channels)
-            if path is not None:
-                warn_of_rate(path, self.info.source_rate, self.name)
+            self.channels = channels_of(feed.described)
+            self._order: list[int] | None = None  # of the file's channels
+            if speakers:
+                self.channels, self._order = spoken(self.channels)
+            if self._filter.path is not None:
+                warn_of_rate(self._filter.path, self.info.source_rate, self.name)
         except BaseException:
             self.close()
             raise
         self.samplerate, self.frames = self.info.samplerate, self.info.frames
+        source = self._source
+        # What is played: one file, or several that are joined, and the frames with which they begin.
+        self.files = source.names if isinstance(source, Joined) else (self.name,)
+        factor = self.info.source_rate // self.samplerate
+        self.starts = tuple(-(-bit // factor) for bit in source.bits) if isinstance(source, Joined) else (0,)
         _sounds.add(self)
-
-    def _rate(self) -> int:
-        """The rate in which the file is stored."""
-        player = Player(_PLAIN, "")
-        try:
-            return self._learned(player).source_rate
-        finally:
-            player.drop()
-
-    def _learned(self, player: Player) -> Info:
-        """What is played, once a new player has as much of the file as states it."""
-        source = self._opened()
-        self._rest, self._next, stop = NONE, source.start, source.size()
-        while (info := player.info()) is None and self._push(player, stop):
-            pass
-        if info is None:
-            player.end(self.name)
-            raise Fault("FileRefused", self.name)
-        return info
 
     def _opened(self) -> Source:
         if self._source is None:
             raise ValueError("the sound is closed")
         return self._source
 
-    def _push(self, player: Player, stop: int | None = None) -> bool:
-        """Pushes what comes next of the file, up to a place of it; whether there was something."""
-        rest = self._rest
-        if len(rest) == 0:
-            size = BLOCK if stop is None else min(BLOCK, stop - self._next)
-            data = self._opened().read(self._next, size) if size > 0 else b""
-            if len(data) == 0:
-                return False
-            rest = numpy.frombuffer(data, numpy.uint8)
-            self._next += len(data)
-        taken = player.push(rest.ctypes.data, len(rest), self.name)
-        self._rest = rest[taken:]
-        return True
-
-    def _begun(self) -> tuple[Player, object]:
+    def _begun(self) -> tuple[Feed, object]:
         """The player, where `tell` says, for a call that moves it. It is known as another call's until `_done`."""
-        if self._player is None:
+        if self._feed is None:
             raise ValueError("the sound is closed")
         owed, self._owed = self._owed, None
         if isinstance(owed, Fault):
@@ -114,9 +91,9 @@ class Sound(NotCopied):
         if self._is_lost:
             self._make_again()
         if self._stale:
-            self._place(self._player, self._at)
+            self._place(self._feed, self._at)
         self._stale = True
-        return self._player, turn
+        return self._feed, turn
 
     def _done(self, turn: object, frame: int) -> None:
         """Ends a call that moved the player: it is at this frame now."""
@@ -129,18 +106,18 @@ class Sound(NotCopied):
         if self._turn is not turn:
             raise RuntimeError("another call of the same thread moved the sound meanwhile")
 
-    def _place(self, player: Player, frame: int) -> None:
+    def _place(self, feed: Feed, frame: int) -> None:
         """Has the player go to a frame, and the bytes from there on come next."""
         self._stale = True
-        offset = player.seek(frame, self.name)
-        self._rest, self._next, self._ended = NONE, self._opened().start + offset, False
+        feed.go(frame)
+        self._ended = False
 
     def _make_again(self) -> None:
         """Makes the player that was left in another process."""
-        player = Player(self._text, self._filter)
-        if self._learned(player) != self.info:
+        feed = Feed(self._opened(), self.name)
+        if not self._filter.choose(feed.player, self.name) or feed.chosen() != self.info:
             raise Fault("FileRefused", f"{self.name} isn't the file that was opened")
-        self._player, self._stale, self._is_lost = player, True, False
+        self._feed, self._stale, self._is_lost = feed, True, False
 
     def read_into(self, out: Numbers) -> int:
         """Fills an int32 array of frames by channels, as far as there are frames: how many. At the end of the file its
@@ -204,25 +181,25 @@ class Sound(NotCopied):
 
     def _read(self, out: Numbers, dtype: object) -> int:
         """Fills an array from the current position on, as far as there are frames: how many."""
-        player, turn = self._begun()
+        feed, turn = self._begun()
         try:
-            return self._read_on(player, turn, out, dtype)
+            return self._read_on(feed, turn, out, dtype)
         except BaseException:
             self._stale = True  # also if a handler of a signal called the same sound amid this call
             raise
 
-    def _read_on(self, player: Player, turn: object, out: Numbers, dtype: object) -> int:
+    def _read_on(self, feed: Feed, turn: object, out: Numbers, dtype: object) -> int:
         at, done = self._at, 0
         while done < len(out):
             piece = out[done : done + PIECE]
-            count = self._convert(player, piece, dtype)
+            count = self._convert(feed, piece, dtype)
             done += count
             if count < len(piece):
                 break
         owed = self._owed
         if owed is None and not self._ended and (done < len(out) or at + done == self.frames):
             self._demand(turn)
-            owed = self._ends(player)
+            owed = self._ends(feed)
         # Frames come before the fault; and all that were asked for, before what keeps the end from being read.
         if owed is not None:
             self._owed = None
@@ -232,43 +209,43 @@ class Sound(NotCopied):
         self._done(turn, at + done)
         return done
 
-    def _convert(self, player: Player, out: Numbers, dtype: object) -> int:
+    def _convert(self, feed: Feed, out: Numbers, dtype: object) -> int:
         """Fills a piece of an array with frames as its numbers: how many."""
+        # The library writes numbers of 32 bits to an aligned place.
+        numbers = out if out.dtype == numpy.int32 and out.flags.aligned else numpy.empty(out.shape, numpy.int32)
+        count = self._fill(feed, numbers)
+        if self._order is not None:
+            numbers[:count] = numbers[:count, self._order]
         if out.dtype == numpy.int32:
-            count = self._fill(player, out)
             if not (isinstance(dtype, str) and dtype == "native"):
-                numpy.left_shift(out[:count], 32 - self.info.width, out=out[:count])
-            return count
-        numbers = numpy.empty(out.shape, numpy.int32)
-        count = self._fill(player, numbers)
-        if out.dtype == numpy.int16:
+                numpy.left_shift(numbers[:count], 32 - self.info.width, out=numbers[:count])
+            if numbers is not out:
+                out[:count] = numbers[:count]
+        elif out.dtype == numpy.int16:
             out[:count] = numbers[:count]
         else:
             # Numbers of 24 bits are exact in both.
             numpy.multiply(numbers[:count], out.dtype.type(2.0 ** (1 - self.info.width)), out=out[:count])
         return count
 
-    def _fill(self, player: Player, out: Numbers) -> int:
+    def _fill(self, feed: Feed, out: Numbers) -> int:
         """Fills an array with the player's numbers, as far as it gives some: how many. A fault is owed then."""
         done, place, step = 0, out.ctypes.data, out.strides[0]
         while done < len(out):
-            count = player.pull(place + done * step, len(out) - done, self.name)
+            count = feed.pull(place + done * step, len(out) - done, S32)
             done += count
             try:
-                if count == 0 and not self._push(player):
+                if count == 0 and not feed.push():
                     break
             except Fault as fault:
                 self._owed = fault
                 break
         return done
 
-    def _ends(self, player: Player) -> Exception | None:
+    def _ends(self, feed: Feed) -> Exception | None:
         """Reads the file to where it ends now, and asks whether it holds a recording: what says that it doesn't."""
         try:
-            stop = self._opened().size()
-            while self._push(player, stop):
-                pass
-            player.end(self.name)
+            feed.end()
         except Exception as error:
             return error
         self._ended = True
@@ -314,65 +291,53 @@ class Sound(NotCopied):
         """The stored bits, wherever the sound is: a row for each 8 bits of the channels, with a byte of each. The most
         significant bit of a byte is the earliest. `start` is the first row, and `count` how many there are at most. If
         the bits don't fill the last byte, zeros do. A file that is refused anywhere in these rows gives none."""
-        first = operator.index(start)
+        first, stop, rest = operator.index(start), -(-self.bit_count // 8), self.bit_count % 8
+        if not 0 <= first <= stop:
+            raise ValueError(f"there is no row {first}: there are {stop}")
+        rows = stop - first if count is None else min(max(operator.index(count), 0), stop - first)
+        out = numpy.empty((rows, self.channels), numpy.uint8)
         with self._lock:
-            stored = self._bits()
-            if not 0 <= first <= stored.frames:
-                raise ValueError(f"there is no row {first}: there are {stored.frames}")
-            left = stored.frames - first
-            rows = left if count is None else min(max(operator.index(count), 0), left)
-            out = numpy.empty((rows, self.channels), numpy.uint8)
-            try:
-                stored.seek(first)
-                for at in range(0, rows, PIECE):
-                    stored._read_bits(out[at : at + PIECE])
-            except Fault:
-                self._leave_bits()
-                raise
-            rest = self.bit_count % 8
-            if rest and first + rows == stored.frames:
-                out[-1:] &= 256 - (256 >> rest)
+            stored = self._take_stored()
+            stored.fill(first, out)
+            self._stored = stored
+        if rest and first + rows == stop:
+            out[-1:] &= 256 - (256 >> rest)
         return out
 
     @property
     def bit_count(self) -> int:
         """How many bits of each channel are stored."""
-        with self._lock:
-            count = Header(self._opened()).bits()
-            return 8 * self._bits().frames if count is None else count
+        self._opened()
+        return self._described.bits
 
-    def _bits(self) -> Sound:
-        """The same file, played by a filter whose samples are the bytes: 2 * byte - 255."""
+    def _take_stored(self) -> Stored:
+        """The player of the stored bits, for this call alone: who amid it calls the same sound gets another one. It is put
+        back if nothing was raised."""
         source = self._opened()
-        if self._stored is None:
-            taps = [1 << bit for bit in range(8)]
-            self._stored = Sound(source.borrowed(), Filter(taps, factor=8, width=16, delay=7))
-        return self._stored
-
-    def _leave_bits(self) -> None:
-        """Closes that; the next call opens it again."""
         stored, self._stored = self._stored, None
-        if stored is not None:
-            stored._owed = None
-            stored.close()
-
-    def _read_bits(self, out: Bits) -> None:
-        """Fills an array with the next bytes of such a sound."""
-        numbers = self.read(len(out), "native", always_2d=True)
-        owed, self._owed = self._owed, None
-        if owed is not None:
-            raise owed
-        out[:] = (numbers + 255) >> 1
+        if stored is None:
+            stored = Stored(source, self.name)
+            if stored.described != self._described:
+                raise Fault("FileRefused", f"{self.name} isn't the file that was opened")
+        return stored
 
     @property
     def tag(self) -> Any:
         """The ID3 tag, as `mutagen.id3.ID3` has it; None if there is none."""
-        return id3_of(Header(self._opened()).tag())
+        with self._lock:
+            stored = self._take_stored()
+            tag = tag_of(stored, self._opened())
+            self._stored = stored
+        return tag
 
     @property
     def marks(self) -> list[Mark]:
         """The marks of a DSDIFF file, in its order. A DSF file has none."""
-        return Header(self._opened()).marks(self.info.source_rate)
+        with self._lock:
+            stored = self._take_stored()
+            marks = marks_of(stored, self._opened())
+            self._stored = stored
+        return marks
 
     def seek(self, frame: SupportsIndex, whence: int = os.SEEK_SET) -> int:
         """Goes to a frame, counted from the start, from here or from the end; returns its number."""
@@ -385,9 +350,9 @@ class Sound(NotCopied):
             number += bases[whence]
             if not 0 <= number <= self.frames:
                 raise ValueError(f"there is no frame {number}: there are {self.frames}")
-            player, turn = self._begun()
+            feed, turn = self._begun()
             try:
-                self._place(player, number)
+                self._place(feed, number)
                 self._done(turn, number)
             except BaseException:
                 self._stale = True
@@ -401,18 +366,18 @@ class Sound(NotCopied):
 
     @property
     def closed(self) -> bool:
-        return self._player is None
+        return self._feed is None
 
     def close(self) -> None:
         """Frees the player, and closes the file if it was opened here. Then it raises what an earlier call found after
         the frames that it gave, if no other call has raised it."""
         with self._lock:
-            player, self._player = self._player, None
+            feeds, self._feed, self._stored = (self._feed, self._stored), None, None
             source, self._source = self._source, None
             owed, self._owed = self._owed, None
-            self._leave_bits()
-            if player is not None:
-                player.drop()
+            for feed in feeds:
+                if feed is not None:
+                    feed.drop()
             if source is not None:
                 source.close()
         if owed is not None:
@@ -441,8 +406,8 @@ class Sound(NotCopied):
             self._lock.release()
             return
         self._lock = threading.RLock()
-        if self._player is not None:
-            self._player.forget()
+        if self._feed is not None:
+            self._feed.forget()
             self._is_lost = True
 
 

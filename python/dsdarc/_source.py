@@ -2,7 +2,6 @@
 from __future__ import annotations
 
 import builtins
-import copy
 import errno
 import io
 import os
@@ -66,24 +65,24 @@ class Source:
 
     def __init__(self, file: File, closes: bool) -> None:
         self.forked = False  # another process has the same file, and may move it
+        self._path: str | None = None
         if isinstance(file, (str, bytes, os.PathLike)):
             self.name, self._closes, self.start = os.fsdecode(file), closes, 0
             self._file: Any = builtins.open(file, "rb", buffering=0)
-            self._by_number = self._file.seekable()
+            self._by_number, self._path = self._file.seekable(), os.path.abspath(self.name)
         else:
             self._file, self._closes = _seekable(file), False
             self.name, self.start = str(getattr(file, "name", "")), file.tell()
             self._by_number = _is_plain(file)
-        self._lock = _lock_of(self._file)
+        # What is read by its number has no place that others move.
+        self._lock: Any = None if self._by_number else _lock_of(self._file)
         if isinstance(self._file, io.FileIO) and not self._file.seekable():
             self.close()
             raise ValueError("the file doesn't seek, as a pipe: write it to a file first")
 
-    def borrowed(self) -> Source:
-        """The same file, for another sound, which leaves it open."""
-        other = copy.copy(self)
-        other._closes = False
-        return other
+    def again(self) -> Source:
+        """The same file: opened once more if it was opened here."""
+        return self if self._path is None else Source(self._path, True)
 
     def read(self, place: int, size: int) -> bytes:
         """At most so many bytes from a place on; none at the file's end."""

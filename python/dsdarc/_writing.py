@@ -71,7 +71,7 @@ def write(file: Name, bits: Any, rate: SupportsIndex, count: SupportsIndex | Non
 
 def _sound(bits: Any, rate: SupportsIndex, count: SupportsIndex | None) -> _Sound:
     """What is written of an array."""
-    array = numpy.asarray(bits)
+    array = numpy.frombuffer(bits, numpy.uint8) if isinstance(bits, bytes) else numpy.asarray(bits)
     if array.dtype not in (numpy.uint8, numpy.bool_):
         raise ValueError(f"bits are an array of uint8 or bool, and not of {array.dtype}")
     array = array[:, numpy.newaxis] if array.ndim == 1 else array
@@ -81,10 +81,10 @@ def _sound(bits: Any, rate: SupportsIndex, count: SupportsIndex | None) -> _Soun
         )
     is_packed = array.dtype == numpy.uint8
     most = len(array) * 8 if is_packed else len(array)
-    given = most if count is None else operator.index(count)
+    given = most if count is None else _whole("number of bits", count)
     if not max(0, most - 7 if is_packed else most) <= given <= most:
         raise ValueError(f"the array has {most} bits of each channel, and not {given}")
-    hertz = operator.index(rate)
+    hertz = _whole("rate", rate)
     if not RATES[0] <= hertz <= RATES[1]:
         raise ValueError(f"the rate is from {RATES[0]} to {RATES[1]} Hz, and not {hertz}")
     if given > MOST_BITS:
@@ -92,19 +92,31 @@ def _sound(bits: Any, rate: SupportsIndex, count: SupportsIndex | None) -> _Soun
     return _Sound(array if is_packed else numpy.packbits(array, axis=0), given, hertz)
 
 
+def _whole(name: str, number: SupportsIndex) -> int:
+    try:
+        return operator.index(number)
+    except TypeError:
+        raise TypeError(f"the {name} is a whole number, and not {number!r}") from None
+
+
 def _chunk(name: bytes, data: bytes) -> bytes:
     return name + struct.pack(">Q", len(data)) + data + bytes(len(data) % 2)
 
 
-def _write_dff(out: BinaryIO, sound: _Sound) -> None:
-    ids = IDS.get(sound.channels) or [b"C%03d" % channel for channel in range(sound.channels)]
-    properties = _chunk(b"FS  ", struct.pack(">I", sound.rate))
-    properties += _chunk(b"CHNL", struct.pack(">H", sound.channels) + b"".join(ids))
+def begin_dff(rate: int, ids: list[bytes], size: int, after: int = 0) -> bytes:
+    """What a DSDIFF file has before so many bytes of sound, which are followed by so many others."""
+    properties = _chunk(b"FS  ", struct.pack(">I", rate))
+    properties += _chunk(b"CHNL", struct.pack(">H", len(ids)) + b"".join(ids))
     properties += _chunk(b"CMPR", b"DSD \x0enot compressed")
     header = b"DSD " + _chunk(b"FVER", bytes([1, 5, 0, 0])) + _chunk(b"PROP", b"SND " + properties)
+    form = b"FRM8" + struct.pack(">Q", len(header) + 12 + size + size % 2 + after) + header
+    return form + b"DSD " + struct.pack(">Q", size)
+
+
+def _write_dff(out: BinaryIO, sound: _Sound) -> None:
     size = len(sound.rows) * sound.channels
-    out.write(b"FRM8" + struct.pack(">Q", len(header) + 12 + size + size % 2) + header)
-    out.write(b"DSD " + struct.pack(">Q", size))
+    ids = IDS.get(sound.channels) or [b"C%03d" % channel for channel in range(sound.channels)]
+    out.write(begin_dff(sound.rate, ids, size))
     for piece in sound.pieces():
         out.write(piece.tobytes())
     out.write(bytes(size % 2))

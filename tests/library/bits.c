@@ -43,18 +43,26 @@ static dsdarc_status choose(dsdarc_player *player, const char *kind) {
     return dsdarc_player_filter_ready(player, 88200, 24, 0);
 }
 
+static unsigned char *bytes;
+
 /* What is reported before the choice and after it, and once the file ends. */
 static int describe(dsdarc_player *player, const char *when) {
     dsdarc_description it;
-    dsdarc_mark mark;
+    dsdarc_mark mark, some[2];
     char title[40];
+    size_t count;
     if (refused("describe", dsdarc_player_describe(player, &it, sizeof it))) return 1;
     printf("%s %llu %llu %u %u %u %u %u %u %u tag %llu %llu", when, (unsigned long long)it.bits,
            (unsigned long long)it.frames, it.rate_in, it.rate, it.width, it.channels, it.mask, it.form, it.type,
            (unsigned long long)it.tag, (unsigned long long)it.tag_size);
-    for (uint32_t k = 0; dsdarc_player_mark(player, k, &mark, title, sizeof title) == DSDARC_OK; k++)
+    for (uint32_t k = 0; dsdarc_player_mark(player, k, &mark, title, sizeof title) == DSDARC_OK; k++) {
         printf(" mark %lld %u %u %u %u %s", (long long)mark.place, mark.type, mark.channel, mark.flags, mark.length,
                title);
+        if (refused("marks", dsdarc_player_marks(player, k, some, 2, &count))) return 1;
+        if (count != (k + 1 < it.marks ? 2 : 1) || memcmp(some, &mark, sizeof mark) != 0 ||
+            strncmp((const char *)bytes + mark.title, title, mark.length) != 0)
+            return printf("other marks\n"), 1;
+    }
     printf(" marks %u\n", it.marks);
     return 0;
 }
@@ -63,7 +71,6 @@ int main(int count, char **arguments) {
     static unsigned char frames[MOST * 6 * 4], turned[MOST * 6 * 4];
     size_t size, at = 0, taken, given, step, most, sample;
     const char *kind = arguments[1];
-    unsigned char *bytes;
     dsdarc_format format = DSDARC_PACKED;
     dsdarc_player *player;
     dsdarc_status status;

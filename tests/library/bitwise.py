@@ -2,7 +2,7 @@
 import os
 import random
 
-from dsdarc_scripts.dsdiffs import dsdiff
+from dsdarc_scripts.dsdiffs import chunk, dsdiff, mark_data
 from tests.helpers.trials import demand, get
 from tests.helpers.trials import said as run
 from tests.library.playing import PROGRAM, frames_of
@@ -85,7 +85,9 @@ def try_bits(chance: random.Random, folder: str, bits: str) -> None:
     size = chance.choice([0, 1, 2, 7, 4095, 4096, 4097, 8192, 20000, 70001])
     sound = chance.randbytes(channels * size)
     count = max(0, 8 * size - chance.choice([0, 0, 1, 3, 7, 8, 9]))
-    files = [dsdiff(2822400, channels, sound)]
+    marks = chunk(b"DIIN", chunk(b"MARK", mark_data(b"first")) + chunk(b"MARK", mark_data(b"2", 0, 0, 1, 7, -9, 4, 1)))
+    tag = chunk(b"ID3 ", b"ID3 tag")
+    files = [dsdiff(2822400, channels, sound, more=marks + tag)]
     for order in (1, 8):
         files.append(
             dsf(2822400, count, [sound[c::channels] for c in range(channels)], order, chance.choice([b"", b"ID3 tag"]))
@@ -99,6 +101,8 @@ def try_bits(chance: random.Random, folder: str, bits: str) -> None:
             for seed in (0, chance.randrange(1, 1 << 60)):
                 status, said = run(bits, kind, name, out, str(seed))
                 demand(status == 0 and get(out) == whole, f"other {kind} of {size} x {channels}, {place}: {said}")
+                known = f"tag {len(file) - 8} 7 mark 0 0 0 0 5 first mark 2822398 4 1 0 1 2 marks 2"
+                demand(known in said or place > 0, f"{kind} of {size} x {channels}: other marks or another tag: {said}")
             first = chance.randrange(len(whole) // align + 1)
             status, said = run(bits, kind, name, out, str(chance.randrange(1, 1 << 60)), str(first))
             demand(status == 0 and get(out) == whole[first * align :], f"other {kind} from {first} on: {said}")

@@ -16,7 +16,7 @@ from typing import TYPE_CHECKING, Any
 from dsdarc_scripts.dsdiffs import chunk, dsdiff, mark_data, numbered
 from tests.helpers.trials import ROOT, demand, get
 from tests.helpers.trials import said as run
-from tests.library.playing import PROGRAM
+from tests.library.playing import PROGRAM, frames_of
 
 if TYPE_CHECKING:
     from numpy import ndarray
@@ -95,6 +95,8 @@ def of_taps(folder: str, chance: random.Random) -> None:
         ("OutOfLimit: the taps are 1 to 4096 whole numbers of 32 bits", {"taps": [1 << 31]}),
         ("with an absolute sum of at most 2**30", {"taps": [1 << 30, 1]}),
         ("WrongKind: taps are whole numbers, and not 0.5", {"taps": [0.5]}),
+        ("WrongKind: taps are whole numbers, and not 5", {"taps": 5}),
+        ("WrongKind: taps are whole numbers, and not array(5)", {"taps": numpy.array(5)}),
         ("OutOfLimit: the factor is a multiple of 8 from 8 to 1024, and not 12", {"factor": 12}),
         ("and not 1032", {"factor": 1032}),
         ("WrongKind: the factor is a whole number, and not 8.0", {"factor": 8.0}),
@@ -144,6 +146,14 @@ def into_arrays(folder: str, chance: random.Random) -> None:
                 sound.seek(3)
                 given = sound.read(out=buffer)
                 demand(list(buffer) == wanted == given.tolist(), f"Python: other numbers in {type(buffer).__name__}")
+    with dsdarc.open(name, READY) as sound:
+        # Numbers that aren't where the processor wants them.
+        for kind in ("float64", "float32", "int32"):
+            whole = sound.read(9, kind)
+            shifted = numpy.frombuffer(bytearray(1 + whole.nbytes), numpy.uint8)[1:].view(kind).reshape(whole.shape)
+            sound.seek(0)
+            demand((sound.read(out=shifted) == whole).all(), f"Python: other numbers at an odd place, {kind}")
+            sound.seek(0)
     fixed = numpy.zeros((4, 6))
     fixed.flags.writeable = False
     outs: tuple[tuple[type[Exception], str, Any], ...] = (
@@ -200,6 +210,44 @@ def loudspeakers(folder: str) -> None:
         demand(found == (channels, names, mask), f"Python: {channels} channels of a DSF file are {found}")
 
 
+def in_order(folder: str, chance: random.Random) -> None:
+    """By `speakers`, channels and mask are those of `play --speakers`."""
+    import dsdarc
+    import numpy
+
+    surround = [b"MLFT", b"MRGT", b"C   ", b"LFE ", b"LS  ", b"RS  "]
+    wave = os.path.join(folder, "order.wav")
+    for ids in (
+        surround,
+        surround[::-1],
+        [b"RS  ", b"SLFT", b"C   "],
+        [b"SLFT", b"SRGT"],
+        [b"SRGT", b"SLFT"],
+        [b"SLFT", b"MLFT", b"C   "],
+        [b"SLFT", b"C001"],
+        numbered(5),
+    ):
+        count = len(ids)
+        name = put(folder, "order.dff", dsdiff(2822400, count, chance.randbytes(count * 9000), ids=ids))
+        status, said = run(PROGRAM, "play", "--speakers", READY, name, wave)
+        demand(status == 0, f"play --speakers: {said}")
+        data, (frames, align) = get(wave), frames_of(get(wave))
+        mask = int.from_bytes(data[40:44], "little")
+        for kind in ("float64", "int32"):
+            with dsdarc.open(name, READY, speakers=True) as sound:
+                bits, out = sound.bits(), numpy.empty((len(sound), count), kind)
+                read = sound.read(out=out)
+                packed = (read if kind == "int32" else numpy.rint(read * (1 << 31)).astype("int32")) >> 8
+                given = b"".join(it.to_bytes(3, "little", signed=True) for it in packed.ravel().tolist())
+                is_right = given == frames and sound.channels.mask == mask and align == 3 * count
+                demand(is_right, f"Python: other frames by the loudspeakers {ids}, {kind}, mask {sound.channels.mask}")
+                demand((bits == dsdarc.open(name, READY).bits()).all(), "Python: other bits by loudspeakers")
+                known = dict(zip([b"MLFT", b"SLFT", b"C   ", b"RS  "], ["FL", "FL", "FC", "BR"]))
+                if mask:
+                    wanted = [known[it] for it in ids if it in known]
+                    demand(all(it in sound.channels.names for it in wanted), f"Python: {sound.channels.names}")
+
+
 def marks(folder: str, chance: random.Random) -> None:
     """Marks have the places of `info`, in any DIIN and any file object."""
     import dsdarc
@@ -226,6 +274,44 @@ def marks(folder: str, chance: random.Random) -> None:
     run(PROGRAM, "convert", "dsf", name, name.replace(".dff", ".dsf"))
     with dsdarc.open(name.replace(".dff", ".dsf"), READY) as sound:
         demand(sound.marks == [], "Python: a DSF file has marks")
+    many = [chunk(b"MARK", mark_data(b"%d" % it, samples=it)) for it in range(20_000)]
+    with dsdarc.open(
+        put(folder, "many.dff", dsdiff(2822400, 1, b"1", more=chunk(b"DIIN", b"".join(many)))), READY
+    ) as it:
+        demand([mark.title for mark in it.marks] == [str(at) for at in range(20_000)], "Python: other marks of many")
+
+
+def odd_marks(folder: str) -> None:
+    """Marks outside the sound, and those that lie: each that is there is given, as far as it is."""
+    import dsdarc
+
+    data, last = mark_data(b"abc"), 65_535 * 3600 + 255 * 61
+    lying = data[:18] + b"\xff" * 4 + b"abc"
+
+    def marked(*datas: bytes) -> bytes:
+        return chunk(b"DIIN", b"".join(chunk(b"MARK", it) for it in datas))
+
+    rows: tuple[tuple[bytes, list[tuple[int, str]]], ...] = (
+        (marked(mark_data(b"x", offset=-100)), [(-100, "x")]),
+        (
+            marked(mark_data(b"", 65_535, 255, 255, 2**32 - 1, 2**31 - 1)),
+            [(last * 2_822_400 + 2**32 + 2**31 - 2, "")],
+        ),
+        (marked(lying, data), [(0, "abc"), (0, "abc")]),
+        (chunk(b"DIIN", b"MARK" + (1 << 40).to_bytes(8, "big") + data), [(0, "abc")]),
+        (b"DIIN" + (1 << 50).to_bytes(8, "big") + chunk(b"MARK", data), [(0, "abc")]),
+        (b"DIIN" + b"\xff" * 8 + chunk(b"MARK", data), []),
+        (marked(data[:21], data), [(0, "abc")]),
+        (marked(mark_data(b"a\0\0"), mark_data(b"\xff")), [(0, "a"), (0, "ÿ")]),
+        (chunk(b"DIIN", marked(data)), []),
+    )
+    for more, wanted in rows:
+        with dsdarc.open(put(folder, "odd.dff", dsdiff(2822400, 2, bytes(80), more=more)), READY) as sound:
+            found = [(it.bits, it.title) for it in sound.marks]
+            demand(found == wanted, f"Python: the marks {found}, not {wanted}")
+    whole = dsdiff(2822400, 2, bytes(80), more=marked(mark_data(b"one"), mark_data(b"two")))
+    with dsdarc.open(put(folder, "odd.dff", whole[:-20]), READY) as sound:
+        demand([it.title for it in sound.marks] == ["one"], f"Python: marks of a file that is cut: {sound.marks}")
 
 
 def tags(folder: str, chance: random.Random) -> None:
@@ -255,6 +341,7 @@ def tags(folder: str, chance: random.Random) -> None:
     )
     run(PROGRAM, "convert", "dsf", plain, os.path.join(folder, "plain.dsf"))
     data = bytearray(get(os.path.join(folder, "plain.dsf")))
+    # The size of the file that a header states isn't looked at: a tag goes to the end of its file.
     data[20:28] = len(data).to_bytes(8, "little")
     dsf = put(folder, "tag.dsf", bytes(data) + written.getvalue())
     for name in (dff, dsf):
@@ -266,6 +353,35 @@ def tags(folder: str, chance: random.Random) -> None:
             demand(opened.tag is None, "Python: a tag where none is")
     with dsdarc.open(put(folder, "cut.dsf", get(dsf)[:-100]), READY) as opened:
         refuses(ValueError, "mutagen doesn't read the tag", lambda: opened.tag)
+    odd_tags(folder, bytes(data), written.getvalue(), plain)
+
+
+def odd_tags(folder: str, dsf: bytes, tag: bytes, plain: str) -> None:
+    """Tags whose places or sizes lie: they are read as far as they are there. `dsf` ends where its tag starts."""
+    import dsdarc
+
+    def is_read(name: str, data: bytes) -> bool:
+        with dsdarc.open(put(folder, name, data), READY) as opened:
+            return opened.tag is not None
+
+    for total in (0, len(dsf), len(dsf) + len(tag), 2**64 - 1):
+        stated = dsf[:12] + total.to_bytes(8, "little") + dsf[20:]
+        demand(is_read("odd.dsf", stated + tag), f"Python: no tag of a DSF file that states {total} bytes")
+    for place in (1, 10**9, 2**63, 2**64 - 1):
+        stated = dsf[:20] + place.to_bytes(8, "little") + dsf[28:]
+        demand(not is_read("odd.dsf", stated + tag), f"Python: a tag of a DSF file at {place}")
+    for rest in (b"", b"ID3", b"\0" * 999):
+        demand(not is_read("odd.dsf", dsf + rest), f"Python: a tag of {rest[:3]!r}")
+    held = get(plain)
+    for more, is_there in (
+        (chunk(b"BIG ", bytes(3_000_001)) + chunk(b"ID3 ", tag), True),
+        (b"ID3 " + (1 << 40).to_bytes(8, "big") + tag, True),
+        (b"ID3 " + b"\xff" * 8 + tag, False),
+        (chunk(b"ID3 ", b"") + chunk(b"ID3 ", tag), False),
+        (b"\xff" * 99, False),
+    ):
+        form = held[:4] + (len(held) - 12 + len(more)).to_bytes(8, "big") + held[12:] + more
+        demand(is_read("odd.dff", form) == is_there, f"Python: the tag of a DSDIFF file with {more[:12]!r}")
 
 
 def writes(folder: str, chance: random.Random) -> None:
@@ -292,6 +408,16 @@ def writes(folder: str, chance: random.Random) -> None:
             demand(get(dsf) == get(other), f"Python: another DSF file of {channels} channels of {count} bytes")
             sums = [run(PROGRAM, "sum", it)[1].split()[:channels] for it in (dff, dsf)]
             demand(sums[0] == sums[1], f"Python: other sums: {sums}")
+    for given in (rows, rows[::-1], numpy.asfortranarray(rows), rows[::3]):
+        dsdarc.write(dff, given, 2822400)
+        demand(get(dff).endswith(given.tobytes() + bytes(given.size % 2)), "Python: other bits of an odd array")
+    dsdarc.write(dff, b"abc", 2822400)
+    demand(get(dff).endswith(b"abc\0"), "Python: other bits of bytes")
+    for name in (dff, dsf):
+        dsdarc.write(name, rows[:0], 2822400)
+        with dsdarc.open(name, READY) as sound:
+            is_empty = len(sound) == len(sound.read()) == len(sound.bits()) == sound.bit_count == 0
+            demand(is_empty and sound.marks == [] and sound.tag is None, "Python: a file without bits has some")
     for count in (1, 9, 32_767, 32_769, 100_003):
         bits = numpy.unpackbits(rows_of(chance, count // 8 + 1, 2), axis=0)[:count].astype(bool)
         dsdarc.write(dsf, bits, 5644800)
@@ -322,6 +448,8 @@ def replaces(folder: str, chance: random.Random) -> None:
     for words, given in (
         ("ends in .dsf or .dff", (os.path.join(folder, "x.wav"), rows, 2822400)),
         ("uint8 or bool", (name, rows.astype("int16"), 2822400)),
+        ("1 to 6 channels", (name, numpy.uint8(3), 2822400)),
+        ("1 to 6 channels", (name, rows[:, :0], 2822400)),
         ("1 to 6 channels", (name, rows.reshape(-1, 1, 2), 2822400)),
         ("1 to 6 channels", (name, rows[:21].reshape(6, 7), 2822400)),
         ("from 1000000 to 50000000 Hz", (name, rows, 44100)),
@@ -330,6 +458,7 @@ def replaces(folder: str, chance: random.Random) -> None:
         ("whole bytes of each channel, and not 39993 bits", (name.replace(".dsf", ".dff"), rows, 2822400, 39993)),
     ):
         refuses(ValueError, words, lambda: write(*given))
+    refuses(TypeError, "the rate is a whole number, and not 2822400.0", lambda: write(name, rows, 2822400.0))
     refuses(FileNotFoundError, "none/x.dsf", lambda: write(os.path.join(folder, "none", "x.dsf"), rows, 2822400))
     pipe = os.path.join(folder, "pipe.dsf")
     os.mkfifo(pipe)
@@ -396,7 +525,9 @@ def try_calls(folder: str, seed: int = 11) -> None:
     of_taps(room, chance)
     into_arrays(room, chance)
     loudspeakers(room)
+    in_order(room, chance)
     marks(room, chance)
+    odd_marks(room)
     tags(room, chance)
     writes(room, chance)
     replaces(room, chance)

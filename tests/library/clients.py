@@ -22,12 +22,14 @@ def try_clients(folder: str, *last: Any) -> None:
     """The same by ALSA's device that writes a file, and by GStreamer, where their packages are installed."""
     if os.path.exists("/usr/include/alsa/asoundlib.h"):
         try_player(folder, *last)
+        try_album(folder)
     else:
         print("left out: dsdarcplay, as libasound2-dev isn't installed")
     status, flags = run("pkg-config", "--cflags", "--libs", "gobject-2.0")
     if status == 0 and os.path.exists("/usr/include/gstreamer-1.0/gst/tag/tag.h"):
         libraries = ["-lgsttag-1.0", "-lgstreamer-1.0"]
         try_element(folder, ["-I/usr/include/gstreamer-1.0", *flags.split(), *libraries], *last)
+        try_source(folder, ["-I/usr/include/gstreamer-1.0", *flags.split(), "-lgstapp-1.0", "-lgstreamer-1.0"])
     else:
         print("left out: dsdarcdec, as libgstreamer-plugins-base1.0-dev isn't installed")
     if os.path.exists("/usr/include/mpv/stream_cb.h"):
@@ -73,6 +75,54 @@ def try_player(folder: str, dff: str, dsf: str, filter: str, frames: bytes, alig
     for given, why in (((filter, folder), "Is a directory"), ((folder, dff), "it can't be read")):
         status, said = run(player, "-D", "raw", *given)
         demand(status == 1 and said == f"dsdarcplay: {folder}: {why}\n", f"dsdarcplay: a folder: {status}, {said}")
+
+
+def album(folder: str) -> tuple[list[str], bytes]:
+    """Three files that follow each other, in both forms, and one with the sound of all."""
+    chance = random.Random(5)
+    sounds = [chance.randbytes(2 * size) for size in (9001, 4096, 30_001)]
+    files = [os.path.join(folder, f"album{k}.dff") for k in range(3)]
+    for name, sound in zip(files, sounds):
+        with open(name, "wb") as file:
+            file.write(dsdiff(2_822_400, 2, sound))
+    run(PROGRAM, "convert", "dsf", files[1], files[1].replace(".dff", ".dsf"))
+    return [files[0], files[1].replace(".dff", ".dsf"), files[2]], dsdiff(2_822_400, 2, b"".join(sounds))
+
+
+def shifted(samples: bytes) -> bytes:
+    """DoP samples of 24 bits as the high ones of 32."""
+    return b"".join(b"\0" + samples[at : at + 3] for at in range(0, len(samples), 3))
+
+
+def try_album(folder: str) -> None:
+    """Over ALSA, files that follow each other give the device the bits of one file."""
+    files, whole = album(folder)
+    out, player, page = (os.path.join(folder, it) for it in ("client.pcm", "dsdarcplay", "alsadop"))
+    compiled("clients/alsadop.c", os.path.join(BUILT, "libdsdarc.a"), "-lasound", "-o", page)
+    status, said = run(page, "raw", *files)
+    demand(status == 0 and get(out) == shifted(wanted("dop", whole)[0]), f"alsadop: other samples: {status}, {said}")
+    for kind in ("dop", "native"):
+        status, said = run(player, "-D", "raw", f"--{kind}", *files)
+        bits, align = wanted("dop" if kind == "dop" else "msb", whole)
+        if kind == "native":  # 32 bits of each channel at a time
+            bits += bytes([0x69]) * (-len(bits) % (4 * align))
+            frames = [bits[at : at + 4 * align] for at in range(0, len(bits), 4 * align)]
+            bits = b"".join(frame[channel::align] for frame in frames for channel in range(align))
+        demand(status == 0 and get(out) == bits, f"dsdarcplay: other bits of files: {kind}, {status}, {said}")
+    other = os.path.join(folder, "other.dff")
+    with open(other, "wb") as file:
+        file.write(dsdiff(2_822_400, 1, bytes(5000)))
+    status, said = run(player, "-D", "raw", "--dop", files[0], other)
+    demand(status == 0 and get(out) == wanted("dop", get(other))[0], f"dsdarcplay: a file of one channel: {said}")
+
+
+def try_source(folder: str, flags: list[str]) -> None:
+    """The same by GStreamer."""
+    files, whole = album(folder)
+    out, page = os.path.join(folder, "client.pcm"), os.path.join(folder, "gstalbum")
+    compiled("clients/gstalbum.c", os.path.join(BUILT, "libdsdarc.a"), *flags, "-o", page)
+    status, said = run(page, f"filesink location={out}", *files)
+    demand(status == 0 and get(out) == wanted("dop", whole)[0], f"gstalbum: other samples: {status}, {said}")
 
 
 def try_element(folder: str, flags: list[str], dff: str, dsf: str, filter: str, frames: bytes, align: int) -> None:

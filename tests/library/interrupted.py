@@ -126,14 +126,14 @@ def each_call_fails(name: str, filter: str, whole: "ndarray") -> None:
     demand(wrong == 0, f"Python: {wrong} of {tried} reads after a failed call gave other frames")
 
 
-def each_place_raises(name: str, filter: str, whole: "ndarray", stride: int) -> None:
+def each_place_raises(opened: "Sound", whole: "ndarray", stride: int) -> None:
     """An interrupt at each place of the package's code in turn: at every line, call and return, and within lines."""
     import dsdarc
 
     left = [0]
     trace = raiser(os.path.dirname(dsdarc.__file__), left)
     tried = wrong = 0
-    with dsdarc.open(name, filter) as sound:
+    with opened as sound:
         for number, step in enumerate(steps(sound, len(whole))):
             for at in range(1 + number % stride, 1_000_000, stride):
                 sound.seek(number)
@@ -471,6 +471,8 @@ def filters(folder: str, name: str) -> None:
 
 def try_interrupted(folder: str, cut: str, interrupts: int) -> None:
     """All of these, over files with the frames of WAVE files."""
+    import dsdarc
+
     with tempfile.TemporaryDirectory(dir=folder) as room:
         dff, dsf, filter, frames, align = played(room, "long", 300_001)
         whole = numbers_of(frames, align, 3)
@@ -485,5 +487,12 @@ def try_interrupted(folder: str, cut: str, interrupts: int) -> None:
         copies(dff, filter)
         filters(room, dff)
         short, _, filter, frames, align = played(room, "few", 12_000)
-        each_place_raises(short, filter, numbers_of(frames, align, 3), max(1, 4000 // interrupts))
+        few, stride = numbers_of(frames, align, 3), max(1, 4000 // interrupts)
+        each_place_raises(dsdarc.open(short, filter), few, stride)
+        with dsdarc.open(short, filter) as sound:
+            bits, parts = sound.bits(), [os.path.join(room, f"part-{it}.dsf") for it in range(3)]
+        for number, part in enumerate(parts):
+            dsdarc.write(part, bits[5000 * number :][:5000], 2822400)
+        each_place_raises(next(sounds := dsdarc.play_list(parts, filter)), few, 3 * stride)
+        del sounds
         while_writing(room, max(1, 1000 // interrupts))

@@ -1,0 +1,94 @@
+/* Plays files that follow each other by the library, with pushes and pulls cut at random: joined KIND OUT SEED FILE..
+ *
+ * KIND is msb, lsb or dop, as dsdarc.h names them. It prints the status of each call that refuses, then what is reported of
+ * the recording, and ends it there. OUT gets the frames. With SEED 0 it pushes and pulls as much as it can. */
+#include <dsdarc.h>
+#include <stdio.h>
+#include <stdlib.h>
+#include <string.h>
+
+enum { MOST = 70000 };
+
+static uint64_t state;
+
+static size_t below(size_t n) {
+    state ^= state << 13, state ^= state >> 7, state ^= state << 17;
+    return n ? (size_t)(state % n) : 0;
+}
+
+static unsigned char *whole(const char *name, size_t *size) {
+    FILE *file = fopen(name, "rb");
+    unsigned char *bytes;
+    if (!file || fseek(file, 0, SEEK_END)) exit(3);
+    *size = (size_t)ftell(file);
+    rewind(file);
+    bytes = malloc(*size + 1);
+    if (!bytes || fread(bytes, 1, *size, file) != *size) exit(3);
+    fclose(file);
+    return bytes;
+}
+
+static int refused(const char *call, dsdarc_status status) {
+    if (status != DSDARC_OK) printf("%s %s\n", call, dsdarc_status_text(status));
+    return status != DSDARC_OK;
+}
+
+static dsdarc_status choose(dsdarc_player *player, const char *kind) {
+    if (!strcmp(kind, "msb")) return dsdarc_player_bits(player, DSDARC_BITS_MSB);
+    if (!strcmp(kind, "lsb")) return dsdarc_player_bits(player, DSDARC_BITS_LSB);
+    return dsdarc_player_dop(player);
+}
+
+static void pull_some(dsdarc_player *player, const dsdarc_info *info, FILE *out, size_t most) {
+    static unsigned char frames[MOST * 6 * 3];
+    size_t given, wanted = state ? 1 + below(most) : most;
+    while (dsdarc_player_pull(player, frames, wanted, DSDARC_PACKED, &given) == DSDARC_OK && given > 0)
+        fwrite(frames, info->width / 8 * info->channels, given, out);
+}
+
+/* Pushes a file: whether all of it was taken. */
+static int push_all(dsdarc_player *player, const char *kind, const char *name, dsdarc_info *info, FILE *out, size_t most) {
+    size_t size, at, taken, step;
+    unsigned char *bytes = whole(name, &size);
+    dsdarc_status status = DSDARC_OK;
+    for (at = 0; at < size && status == DSDARC_OK; at += taken) {
+        step = state ? 1 + below(most) : size;
+        status = dsdarc_player_push(player, bytes + at, step < size - at ? step : size - at, &taken);
+        if (status == DSDARC_NO_CHOICE) {
+            status = choose(player, kind);
+            if (status == DSDARC_OK && choose(player, kind) != DSDARC_CHOSEN) exit(4);
+        }
+        if (status == DSDARC_OK && dsdarc_player_info(player, info) == DSDARC_OK) pull_some(player, info, out, most);
+    }
+    free(bytes);
+    /* A sound of no bytes may start where the file ends. */
+    if (status == DSDARC_OK && dsdarc_player_info(player, info) == DSDARC_NO_CHOICE) status = choose(player, kind);
+    if (status == DSDARC_OK) dsdarc_player_info(player, info);
+    return !refused("push", status);
+}
+
+int main(int count, char **arguments) {
+    dsdarc_player *player;
+    dsdarc_info info = {0};
+    uint64_t offset = 7;
+    size_t most, taken;
+    FILE *out;
+    int k;
+    if (count < 5 || !(out = fopen(arguments[2], "wb"))) return 3;
+    state = strtoull(arguments[3], NULL, 10);
+    most = state ? 1 + below(below(3) ? MOST : 50) : MOST;
+    if (refused("new", dsdarc_player_new_joined(&player))) return 1;
+    for (k = 4; k < count; k++) {
+        if (k > 4 && refused("next", dsdarc_player_next(player))) break;
+        if (!push_all(player, arguments[1], arguments[k], &info, out, most)) break;
+    }
+    if (info.channels && (dsdarc_player_seek(player, 0, &offset) != DSDARC_NO_SEEK || offset != 7)) return 4;
+    if (!refused("end", dsdarc_player_end(player)) && info.channels) {
+        pull_some(player, &info, out, most);
+        if (dsdarc_player_push(player, arguments[1], 1, &taken) != DSDARC_NOT_JOINED || taken != 0) return 4;
+        if (dsdarc_player_next(player) != DSDARC_NOT_JOINED || dsdarc_player_end(player) != DSDARC_OK) return 4;
+    }
+    printf("%llu %u %u %u %u\n", (unsigned long long)info.frames, info.rate_in, info.rate, info.channels, info.width);
+    dsdarc_player_drop(player);
+    return fclose(out) ? 3 : 0;
+}

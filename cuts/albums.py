@@ -22,6 +22,8 @@ MOST_TITLE = 255  # bytes of a mark's text that a project may have
 MOST_NAME = 200  # bytes of a title in a name
 MARK = struct.Struct(">HBBIiHHHI")
 FRAMES = 75  # of a second in a cue sheet
+# What a DSDIFF file says of itself outside of a tag, by the chunks in DIIN: a count of four bytes, and a text.
+EDITED = {"artist": b"DIAR", "title": b"DITI"}
 # What some system takes for more than a letter of a name.
 UNSAFE = re.compile(r'[/\\:*?"<>|]')
 INDEX = re.compile(r"(\d{1,2})\s+(\d{1,4}):([0-5]\d):([0-6]\d|7[0-4])", re.ASCII)
@@ -111,6 +113,23 @@ def marks_of(found: Recording) -> list[tuple[int, str, int]]:
                         text = text_of(data[MARK.size : MARK.size + count]).rstrip("\0")
                         marks.append((place, text, kind))
     return marks
+
+
+def edited_texts(name: str) -> dict[str, str]:
+    """Artist and title that a DSDIFF file has outside of a tag, as far as it has them."""
+    found = dict[str, str]()
+    with open(name, "rb") as file:
+        if file.read(4) != b"FRM8":
+            return found
+        file.seek(0)
+        for name_, size in form_chunks(file):
+            inside = dict(channels.chunks(channels.take(file, size))) if name_ == b"DIIN" else {}
+            for key, inner in EDITED.items():
+                data = inside.get(inner, b"")
+                text = text_of(data[4 : 4 + int.from_bytes(data[:4], "big")]).rstrip("\0").strip()
+                if text:
+                    found.setdefault(key, text)
+    return found
 
 
 def starts_in(marks: list[tuple[int, str, int]], bits: int) -> list[tuple[int, str]]:

@@ -19,7 +19,8 @@ import sys
 import tempfile
 from collections.abc import Callable, Iterable, Iterator
 from pathlib import Path
-from typing import BinaryIO, NoReturn
+from types import FrameType
+from typing import BinaryIO
 
 from dsdarc_scripts import room
 from dsdarc_scripts.explained import shown_name, shown_part
@@ -28,6 +29,7 @@ if is_usual:
     signal.signal(signal.SIGINT, signal.default_int_handler)
 
 STOPS = (signal.SIGINT, signal.SIGTERM, signal.SIGHUP)
+SOON = 0.001  # seconds, after which what was lost is raised again
 
 
 class Refused(Exception):
@@ -41,7 +43,7 @@ class Stopped(BaseException):
 @contextlib.contextmanager
 def unstopped() -> Iterator[None]:
     """Lets signals wait."""
-    before = signal.pthread_sigmask(signal.SIG_BLOCK, STOPS)
+    before = signal.pthread_sigmask(signal.SIG_BLOCK, (*STOPS, signal.SIGALRM))
     try:
         yield
     finally:
@@ -327,20 +329,56 @@ def begin() -> None:
 
 
 came = []  # the signal that came; what it raises may be lost in the code of a library
+due = []  # and what is still to be raised for it
 
 
-def stop(number: int, _: object) -> NoReturn:
+def stop(number: int, frame: FrameType | None) -> None:
     """Later signals are ignored: what is left over is removed in peace."""
     for each in STOPS:
         signal.signal(each, signal.SIG_IGN)
     came.append(number)
-    raise Stopped
+    due.append(number)
+    stop_here(0, frame)
+
+
+def stop_here(_: int, frame: FrameType | None) -> None:
+    """Ends what runs, unless that is on its way already; where it would be lost, it does so soon."""
+    while frame and frame.f_code is not unraised.__code__:
+        frame = frame.f_back
+    if frame:
+        soon()
+    elif due:
+        due.clear()
+        raise Stopped
+
+
+def soon() -> None:
+    """Has the run be ended in a moment."""
+    signal.signal(signal.SIGALRM, stop_here)
+    signal.setitimer(signal.ITIMER_REAL, SOON)
+
+
+def unraised(error: "sys.UnraisableHookArgs") -> None:
+    """Takes what was raised where Python can only print it, such as in `__del__` and when a weak reference ends."""
+    if issubclass(error.exc_type, Stopped):
+        due.append(came[0])
+        soon()
+    else:
+        sys.__unraisablehook__(error)
 
 
 def go_on() -> None:
     """Ends a run whose signal was lost."""
     if came:
+        due.clear()
         raise Stopped
+
+
+def end_at_once() -> None:
+    """From here on a signal ends the process by itself, as nothing is left over."""
+    for each in STOPS:
+        if signal.getsignal(each) is stop:
+            signal.signal(each, signal.SIG_DFL)
 
 
 def die() -> int:
@@ -356,10 +394,14 @@ def ended(main: Callable[[], int]) -> int:
     """Runs a script: its status, and one line on standard error for a fault. A signal ends it as it would without this,
     once nothing is left over."""
     try:
+        sys.unraisablehook = unraised
         for each in STOPS:
             if signal.getsignal(each) is not signal.SIG_IGN:
                 signal.signal(each, stop)
-        return status_of(main)
+        try:
+            return status_of(main)
+        finally:
+            end_at_once()
     except Stopped:
         return die()
 

@@ -90,12 +90,12 @@ def is_inside(path: str, folder: str) -> bool:
 
 
 class Walk:
-    """A walk through an archive, in which OUT is left out: the names of the DSD files that can be looked at, fault, name
-    and reason of what can't, and the names of all other files."""
+    """A walk through an archive, in which OUT is left out, if there is one: the names of the DSD files that can be looked
+    at, fault, name and reason of what can't, and the names of all other files."""
 
-    def __init__(self, archive: str, out: str) -> None:
-        self.archive, self.out = archive, mark_of(out)
-        self.closed = None if is_inside(archive, out) else out
+    def __init__(self, archive: str, out: str | None = None) -> None:
+        self.archive, self.out = archive, None if out is None else mark_of(out)
+        self.closed = None if out is None or is_inside(archive, out) else out
         self.good: list[str] = []
         self.refused: list[list[str]] = []
         self.others: list[str] = []

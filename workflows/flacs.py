@@ -10,7 +10,7 @@ import subprocess
 from typing import Any
 
 from cuts import albums
-from dsdarc_scripts import names, room
+from dsdarc_scripts import names, room, waves
 from dsdarc_scripts.outputs import Refused
 from workflows import jobs, pictures, tagging
 
@@ -31,6 +31,13 @@ MOST_COVER = (1 << 24) - 1024
 # A text that the system takes as an argument.
 LONGEST = 100_000
 FRONT_COVER = 3
+# The channel masks of three to six channels that FLAC has assignments for, and the comment for others.
+OWN_MASKS = (0x7, 0x33, 0x37, 0x3F)
+MASK = "WAVEFORMATEXTENSIBLE_CHANNEL_MASK"
+# The bytes of a WAVE file in which its format is.
+HEAD = 256
+# What flac says before what is wrong: the name that the file has in the run.
+NAMED = re.compile(r"^\S+\.(?:wav|flac): (?:ERROR:? )?")
 
 Comments = list[tuple[str, str]]
 
@@ -112,12 +119,31 @@ def chapters(path: str) -> Comments:
     return made
 
 
+def edited_texts(path: str) -> dict[str, str]:
+    """Artist and title that a DSDIFF file has outside of a tag."""
+    try:
+        return {key: plain(text) for key, text in albums.edited_texts(path).items()}
+    except jobs.BROKEN:
+        return {}
+
+
+def add(found: dict[str, list[str]], comment: str, text: str | None) -> None:
+    """Adds a comment where there is none."""
+    if text and not any(found.get(comment, ())):
+        found[comment] = [plain(text)]
+
+
 def of_whole(path: str, found: dict[str, list[str]], sheet: str | None) -> Comments:
-    """The comments of a file that is played whole: those of its tag, with what only its marks or its sheet say."""
-    texts = sheet_texts(sheet)
-    for comment, text in (("ALBUM", texts.title), ("ALBUMARTIST", texts.performer)):
-        if text and not any(found.get(comment, ())):
-            found[comment] = [plain(text)]
+    """The comments of a file that is played whole: those of its tag, with what only its sheet, its marks or other chunks
+    say."""
+    texts, edited = sheet_texts(sheet), edited_texts(path)
+    for comment, text in (
+        ("ALBUM", texts.title),
+        ("ALBUMARTIST", texts.performer),
+        ("ARTIST", edited.get("artist")),
+        ("TITLE", edited.get("title")),
+    ):
+        add(found, comment, text)
     made = [(comment, text) for comment, each in found.items() for text in each]
     made += chapters(path) if jobs.has_marks(path) else []
     if sheet and os.path.getsize(sheet) <= LONGEST:
@@ -126,16 +152,16 @@ def of_whole(path: str, found: dict[str, list[str]], sheet: str | None) -> Comme
     return made
 
 
-def of_track(job: jobs.Job, found: dict[str, list[str]], sheet: str | None) -> Comments:
-    """The comments of a track: its own title and number, and what the tag and the sheet say of the album."""
-    texts, number = sheet_texts(sheet), job.track or 0
-    if not any(found.get("ALBUM", ())):
-        found["ALBUM"] = [plain(texts.title)] if texts.title else found.get("TITLE", [])
-    if texts.performer and not any(found.get("ALBUMARTIST", ())):
-        found["ALBUMARTIST"] = [plain(texts.performer)]
+def of_track(path: str, job: jobs.Job, found: dict[str, list[str]], sheet: str | None) -> Comments:
+    """The comments of a track: its own title and number, and what the tag, the sheet and other chunks say of the album."""
+    texts, edited, number = sheet_texts(sheet), edited_texts(path), job.track or 0
+    for text in (texts.title, *found.get("TITLE", []), edited.get("title")):
+        add(found, "ALBUM", text)
+    add(found, "ALBUMARTIST", texts.performer or edited.get("artist"))
     performer = texts.performers.get(number) or texts.performer
     if performer:
         found["ARTIST"] = [plain(performer)]
+    add(found, "ARTIST", edited.get("artist"))
     found["TITLE"] = [plain(job.title)] if job.title else []
     found["TRACKNUMBER"], found["TRACKTOTAL"] = [str(number)], [str(job.count)]
     return [(comment, text) for comment, each in found.items() for text in each]
@@ -157,7 +183,7 @@ def described(path: str, job: jobs.Job, sheet: str | None) -> tuple[Comments, pi
         except Refused as why:
             said = str(why) if isinstance(why, tagging.Untagged) else f"its cover is left out: {why}"
     with contextlib.suppress(OSError):
-        made = of_whole(path, found, sheet) if job.track is None else of_track(job, found, sheet)
+        made = of_whole(path, found, sheet) if job.track is None else of_track(path, job, found, sheet)
         return [(comment, text) for comment, text in made if text], cover, said
     return [], cover, said
 
@@ -169,10 +195,22 @@ def run(arguments: list[str]) -> str | None:
     return (said[-1] if said else f"status {done.returncode}") if done.returncode else None
 
 
-def made_of(wave: str, made: str, comments: Comments, cover: pictures.Picture | None, channels: int) -> None:
+def channel_options(wave: str) -> list[str]:
+    """What flac is told of the loudspeakers of a WAVE file. It takes the masks of its own channel assignments; of any
+    other it would make no file, so it gets that one as the comment from which decoders take it."""
+    with open(wave, "rb") as file:
+        head = file.read(HEAD)
+    at = head.index(b"fmt ")
+    channels, _, _, _, mask = waves.shape_of(head[at + 8 : at + 8 + int.from_bytes(head[at + 4 : at + 8], "little")])
+    if channels < 3 or mask in OWN_MASKS:
+        return []
+    return ["--channel-map=none", *([f"--tag={MASK}=0x{mask:04X}"] if mask else [])]
+
+
+def made_of(wave: str, made: str, comments: Comments, cover: pictures.Picture | None) -> None:
     """Makes the FLAC file of a WAVE file. flac decodes what it writes and compares, and then tests the file."""
     arguments = ["--verify", "--lax", "--best", "--force", "--no-utf8-convert", "-o", made]
-    arguments += ["--channel-map=none"] if channels > 2 else []
+    arguments += channel_options(wave)
     arguments += [f"--tag={comment}={text}" for comment, text in comments]
     if cover:
         with open(f"{made}.cover", "wb") as file:
@@ -187,4 +225,4 @@ def made_of(wave: str, made: str, comments: Comments, cover: pictures.Picture | 
         names.remove(made)
         if not room.has_room(os.path.dirname(made), os.path.getsize(wave)):
             raise room.full()
-        raise Refused(f"flac: {said}")
+        raise Refused(f"flac: {NAMED.sub('', said)}")

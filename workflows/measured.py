@@ -28,7 +28,10 @@ LENGTH = 1 << 13  # frames of one spectrum
 LOWEST = 20.0  # Hz
 TEXTS = {"artist": "TPE1", "title": "TIT2", "album": "TALB"}
 # What FFmpeg's ebur128 ends with.
-SUMMARY = re.compile(rb"Summary:.*?I: +(-?[\d.]+|-?inf) LUFS.*?Peak: +(-?[\d.]+|-?inf) dBFS", re.DOTALL)
+SUMMARY = re.compile(
+    rb"ebur128@n(\d+) @ [^\]]*\] Summary:.*?I: +(-?[\d.]+|-?inf) LUFS.*?Peak: +(-?[\d.]+|-?inf) dBFS", re.DOTALL
+)
+UNKNOWN: dict[str, float | None] = {"loudness": None, "true peak": None}
 
 
 @dataclasses.dataclass
@@ -184,11 +187,23 @@ def has_loudness() -> bool:
     return shutil.which("ffmpeg") is not None
 
 
-def loudness(name: str, go_on: Callable[[], None]) -> dict[str, float | None]:
-    """The integrated loudness of a file by EBU R128 in LUFS, and its true peak in dBFS, as FFmpeg's ebur128 measures
-    them; None of what it can't read. `go_on` is called meanwhile, as by `measure`."""
-    options = ["-nostdin", "-hide_banner", "-nostats", "-i", f"file:{os.path.abspath(name)}"]
-    options += ["-filter_complex", "ebur128=peak=true:framelog=verbose", "-f", "null", "-"]
+def loudness(paths: list[str], go_on: Callable[[], None]) -> list[dict[str, float | None]]:
+    """The integrated loudness of files by EBU R128 in LUFS, and their true peaks in dBFS, as one FFmpeg measures them by its
+    ebur128; None of what it can't read. `go_on` is called meanwhile, as by `measure`."""
+    found = by_ffmpeg(paths, go_on)
+    if len(paths) > 1 and len(found) < len(paths):
+        # One that can't be read keeps the others from being measured.
+        found = {at: it for at, path in enumerate(paths) for it in by_ffmpeg([path], go_on).values()}
+    return [dict(zip(UNKNOWN, found[at])) if at in found else dict(UNKNOWN) for at in range(len(paths))]
+
+
+def by_ffmpeg(paths: list[str], go_on: Callable[[], None]) -> dict[int, list[float]]:
+    """The loudness and true peak of files by their places among them; none of any if one can't be read."""
+    options = ["-nostdin", "-hide_banner", "-nostats"]
+    options += [it for path in paths for it in ("-i", f"file:{os.path.abspath(path)}")]
+    filters = (f"[{at}:a]ebur128@n{at}=peak=true:framelog=verbose[o{at}]" for at in range(len(paths)))
+    options += ["-filter_complex", ";".join(filters)]
+    options += [it for at in range(len(paths)) for it in ("-map", f"[o{at}]", "-f", "null", "-")]
     with tempfile.TemporaryFile() as said:
         child = subprocess.Popen(["ffmpeg", *options], stdin=subprocess.DEVNULL, stdout=subprocess.DEVNULL, stderr=said)
         try:
@@ -202,10 +217,8 @@ def loudness(name: str, go_on: Callable[[], None]) -> dict[str, float | None]:
             raise
         said.seek(0)
         # It prints one for each time that it begins, and the first before the sound.
-        found = SUMMARY.findall(said.read())
-    if child.returncode or not found:
-        return {"loudness": None, "true peak": None}
-    return {key: max(float(it), FLOOR) for key, it in zip(("loudness", "true peak"), found[-1])}
+        rows = {int(number): values for number, *values in SUMMARY.findall(said.read())}
+    return {} if child.returncode else {at: [max(float(it), FLOOR) for it in each] for at, each in rows.items()}
 
 
 def texts(name: str) -> dict[str, str]:

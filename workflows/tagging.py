@@ -20,6 +20,19 @@ PIECE = 1 << 20
 MOST_WAVE = 2**32 - 1
 HANDED_ON = "handed on"
 NOT_INSTALLED = "python3-mutagen isn't installed"
+# The frames of texts, by the fields that are set and shown.
+FIELDS = {
+    "artist": "TPE1",
+    "album": "TALB",
+    "title": "TIT2",
+    "album-artist": "TPE2",
+    "composer": "TCOM",
+    "conductor": "TPE3",
+    "genre": "TCON",
+    "date": "TDRC",
+    "disc": "TPOS",
+    "track": "TRCK",
+}
 
 
 class Untagged(Refused):

@@ -1,0 +1,416 @@
+"""What the desk holds: a mix with its takes, its journal, the peaks, and the master that is made of it.
+
+Files are known to the page by numbers alone. A take or a mix is opened only below the folders that were named, also
+through links."""
+import os
+import threading
+import time
+from collections.abc import Callable
+from concurrent.futures import ThreadPoolExecutor
+from dataclasses import dataclass
+from typing import Any
+
+from cuts import hearing, takes
+from cuts.albums import MOST_TITLE
+from cuts.takes import Take
+from desk import mixes, sound
+from desk.journal import Journal
+from desk.making import Maker
+from desk.mixes import Clip, Clips, Document, Limits
+from desk.peaks import Peaks
+from desk.sound import Source
+from dsdarc_scripts.explained import shown_name
+from dsdarc_scripts.outputs import Refused
+from tools.null_testing.mixes import Mix, MixFault, read_mix
+
+MOST_TAKES = 16
+MOST_LABEL = 80  # letters
+MOST_CHANGED = 2048  # clips of one step
+LATER = 0.25  # seconds between two reports of progress
+
+
+class Outdated(Exception):
+    """The page doesn't know what was done last."""
+
+
+class Folders:
+    """The folders that were named. No file outside of them is opened."""
+
+    def __init__(self, folders: list[str]) -> None:
+        self.folders = sorted({os.path.realpath(it) for it in folders})
+
+    def demand(self, path: str, what: str) -> str:
+        """The real path of a file that lies below one of them."""
+        real = os.path.realpath(path)
+        if not any(real.startswith(os.path.join(it, "")) for it in self.folders):
+            raise Refused(f"{what}: {shown_name(path)} is outside of the folders that were named: name it, too")
+        return real
+
+
+@dataclass
+class Asked:
+    """What the desk is asked to open: the path of a mix text, which may be a new one, and files of takes."""
+
+    mix: str
+    files: list[str]
+    is_new: bool
+
+
+class Desk:
+    """The desk. `say` is told what the page should know, from any thread."""
+
+    def __init__(self, asked: Asked, say: Callable[[dict[str, Any]], None]) -> None:
+        self.say, self.lock = say, threading.RLock()
+        self.top, self.name = os.path.split(os.path.abspath(asked.mix))
+        self.folders = Folders([self.top, *(os.path.dirname(os.path.abspath(it)) for it in asked.files)])
+        self.path = self.folders.demand(os.path.abspath(asked.mix), "the mix")
+        self.takes, self.sources = list[Take](), list[Source]()
+        self.peaks = dict[str, Peaks]()
+        self.pool = ThreadPoolExecutor(2, "peaks")
+        self.maker = Maker(os.path.join(self.top, self.name), say)
+        self.master: Source | None = None
+        self.outside: str | None = None
+        self.notes = list[str]()
+        self.lost = set[int]()
+        self.open(asked)
+        self.open_master()
+
+    # Opening.
+
+    def open(self, asked: Asked) -> None:
+        """Opens the text with its takes, and the journal."""
+        data = None if asked.is_new else mixes.read_bytes(self.path)
+        self.stamp, self.sum = mixes.stamp_of(self.path), None if data is None else mixes.sum_of(data)
+        mix = None if data is None else self.mix_of(data)
+        names = [] if mix is None else mix.takes
+        known = {os.path.realpath(os.path.join(self.top, it)) for it in names}
+        more = [it for it in asked.files if os.path.realpath(it) not in known]
+        self.take_in([*names, *dict.fromkeys(os.path.relpath(os.path.abspath(it), self.top) for it in more)])
+        added = self.takes[len(names) :]
+        # Which decoder a new clip of each take gets.
+        if mix is None or data is None:
+            text, self.numbers = mixes.new_text(self.name, added)
+        else:
+            text, numbers = data.decode("utf-8-sig"), [self.usual(mix, it) for it in range(len(names))]
+            if added:
+                text, more_numbers = mixes.with_takes(text, mix, added)
+                numbers += more_numbers
+            self.numbers = numbers
+        self.read_text(text, None if mix is None else mix)
+        self.journal = Journal(self.path, self.sum, self.document.base, self.limits)
+        if self.journal.saved_clips != self.document.base or self.journal.history.steps:
+            self.document.is_now(text, self.journal.saved_clips)
+        self.say_opened()
+
+    def mix_of(self, data: bytes) -> Mix:
+        try:
+            return read_mix(data)
+        except MixFault as error:
+            why = str(error).removeprefix("Mix ")
+            raise Refused(f"{shown_name(self.name)}: {why}: it is no mix as docs/NULL_TEST.md says") from None
+
+    @staticmethod
+    def usual(mix: Mix, take: int) -> int:
+        """The decoder that most clips of a take have."""
+        found = [it.decoder for it in mix.clips if it.take == take] or [it.decoder for it in mix.clips]
+        return max(set(found), key=lambda it: (found.count(it), -it))
+
+    def take_in(self, names: list[str]) -> None:
+        """Opens takes, which are of one kind."""
+        if not names:
+            raise Refused("there is no take: name DSDIFF or DSF files, or a mix")
+        if len(names) > MOST_TAKES:
+            raise Refused(f"a mix has at most {MOST_TAKES} takes, and there are {len(names)}")
+        for number, name in enumerate(names):
+            what = f"take {number}, {shown_name(name)}"
+            if not name.isprintable():
+                raise Refused(f"{what}: no mix can name it: name it by letters of UTF-8 on one line")
+            path = self.folders.demand(os.path.join(self.top, name), what)
+            take = takes.opened(path, what)
+            take.name = name
+            differing = takes.unlike(take, self.takes[0]) if self.takes else None
+            if differing:
+                raise Refused(f"{what} has {differing[0]}, and take 0 has {differing[1]}")
+            try:
+                self.sources.append(Source(path))
+            except Refused as error:
+                raise Refused(f"{what}: {str(error).split(': ', 1)[-1]}") from None
+            self.takes.append(take)
+
+    def read_text(self, text: str, mix: Mix | None) -> None:
+        """Takes the clips of a text."""
+        clips = Clips()
+        if mix is not None:
+            takes_of = [self.takes[it] for it in range(len(mix.takes))]
+            for number, it in enumerate(mix.clips):
+                if it.start + it.length > takes_of[it.take].bits:
+                    end, bits = it.start + it.length, takes_of[it.take].bits
+                    why = f"ends at bit {end} of take {it.take}, which has {bits} bits"
+                    raise Refused(f"{shown_name(self.name)}: clip {number}, counted from 0, {why}")
+                if it.gains is not None and len(it.gains) != self.takes[0].count:
+                    raise Refused(f"{shown_name(self.name)}: clip {number} has gains of other channels than the takes")
+            clips = mixes.clips_in(mix, text, shown_name(self.name), self.takes[0].count)
+        found = mixes.head_in(text)
+        self.document = Document(self.name, text, clips, [it.name for it in self.takes], self.takes[0].rate)
+        self.limit, self.full = found.limit, found.full
+        self.limits = Limits([it.bits for it in self.takes], len(found.totals), self.takes[0].count)
+        self.totals = found.totals
+
+    def say_opened(self) -> None:
+        count = self.journal.taken_up
+        if count:
+            steps = "1 change that nobody saved was" if count == 1 else f"{count} changes that nobody saved were"
+            self.notes.append(f"{steps} taken up from the journal")
+        if self.journal.aside:
+            self.notes.append(
+                f"the journal was of another text: it is {shown_name(os.path.basename(self.journal.aside))} now"
+            )
+
+    # Peaks.
+
+    def source(self, name: str) -> Source:
+        """The source of a name that the page knows: take-N or master."""
+        if name == "master" and self.master is not None:
+            return self.master
+        if name.startswith("take-") and name[5:].isascii() and name[5:].isdecimal() and len(name) < 9:
+            number = int(name[5:])
+            if number < len(self.sources):
+                return self.sources[number]
+        raise Refused(f"there is no source {shown_name(name[:40])}")
+
+    def peaks_of(self, name: str) -> Peaks:
+        """The peaks of a source, which are made if they aren't yet."""
+        source = self.source(name)
+        with self.lock:
+            known = self.peaks.get(name)
+            if known is None or known.source is not source:
+                known = self.peaks[name] = Peaks(source)
+                if not known.is_ready:
+                    self.pool.submit(self.make_peaks, name, known)
+            return known
+
+    def progress(self) -> list[dict[str, Any]]:
+        """How far the peaks of each source are, for a page that comes."""
+        with self.lock:
+            return [
+                {"peaks": {"source": name, "done": it.done, "of": it.source.frames, "why": it.why}}
+                for name, it in self.peaks.items()
+            ]
+
+    def make_peaks(self, name: str, peaks: Peaks) -> None:
+        last = 0.0
+
+        def step() -> None:
+            nonlocal last
+            now = time.monotonic()
+            if now - last > LATER or peaks.is_ready or peaks.why:
+                last = now
+                self.say({"peaks": {"source": name, "done": peaks.done, "of": peaks.source.frames, "why": peaks.why}})
+
+        peaks.make(step)
+
+    # The mix.
+
+    @property
+    def clips(self) -> Clips:
+        return self.journal.history.clips
+
+    @property
+    def is_saved(self) -> bool:
+        return self.sum is not None and self.clips == self.document.base
+
+    def state(self) -> dict[str, Any]:
+        """All that the page shows of the mix."""
+        with self.lock:
+            history = self.journal.history
+            undo = history.steps[history.place - 1].label if history.place else None
+            redo = history.steps[history.place].label if history.place < len(history.steps) else None
+            return {
+                "number": history.number,
+                "name": self.name,
+                "folder": self.top,
+                "clips": {str(it): clip.to_json() for it, clip in self.clips.items()},
+                "next": 1 + max([-1, *self.clips, *(it for step in history.steps for it in step.changes)]),
+                "undo": undo,
+                "redo": redo,
+                "saved": self.is_saved,
+                "is_new": self.sum is None,
+                "outside": self.outside,
+                "taken_up": self.journal.taken_up,
+                "notes": self.notes,
+                "limit": round(hearing.decibels(self.limit / self.full), 2) if self.limit else None,
+                "make": {key: it for key, it in self.maker.state.items() if key != "lines"},
+                "made": self.made(),
+                "lost": sorted(self.lost),
+            }
+
+    def about(self) -> dict[str, Any]:
+        """What doesn't change: the takes, and how they are played."""
+        first = self.sources[0]
+        rows = []
+        for number, (take, source) in enumerate(zip(self.takes, self.sources)):
+            peaks = self.peaks_of(f"take-{number}")
+            marks = [{"bit": it.bits, "title": it.title} for it in source.sound.marks if 0 <= it.bits <= take.bits]
+            row = {"name": take.name, "bits": take.bits, "frames": source.frames, "decoder": self.numbers[number]}
+            rows.append(row | {"marks": marks, "done": peaks.done})
+        names = list(first.sound.channels.names) or [str(it) for it in range(first.count)]
+        about = {"rate": first.source_rate, "frame_rate": first.rate, "factor": first.factor, "width": first.width}
+        return about | {"channels": names, "takes": rows, "most_title": MOST_TITLE}
+
+    def demand_number(self, number: object) -> None:
+        if number != self.journal.history.number:
+            raise Outdated
+
+    def change(self, value: dict[str, Any]) -> None:
+        """Does what the page asks for: changes clips, undoes, or redoes."""
+        with self.lock:
+            self.demand_number(value.get("number"))
+            if value.get("undo") or value.get("redo"):
+                done = self.journal.undo() if value.get("undo") else self.journal.redo()
+                if not done:
+                    raise Refused("there is nothing to undo" if value.get("undo") else "there is nothing to redo")
+                return
+            label, rows = value.get("label"), value.get("clips")
+            if not isinstance(label, str) or len(label) > MOST_LABEL or not isinstance(rows, dict):
+                raise Refused("a change has a label and clips")
+            if len(rows) > MOST_CHANGED:
+                raise Refused(f"a change has at most {MOST_CHANGED} clips")
+            new = dict[int, Clip | None]()
+            for key, it in rows.items():
+                if not key.isascii() or not key.isdecimal() or len(key) > 9:
+                    raise Refused("clips have numbers")
+                new[int(key)] = None if it is None else mixes.clip_from(it, self.limits)
+            after = {number: it for number, it in self.clips.items() if number not in new}
+            after |= {number: it for number, it in new.items() if it is not None}
+            mixes.demand_together(after)
+            self.journal.do(label, new)
+
+    def drop_taken_up(self, number: object) -> None:
+        """Undoes what was taken up from the journal."""
+        with self.lock:
+            self.demand_number(number)
+            base = self.document.base
+            new: dict[int, Clip | None] = {it: base.get(it) for it in {*self.clips, *base}}
+            self.journal.do("drop what wasn't saved", new)
+            self.journal.taken_up = 0
+
+    def save(self, number: object, over: bool) -> None:
+        """Writes the text. A file that another program changed is kept under another name, if it is to be written over."""
+        with self.lock:
+            self.demand_number(number)
+            self.look_outside()
+            if self.outside is not None and not over:
+                raise Outdated
+            data = self.document.text_of(self.clips).encode()
+            if self.outside is not None and os.path.lexists(self.path):
+                aside = mixes.free_name(self.path, "other")
+                os.link(self.path, aside)
+                self.notes.append(f"the text of the other program is {shown_name(os.path.basename(aside))} now")
+            self.journal.saving(mixes.sum_of(data))
+            mixes.write_bytes(self.path, data)
+            self.sum, self.stamp, self.outside = mixes.sum_of(data), mixes.stamp_of(self.path), None
+            if self.clips != self.document.base:
+                self.document.is_now(data.decode(), self.clips)
+            self.journal.saved(self.sum)
+
+    def look_outside(self) -> bool:
+        """Looks whether another program changed the text; whether there is news."""
+        with self.lock:
+            stamp = mixes.stamp_of(self.path)
+            if stamp == self.stamp:
+                return False
+            self.stamp = stamp
+            if stamp is None:
+                self.outside = None if self.sum is None else "the file is gone"
+                return self.outside is not None
+            try:
+                data = mixes.read_bytes(self.path)
+                found = mixes.sum_of(data)
+                if found == self.sum:
+                    self.outside = None
+                    return False
+                mix = self.mix_of(data)
+            except (OSError, Refused) as error:
+                self.outside = f"another program changed the file, and it is no mix now: {error}"
+                return True
+            self.outside = "another program changed the file"
+            if self.is_saved:
+                self.reload(data, mix, True)
+            return True
+
+    def reload(self, data: bytes, mix: Mix, is_anew: bool) -> None:
+        """Takes the text of another program in place of what is there. The journal goes, or is put aside."""
+        if mix.takes != [it.name for it in self.takes][: len(mix.takes)] or len(mix.takes) > len(self.takes):
+            self.outside = "another program changed the file, which names other takes now: open it again"
+            return
+        try:
+            self.read_text(data.decode("utf-8-sig"), mix)
+        except Refused as error:
+            self.outside = f"another program changed the file: {error}"
+            return
+        self.sum, self.outside = mixes.sum_of(data), None
+        self.journal.close()
+        number = self.journal.history.number
+        self.journal = Journal(self.path, self.sum, self.document.base, self.limits, is_anew)
+        self.journal.history.number = number + 1
+        self.notes.append("another program changed the file: this is what it has now")
+
+    def take_other(self, number: object) -> None:
+        """Drops what is here, and takes the text that another program wrote."""
+        with self.lock:
+            self.demand_number(number)
+            data = mixes.read_bytes(self.path)
+            self.reload(data, self.mix_of(data), False)
+            if self.outside is not None:
+                raise Refused(self.outside)
+
+    def look_at_takes(self) -> bool:
+        """Looks which takes are gone; whether that changed."""
+        lost = {it for it, source in enumerate(self.sources) if not os.path.isfile(source.path)}
+        is_news, self.lost = lost != self.lost, lost
+        return is_news
+
+    # The master.
+
+    def made(self) -> dict[str, Any] | None:
+        """What came of the last making, and whether it is of the text as it is."""
+        found = self.maker.result()
+        if found is None or self.maker.state["running"]:
+            return None
+        return found | {"is_current": found.get("sum") == self.sum and self.is_saved, "folder": self.maker.folder}
+
+    def open_master(self) -> None:
+        """Opens the master that was made, to be heard and seen."""
+        with self.lock:
+            old, self.master = self.master, None
+            self.peaks.pop("master", None)
+            found = self.maker.result()
+            if found is not None:
+                try:
+                    path = self.folders.demand(self.maker.file(str(found["master"])), "the master")
+                    made = Source(path)
+                    if (made.source_rate, made.count) == (self.sources[0].source_rate, self.sources[0].count):
+                        self.master = made
+                    else:
+                        made.close()
+                except (Refused, KeyError):
+                    pass
+            if old is not None:
+                old.close()
+
+    def numbers_of(self, name: str, first: int, count: int) -> Any:
+        """Frames of a source or of the mix; 1 is full scale."""
+        if name == "mix":
+            with self.lock:
+                clips = dict(self.clips)
+            return sound.mixed(self.sources, clips, self.totals, first, count)
+        source = self.source(name)
+        return source.numbers(first, count) * 2.0 ** (1 - source.width)
+
+    def close(self) -> None:
+        for it in self.peaks.values():
+            it.is_stopped.set()
+        self.pool.shutdown(wait=True, cancel_futures=True)
+        self.journal.close()
+        for source in [*self.sources, *([self.master] if self.master else [])]:
+            source.close()

@@ -1,0 +1,253 @@
+"""Makes the master of a mix: render, edit, check, null test, one after the other, and what came of each cut.
+
+All files are in a folder beside the mix: of `album.mix.toml` in `album.made`. `made.json` there has what came of it, with
+the sum of the mix text, and is written last: where it isn't there, or has another sum, the files are of another mix."""
+import asyncio
+import contextlib
+import json
+import os
+import re
+import signal
+import sys
+from collections.abc import Callable
+from dataclasses import dataclass, field
+from typing import Any
+
+from desk import mixes
+from dsdarc_scripts import program
+from dsdarc_scripts.explained import shown_name
+
+FOLDER = ".made"
+DONE = "made.json"
+STEPS = ("render", "edit", "check", "nulltest")
+SAYS = {
+    "render": "new bits where the mix changes",
+    "edit": "the master, cut from takes and new bits",
+    "check": "whether it holds the takes' bits",
+    "nulltest": "whether it sounds like the mix",
+}
+MOST_LINES = 20_000
+# What the file of what came of it has.
+KEYS = {"sum", "endings", "sizes", "master", "share", "residual", "accepted", "checked", "cuts", "new"}
+NEW = re.compile(r"new bits from (\S+) to (\S+) \(bits (\d+) to (\d+)\): ([^;]*)(.*)")
+OF_CHANNEL = re.compile(r"channel (\d+) residual (-?[\d.]+|-inf) dB")
+STRETCH = re.compile(r"channel (\d+) first (\d+) last (\d+) residual (\d+) dBFS (-?[\d.]+|-inf) place (\d+)")
+SHARE = re.compile(r"([\d.]+) % of the master's bits are its takes' own")
+ACCEPTED = re.compile(r"accepted residual (\d+) dBFS (-?[\d.]+|-inf)")
+CHECKED = re.compile(r"accepted total (\d+)")
+
+Say = Callable[[dict[str, Any]], None]
+
+
+def base_of(name: str) -> str:
+    """What a mix is called without its endings."""
+    for ending in (".mix.toml", ".toml"):
+        if name.endswith(ending) and len(name) > len(ending):
+            return name[: -len(ending)]
+    return name
+
+
+def level_of(text: str) -> float | None:
+    return None if text == "-inf" else float(text)
+
+
+@dataclass
+class Result:
+    """What came of it: new bits, stretches that the null test judged, and what was accepted."""
+
+    new: list[dict[str, Any]] = field(default_factory=list)
+    stretches: list[dict[str, Any]] = field(default_factory=list)
+    share: float | None = None
+    residual: float | None = None
+    is_accepted: bool = False
+    is_checked: bool = False
+
+    def take(self, line: str) -> None:
+        """Takes a line that a command printed."""
+        if it := NEW.fullmatch(line):
+            rows = {channel: level_of(level) for channel, level in OF_CHANNEL.findall(it[6])}
+            self.new.append({"first": int(it[3]), "stop": int(it[4]), "why": it[5], "expected": rows})
+        elif it := STRETCH.fullmatch(line):
+            row = {"channel": int(it[1]), "first": int(it[2]), "last": int(it[3])}
+            self.stretches.append(row | {"db": level_of(it[5]), "place": int(it[6])})
+        elif it := SHARE.fullmatch(line):
+            self.share = float(it[1])
+        elif it := ACCEPTED.fullmatch(line):
+            self.is_accepted, self.residual = True, level_of(it[2])
+        elif CHECKED.fullmatch(line):
+            self.is_checked = True
+
+    def cuts(self) -> list[dict[str, Any]]:
+        """The places where something was judged: the stretches of all channels that meet, with what is left of each
+        channel, and why there are new bits."""
+        found = list[dict[str, Any]]()
+        for it in sorted(self.stretches, key=lambda it: (it["first"], it["channel"])):
+            if not found or it["first"] > found[-1]["last"]:
+                found.append({"first": it["first"], "last": it["last"], "db": {}, "why": "", "new": None})
+            cut = found[-1]
+            cut["last"] = max(cut["last"], it["last"])
+            known = cut["db"].get(it["channel"])
+            if it["db"] is not None and (known is None or it["db"] > known):
+                cut["db"][it["channel"]] = it["db"]
+            else:
+                cut["db"].setdefault(it["channel"], it["db"])
+        for cut in found:
+            for it in self.new:
+                if it["first"] <= cut["last"] and it["stop"] > cut["first"]:
+                    parts = [*filter(None, cut["why"].split(", ")), *it["why"].split(", ")]
+                    cut["why"] = ", ".join(dict.fromkeys(parts))
+                    low, high = cut["new"] or (it["first"], it["stop"])
+                    cut["new"] = [min(low, it["first"]), max(high, it["stop"])]
+        return found
+
+
+class Maker:
+    """Makes masters of the mix of a path. `say` is told of each step and line."""
+
+    def __init__(self, path: str, say: Say) -> None:
+        self.path, self.say = path, say
+        self.top, name = os.path.split(path)
+        self.base = base_of(name)
+        self.folder = os.path.join(self.top, f"{self.base}{FOLDER}")
+        self.child: asyncio.subprocess.Process | None = None
+        self.task: asyncio.Task[None] | None = None
+        self.is_stopped = False
+        self.state: dict[str, Any] = {"running": False}
+
+    def file(self, ending: str) -> str:
+        return os.path.join(self.folder, f"{self.base}{ending}")
+
+    def named(self, ending: str) -> str:
+        """The name of a file as seen from the folder of the mix, as its takes are."""
+        return os.path.join(f"{self.base}{FOLDER}", f"{self.base}{ending}")
+
+    def result(self) -> dict[str, Any] | None:
+        """What came of the last making, if its files are there."""
+        try:
+            with open(os.path.join(self.folder, DONE), "rb") as file:
+                found = json.loads(file.read(1 << 26))
+            is_whole = isinstance(found, dict) and KEYS <= set(found)
+            return found if is_whole and all(os.path.isfile(self.file(it)) for it in found["endings"]) else None
+        except (OSError, ValueError, KeyError, TypeError):
+            return None
+
+    def start(self, data: bytes, places: int) -> None:
+        """Begins to make a master of a text that was saved."""
+        self.is_stopped = False
+        self.state = {"running": True, "step": STEPS[0], "part": 0.0, "lines": [], "why": None}
+        self.task = asyncio.get_running_loop().create_task(self.make(data, places))
+
+    async def stop(self) -> None:
+        """Ends what runs, and waits until it has ended."""
+        self.is_stopped = True
+        self.end_child()
+        if self.task is not None:
+            with contextlib.suppress(asyncio.CancelledError):
+                await self.task
+
+    def end_child(self) -> None:
+        if self.child is not None and self.child.returncode is None:
+            with contextlib.suppress(ProcessLookupError):
+                os.killpg(self.child.pid, signal.SIGTERM)
+
+    def told(self, **news: Any) -> None:
+        self.state |= news
+        self.say({"make": {key: it for key, it in self.state.items() if key != "lines"}})
+
+    def line(self, text: str) -> None:
+        if len(self.state["lines"]) < MOST_LINES:
+            self.state["lines"].append(text)
+            self.say({"line": text})
+
+    async def make(self, data: bytes, places: int) -> None:
+        """Runs all steps, and notes what came of them."""
+        result, form = Result(), "dsdiff" if places % 8 == 0 else "dsf"
+        master = ".dff" if form == "dsdiff" else ".dsf"
+        try:
+            os.makedirs(self.folder, exist_ok=True)
+            with contextlib.suppress(FileNotFoundError):
+                os.remove(os.path.join(self.folder, DONE))
+            mix = self.file(".mix.toml")
+            mixes.write_bytes(mix, data)
+            why = await self.run_all(result, form, master, places)
+            if why is None:
+                self.keep(result, data, form, master)
+        except OSError as error:
+            why = f"{shown_name(str(error.filename or self.folder))}: {error.strerror}"
+        except asyncio.CancelledError:
+            why = "stopped"
+        self.told(running=False, why=why, done=why is None)
+
+    def commands(self, form: str, master: str) -> list[list[str]]:
+        """The command of each step."""
+        script = os.path.join(program.ROOT, "cuts", "render")
+        mix, project, cert = (self.named(it) for it in (".mix.toml", ".toml", ".cert"))
+        made, run = self.named(master), [program.PROGRAM, "--explain"]
+        return [
+            [sys.executable, script, mix, "-o", project, "--take", self.named(".new.dff")],
+            [*run, "edit", form, project, made, cert],
+            [*run, "check", project, made, cert],
+            [*run, "nulltest", mix, made],
+        ]
+
+    async def run_all(self, result: Result, form: str, master: str, places: int) -> str | None:
+        """Runs the steps; why one failed."""
+        for step, command in zip(STEPS, self.commands(form, master)):
+            if self.is_stopped:
+                return "stopped"
+            self.told(step=step, part=0.0)
+            status, last = await self.run(command, result, places)
+            if self.is_stopped:
+                return "stopped"
+            if status == 1 and step in ("check", "nulltest"):
+                return f"{step}: {last}"
+            if status:
+                return f"{step}: {last or f'it ended with status {status}'}"
+        return None
+
+    async def run(self, command: list[str], result: Result, places: int) -> tuple[int, str]:
+        """Runs a command: its status, and what it said at last."""
+        self.line("$ " + " ".join(os.path.basename(it) if os.path.isabs(it) else it for it in command))
+        environment = {key: it for key, it in os.environ.items() if key != "DSDARC_COMMAND"}
+        self.child = await asyncio.create_subprocess_exec(
+            *command,
+            cwd=self.top,
+            env=environment,
+            stdin=asyncio.subprocess.DEVNULL,
+            stdout=asyncio.subprocess.PIPE,
+            stderr=asyncio.subprocess.STDOUT,
+            limit=1 << 20,
+            start_new_session=True,
+        )
+        if self.is_stopped:
+            self.end_child()
+        said, output = list[str](), self.child.stdout
+        assert output is not None
+        while data := await output.readline():
+            text = data.decode(errors="replace").rstrip("\r\n")
+            result.take(text)
+            said.append(text)
+            self.line(text)
+            if it := NEW.fullmatch(text):
+                self.told(part=min(int(it[4]) / max(places, 1), 1.0))
+        status = await self.child.wait()
+        begins = [number for number, it in enumerate(said) if it.startswith("fault: ")]
+        return status, "\n".join(said[begins[-1] :] if begins else said[-1:])
+
+    def keep(self, result: Result, data: bytes, form: str, master: str) -> None:
+        """Writes what came of it, and the report."""
+        report = "\n".join(self.state["lines"]) + "\n"
+        mixes.write_bytes(self.file(".report.txt"), report.encode())
+        endings = [master, ".cert", ".mix.toml", ".report.txt", ".toml"]
+        endings += [".new.dff"] if os.path.exists(self.file(".new.dff")) else []
+        sizes = {it: os.path.getsize(self.file(it)) for it in endings}
+        found: dict[str, Any] = {
+            "sum": mixes.sum_of(data),
+            "form": form,
+            "endings": endings,
+            "sizes": sizes,
+            "master": master,
+        }
+        found |= {"share": result.share, "residual": result.residual, "accepted": result.is_accepted}
+        found |= {"checked": result.is_checked, "cuts": result.cuts(), "new": result.new}
+        mixes.write_bytes(os.path.join(self.folder, DONE), json.dumps(found).encode())

@@ -1,0 +1,51 @@
+// The keys, and their list.
+export const KEYS = [
+  ["Space", "play from the cursor, or stop"],
+  ["Shift Space", "play what is selected, again and again"],
+  ["A", "hear the mix or the master"],
+  ["Tab, Shift Tab in a lane", "next or previous cut, with two seconds around it"],
+  ["← →", "cursor by a pixel; with Shift by ten, with Alt by a bit"],
+  ["Home, End", "cursor to the start or the end"],
+  ["[ ]", "select from here, or up to here"],
+  ["+ −", "zoom in and out; 0 all, Z what is selected"],
+  ["Enter, I", "put the selected part of a take into the mix, at its cursor"],
+  [", .", "move the selected clips by a pixel; with Shift by ten, with Alt by a bit"],
+  ["N, P", "select the next or the previous clip"],
+  ["S", "split at the cursor"],
+  ["J", "join the selected clips"],
+  ["F", "fade from an end of the clip to the cursor"],
+  ["X", "crossfade the selected clips where they overlap"],
+  ["G", "gain point at the cursor"],
+  ["Delete", "delete the selected clips"],
+  ["Escape", "end a drag, or select nothing; in a lane, then Tab leaves it"],
+  ["Ctrl Z, Ctrl Y", "undo, redo"],
+  ["Ctrl S", "save"],
+  ["Ctrl Enter", "make the master"],
+  ["?", "this list"],
+];
+
+// The name of a key of an event, such as "ctrl shift z".
+export function nameOf(event) {
+  const parts = [];
+  if (event.ctrlKey || event.metaKey) parts.push("ctrl");
+  if (event.altKey) parts.push("alt");
+  const isLetter = event.key.length === 1;
+  if (event.shiftKey && (!isLetter || /[a-z ]/i.test(event.key))) parts.push("shift");
+  parts.push(event.key === " " ? "space" : event.key.toLowerCase());
+  return parts.join(" ");
+}
+
+export function listenTo(bindings) {
+  document.addEventListener("keydown", event => {
+    const isField = event.target.closest("input[type=text], select, textarea, dialog");
+    const name = nameOf(event);
+    if (isField && !/^ctrl (s|enter)$/.test(name)) return;
+    // A button, a box or a link has the space bar and Enter for itself.
+    if (event.target.closest("button, input, a, summary") && /^(space|enter|arrow.*)$/.test(name)) return;
+    const found = bindings(name, event);
+    if (found) {
+      event.preventDefault();
+      event.stopPropagation();
+    }
+  });
+}

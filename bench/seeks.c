@@ -1,4 +1,4 @@
-/* Shows what a seek costs by the library, until the first frame is there: seeks PROJECT FILE */
+/* Shows what a seek costs by the library, and a start, until the first frame is there: seeks PROJECT FILE */
 #include <dsdarc.h>
 #include <stdio.h>
 #include <stdlib.h>
@@ -39,7 +39,18 @@ int main(int count, char **arguments) {
             if (dsdarc_player_pull(player, pcm, 1, DSDARC_PACKED, &given) != DSDARC_OK) return 1;
         }
     }
-    printf("%.2f ms of processor for a seek and its first frame\n", 1e3 * (double)(clock() - began) / CLOCKS_PER_SEC / SEEKS);
+    printf("%.2f ms of processor for a seek and its first frame", 1e3 * (double)(clock() - began) / CLOCKS_PER_SEC / SEEKS);
     dsdarc_player_drop(player);
+    began = clock();
+    for (int start = 0; start < SEEKS; start++) {
+        if (dsdarc_player_new(text, text_size, &player) != DSDARC_OK) return 1;
+        for (size_t at = given = 0; given == 0; at += taken) {
+            size_t step = size - at < 8192 ? size - at : 8192;
+            if (dsdarc_player_push(player, bytes + at, step, &taken) != DSDARC_OK) return 1;
+            if (dsdarc_player_pull(player, pcm, 1, DSDARC_PACKED, &given) != DSDARC_OK) return 1;
+        }
+        dsdarc_player_drop(player);
+    }
+    printf(", %.2f ms for a new player and its first frame\n", 1e3 * (double)(clock() - began) / CLOCKS_PER_SEC / SEEKS);
     return 0;
 }

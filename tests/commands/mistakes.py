@@ -7,6 +7,7 @@ from collections.abc import Iterator
 from typing import Any
 
 from dsdarc_scripts.dsdiffs import chunk, dsdiff, mark_data
+from dsdarc_scripts.waves import head_of
 from tests.commands.asking import CHECK, EDIT, Case, Step
 from tests.commands.small_files import (
     CERT,
@@ -34,6 +35,7 @@ from tests.commands.small_files import (
 from tests.commands.null_mistakes import null_mistakes
 from tests.commands.sums import NOT_UTF_8, ONE
 from tests.commands.sums import CHECK as JUDGE
+from tests.fuzz.bases import decimate_text
 
 # More than two megabytes of sound, of which the end is missing.
 LONG_CUT = mono(bytes(2_153_286))[:2_000_000]
@@ -325,6 +327,13 @@ OTHERS: tuple[Any, ...] = (
         "NotWholeBytes",
         "in.dsf (IN) has 9 bits per channel, 1 more than whole bytes: convert it to dsf or dsf8",
     ),
+    (
+        TO_PLAY,
+        "convert --speakers dsf in.dff out",
+        "NoChannelType",
+        "in.dff (IN) has IDs whose loudspeakers no channel type of DSF has; dsdarc info prints them: convert it without "
+        "--speakers, or to dsdiff",
+    ),
     ({"e.toml": b""}, EDIT, "NoSplice", "e.toml (PROJECT): it has no table at all"),
     (
         {"e.toml": DECIMATE},
@@ -459,7 +468,9 @@ SUMS: tuple[Any, ...] = (
 
 ALL_COMMANDS = "the commands are info, convert, play, edit, check, nulltest, sum; dsdarc --help prints the usage"
 
-PLAY_USAGE = "; usage: dsdarc play [--from T] [--to T] [--speakers] [--plus6] PROJECT IN OUT"
+PLAY_USAGE = "; usage: dsdarc play [--from T] [--to T] [--previous FILE] [--next FILE] [--speakers] [--plus6] "
+PLAY_USAGE += "PROJECT IN OUT, or dsdarc play --dop IN OUT"
+DOP_USAGE = "; usage: dsdarc play --dop IN OUT"
 SUM_USAGE = "; usage: dsdarc sum [--check] FILE.."
 FROM_0_TO_59 = "; after a colon come minutes or seconds from 0 to 59"
 A_PLACE = "takes a time (90, 1:30 or 1:02:03.5), a frame (@123456) or a mark of a DSDIFF file (#3)"
@@ -504,6 +515,32 @@ WRONG_USES: tuple[Any, ...] = (
     ("play --from --to 5 p.toml in.dff out", f"no place comes after --from, which {A_PLACE}{PLAY_USAGE}"),
     ("play --from -- p.toml in.dff out", f"no place comes after --from, which {A_PLACE}{PLAY_USAGE}"),
     ("play --from 1 --from=2 p.toml in.dff out", f"--from is named twice{PLAY_USAGE}"),
+    ("play --dop p.toml in.dff out", f"play --dop takes 2 words and got 3{DOP_USAGE}"),
+    ("play --dop in.dff", f"play --dop takes 2 words and got 1{DOP_USAGE}"),
+    ("play --dop=1 in.dff out", f"--dop takes no value{PLAY_USAGE}"),
+    ("play --dop in.dff out --dop", f"--dop is named twice{PLAY_USAGE}"),
+    ("play --dop --from 1 in.dff out", f"--dop and --from can't be together{PLAY_USAGE}"),
+    ("play --speakers --dop in.dff out", f"--dop and --speakers can't be together{PLAY_USAGE}"),
+    ("play -dop in.dff out", "-dop is no option of play; did you mean --dop?"),
+    (
+        "convert --dop dsf in.wav",
+        "convert takes 3 words and got 2; usage: dsdarc convert [--speakers] [--dop] FORM IN OUT",
+    ),
+    (
+        "convert --dop --speakers dsf in.dff out",
+        "--dop and --speakers can't be together; usage: dsdarc convert [--speakers] [--dop] FORM IN OUT",
+    ),
+    ("play --previous a --from 1 p.toml in.dff out", f"--from and --previous can't be together{PLAY_USAGE}"),
+    ("play --next=a --dop in.dff out", f"--dop and --next can't be together{PLAY_USAGE}"),
+    ("play --next a --speakers p.toml in.dff out", f"--next and --speakers can't be together{PLAY_USAGE}"),
+    ("play p.toml in.dff out --next", f"no name of a file comes after --next{PLAY_USAGE}"),
+    ("play --previous --next a p.toml in.dff out", f"no name of a file comes after --previous{PLAY_USAGE}"),
+    ("play --previous=a --previous=b p.toml in.dff out", f"--previous is named twice{PLAY_USAGE}"),
+    (
+        "info --speakers in.dff",
+        "--speakers is no option of info; it belongs to convert and play; usage: dsdarc info FILE",
+    ),
+    ("info --dop in.dff", "--dop is no option of info; it belongs to convert and play; usage: dsdarc info FILE"),
 )
 
 # Forms that aren't known, and why.
@@ -678,6 +715,8 @@ IS_FOR += "finds the right one"
 IS_WAVE = (
     " is a WAVE file, whatever its name: play writes no other, but a pipe from OUT - to another program makes them"
 )
+NO_SPEAKERS = "; no loudspeakers: an ID is none of theirs, or two channels have the same"
+NO_MASK = "; with 16 bits and one or two channels a WAVE file names no loudspeakers, which are the usual ones"
 PLAYED: tuple[Any, ...] = (
     ({}, "play p.toml in.dff out", ONE_FRAME),
     ({}, "play p.toml in.dff out.wav", ONE_FRAME),
@@ -692,6 +731,8 @@ PLAYED: tuple[Any, ...] = (
         "play --from @0 ./p.toml in.dff out.mp3",
         f"{ONE_FRAME}{IS_FOR.format(' or 11289600')}; out.mp3 (OUT){IS_WAVE}",
     ),
+    ({}, "play --speakers p.toml in.dff out", ONE_FRAME + NO_SPEAKERS),
+    ({"in.dsf": LEAST}, "play --speakers p.toml in.dsf out", ONE_FRAME + NO_MASK),
     ({"index.txt": b"p.toml"}, "play p.toml in.dff out", ONE_FRAME),
     ({"index.txt": b"\xff p.toml 5644800"}, "play p.toml in.dff out", ONE_FRAME),
 )
@@ -777,6 +818,11 @@ def explained_cases() -> Iterator[Case]:
     ):
         files, arguments = {"in": data, "p.toml": DECIMATE}, f"play {arguments}p.toml in out"
         yield from asked(files, arguments, 0, "played 44 bytes", EMPTY + why, {"out": none})
+    # The mask of the channels is at 40, and each sample is 1 + 2 + 3 + 4.
+    wide = changed(head_of(RATE // 8, 2, 24, 1), 40, 3) + b"\x0a\0\0" * 2
+    why = "352800 Hz, 24 bits, 2 channels, 0:00:00.000; loudspeakers FL, FR"
+    files = {"in": stereo(b"\xf0\xf0"), "p.toml": decimate_text([1, 2, 3, 4], 8, 3, 0, 24).encode()}
+    yield from asked(files, "play --speakers p.toml in out", 0, "played 74 bytes", why, {"out": wide})
     # The option that asks to explain comes once, before the command.
     why = f'"--explain" is no command: {ALL_COMMANDS}'
     yield Case({"in.dff": FILE}, [Step(["--explain", "--explain", "info", "in.dff"], 3, "fault: WrongWords", {}, why)])

@@ -227,7 +227,7 @@ BELOW_NOT = {"./by/caf\udce9.dff": "./by/caf\\xe9.dff", "./\udcff.dsf": "./\\xff
 # What the recipes of docs/ARCHIVES.md come to there: the status of xargs, or that of the program.
 FAULTS = "".join(f"fault: ReadFailed  {it}\n" for it in BELOW_NOT.values())
 JUDGED = "".join(f"{it}: OK\n".replace("a\nb", "a\\nb") for it in BELOW)
-RECIPES = {"xargs -0 dsdarc sum --": (123, "", FAULTS), "dsdarc sum --check": (0, JUDGED, "")}
+RECIPES = {"xargs -0 dsdarc sum --": (123, "", FAULTS), "dsdarc sum --check SOUNDS": (0, JUDGED, "")}
 # The program as `dsdarc`, by itself and by the launcher.
 LAUNCHERS = ('exec {program} "$@"', '. {root}/bin/launch.sh\nrun_child {program} "$@"')
 

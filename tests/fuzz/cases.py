@@ -14,6 +14,7 @@ from dsdarc_scripts.channels import read as sums_of
 from tests.fuzz import bases, bridging, certificates, mutating, projects, reading
 from tests.fuzz.judging import STRETCH, Failure, cert_sizes, converted, demand, fault_of, judge_run, info_of, wave_head
 from tests.fuzz.running import MEGABYTE, Program, Run
+from tests.helpers import dops
 
 # How much memory a run may take: TIMES times the bytes that it reads and writes, and MORE bytes.
 TIMES = 4
@@ -263,6 +264,44 @@ def long_case(case: Case) -> None:
     elif convert_and_back(case, info, "in"):
         for name in filter(case.has, ("out", "back")):
             demand(sums_of(case.path(name)) == sums_of(case.path("in")), f"{name} holds other bits")
+
+
+def bytes_of(info: dict[str, Any], bit_at: Callable[[int, int], int]) -> list[bytes]:
+    """Each channel of a recording, as bytes with the earliest bit the highest."""
+    count = info["samples"]
+    texts = ("".join(str(bit_at(c, place)) for place in range(count)) for c in range(info["channels"]))
+    return [int(f"1{it.ljust(-(-count // 8) * 8, '0')}", 2).to_bytes(1 + -(-count // 8), "big")[1:] for it in texts]
+
+
+def dop_case(case: Case) -> None:
+    """A recording's file, played as DoP samples; then the WAVE file of some, changed, which is converted as a plain
+    reading has it, or refused with its first fault."""
+    base = case.rng.choice(bases.recordings(case.rng))
+    info, bit_at = reading.read(base.data)
+    wave = dops.wave_of(info["rate"], bytes_of(info, bit_at), info["samples"])
+    case.put("in", base.data)
+    run = case.run(["play", "--dop", "in", "wave"], made=["wave"])
+    demand(run.out == b"played %d bytes\n" % len(wave) and case.get("wave") == wave, "another WAVE file of DoP samples")
+    data, names = mutating.mutate_wave(case.rng, wave)
+    case.changes = [base.name, *names]
+    case.put("dop", data)
+    form, out = case.rng.choice(FORMS), name_now_and_then(case, "out")
+    run = case.run(["convert", "--dop", form, "dop", out], made=[out], more=6 * 4096)
+    try:
+        bits = dops.read(data)
+    except dops.Refused as refused:
+        demand(run.err.decode() == f"fault: FileUnread Dop {refused}\n", f"not refused as {refused}")
+        case.demand_unmade(run, out)
+        return
+    if form == "dsdiff" and bits.count % 8:
+        demand(run.err == b"fault: NotWholeBytes\n", "a channel ends inside a byte")
+        case.demand_unmade(run, out)
+        return
+    demand(run.out == b"converted dropped 0\n", "not converted")
+    there, other = reading.read(case.get(out))
+    shape = there["rate"], there["channels"], there["samples"], there["form"]
+    demand(shape == (bits.rate, len(bits.channels), bits.count, form), f"converted to {shape}")
+    demand(bytes_of(there, other) == bits.channels, "converted with other bits")
 
 
 UNKNOWN = object()
@@ -722,6 +761,12 @@ ARGUMENTS: list[tuple[Any, ...]] = [
     (["convert", "dsf", "in", "missing/out"], 2, "WriteFailed"),
     (["convert", "dsf", "in", "."], 2, "WriteFailed"),
     (["convert", "dsf", "in", "/dev/full"], 2, "WriteFailed"),
+    (["convert", "--dop", "dsf", "in", "out"], 2, "FileUnread Dop NotWave"),
+    (["convert", "--dop", "dsf", "missing", "out"], 2, "ReadFailed"),
+    (["convert", "--dop", "wav", "in", "out"], 3, "UnknownFormName"),
+    (["play", "--dop", "project", "in", "out"], 3, "WrongWords"),
+    (["play", "--dop", "in", "/dev/full"], 2, "WriteFailed"),
+    (["play", "--dop", "missing", "out"], 2, "ReadFailed"),
     (["play", "missing", "in", "wave"], 2, "ReadFailed"),
     (["play", "project", "missing", "wave"], 2, "ReadFailed"),
     (["play", "project", "in", "missing/wave"], 2, "WriteFailed"),
@@ -830,4 +875,4 @@ KINDS = [
     (scarce_case, 5),
     (null_case, 10),
 ]
-KINDS += [(bridge_case, 3), (long_case, 2), (large_case, 1)]
+KINDS += [(bridge_case, 3), (long_case, 2), (large_case, 1), (dop_case, 8)]

@@ -22,7 +22,9 @@ DSDIFF = (
 )
 DSDIFF += r"|NoCompression|Compressed|BadRate|BadChannelNumber|NoSound|SoundBeforeProperty|PartFrame|TooLong|BadMark)"
 DSF = r"Dsf (HeadCut|BadFormat|BadVersion|BadChannelNumber|BadRate|BadBits|BadBlock|TooLong|DataCut|BadPointer)"
-UNREAD = rf" (UnknownForm|{DSDIFF}|{DSF})"
+DOP = r"Dop (NotWave|NoData|NoFormat|NotPcm24|BadChannelNumber|BadRate|NoSize|DataCut|PartFrame|BadMarker \d+|CountCut"
+DOP += "|BadCount)"
+UNREAD = rf" (UnknownForm|{DSDIFF}|{DSF}|{DOP})"
 KEY = " (decimate|splice|taps|factor|delay|shift|width|weights|takes|cue|take|start|stop|bridge|target|line|title)"
 PROJECT = rf" (NotToml|UnknownKey|(WrongKind|MissingKey|OutOfLimit){KEY}|(NoTake|ShortCue) \d+|LastBridge)"
 MIX_KEY = " (mix|unit|audible|limit|every|takes|decoder|clip|taps|take|start|at|length|gain|gains)"

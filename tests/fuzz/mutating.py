@@ -51,6 +51,23 @@ DSF_FIELDS = (
 )
 
 
+# The same of a WAVE file of 24 bits.
+WAVE_FIELDS = (
+    (4, 4),
+    (16, 4),
+    (20, 2),
+    (22, 2),
+    (24, 4),
+    (28, 4),
+    (32, 2),
+    (34, 2),
+    (36, 2),
+    (38, 2),
+    (40, 4),
+    (64, 4),
+)
+
+
 # Of any bytes.
 
 
@@ -245,6 +262,49 @@ def mutate_recording(rng: random.Random, base: Base) -> tuple[bytes, list[str]]:
     changes = DSDIFF_BYTES if base.kind == "dsdiff" else DSF_BYTES
     for _ in range(rng.choice((0, 1, 1, 2, 3)) if names else rng.choice((1, 1, 1, 2, 3, 5))):
         change = rng.choice(changes)
+        data = change(rng, data)
+        names.append(change.__name__)
+    return data, names
+
+
+# Of WAVE files of DoP samples.
+
+
+def set_wave_field(rng: random.Random, data: bytes) -> bytes:
+    at, size = rng.choice(WAVE_FIELDS)
+    if at + size > len(data):
+        return data
+    return put_number(data, at, size, size_near(rng, int.from_bytes(data[at : at + size], "little")), "little")
+
+
+def set_marker(rng: random.Random, data: bytes) -> bytes:
+    if len(data) <= 70:
+        return data
+    at = rng.randrange(70, len(data), 3)
+    return data[:at] + bytes([rng.choice((0x05, 0xFA, 0, rng.randrange(256)))]) + data[at + 1 :]
+
+
+def turn_markers(_: random.Random, data: bytes) -> bytes:
+    """Each frame with the other marker."""
+    return data[:68] + bytes(255 - it if it in (5, 250) and at % 3 == 2 else it for at, it in enumerate(data[68:]))
+
+
+def add_chunk(rng: random.Random, data: bytes) -> bytes:
+    at = rng.choice((12, 60, len(data)))
+    inner = rng.randbytes(rng.choice((0, 1, 4, 8, 16, 40)))
+    name = rng.choice((b"LIST", b"DoPn", b"data", b"fmt ", b"fact"))
+    chunk = name + len(inner).to_bytes(4, "little") + inner + bytes(len(inner) % 2)
+    return data[:at] + chunk + data[at:]
+
+
+WAVE_BYTES = (*ANY_BYTES, *[set_wave_field] * 4, *[set_marker] * 4, turn_markers, *[add_chunk] * 2)
+
+
+def mutate_wave(rng: random.Random, data: bytes) -> tuple[bytes, list[str]]:
+    """The bytes of a WAVE file of DoP samples, changed, and the names of the changes."""
+    names = []
+    for _ in range(rng.choice((0, 1, 1, 1, 2, 3))):
+        change = rng.choice(WAVE_BYTES)
         data = change(rng, data)
         names.append(change.__name__)
     return data, names

@@ -3,7 +3,8 @@
 A row of READ has READ in the place of an output, and the file that it is: by its name, by others, by links, and as
 standard output. A row of MADE has the name that a script itself gives an output, which is a link to a file that is
 read. A row of TWICE has two outputs that are one file. These scripts write no files of a name, and only print:
-filters/pick, filters/tone.py, cuts/figures, cuts/levels, tools/check_certificate, tools/channels and tools/waves."""
+filters/pick, filters/tone.py, cuts/figures, cuts/levels, tools/check_certificate, tools/channels, tools/info_json,
+tools/waves and workflows/sum_folder."""
 import json
 import os
 import shutil

@@ -126,16 +126,6 @@ module _ (project_name file_name output_name project : List ℕ) (around : Neigh
   between_fails ReadFailed h = absurd h
 
 -- ---- what is refused before that
--- a project that is not read
-pub between_unread : (project file_name output_name : List ℕ) (around : NeighbourNames) (old new : View) → new ≡ old → (fault : FileFault) → IsReadFault fault → PlayBetweenComesTo project file_name output_name around old new (Err (Command (of_file fault)))
-between_unread project file_name output_name around old new same files.ReadFailed h = same
-between_unread project file_name output_name around old new same files.Memory h = inl (same, refl)
-between_unread project file_name output_name around old new same files.WriteFailed h = absurd h
-
--- or that says no decimator
-pub between_unsaid : (project_name file_name output_name project : List ℕ) (around : NeighbourNames) (old new : View) → IsReadOf old project_name project → new ≡ old → (fault : calls.Fault) → FailsUnless Memory fault (decimator_of_text project) → PlayBetweenComesTo project_name file_name output_name around old new (Err (Command (Call fault)))
-between_unsaid project_name file_name output_name project around old new read same fault fails = inr (inl (record { project = project; project_read = read; why = inl fails; same = same }))
-
 -- a recording that is not opened
 pub between_unopened : (project_name file_name output_name project : List ℕ) (around : NeighbourNames) (old new : View) → IsReadOf old project_name project → new ≡ old → (fault : CommandFault) → IsNotOpened file_name old fault → PlayBetweenComesTo project_name file_name output_name around old new (Err (Command fault))
 between_unopened project_name file_name output_name project around old new read same (Call fault) (inl memory) = inl (same, memory)

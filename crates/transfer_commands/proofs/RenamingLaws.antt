@@ -396,11 +396,6 @@ same_renamed outline file is shape form same w form_is head tail fits size none 
 pub none_named : (interleaving : Interleaving) (form : Form) (r : Content) → has_blocks interleaving ≡ false → form ≢ Dsdiff → layout_with (speaker_mask (map speaker_of r.ids)) ≡ None → spoken_in (form_in interleaving) form r ≡ None
 none_named interleaving form r frames other none = named_layout interleaving form r frames other ∙ ap (with_own_layout r) none
 
--- why there is nothing
-pub ends_refused : (form : Form) (o : Surroundings) (f : WriteFault) → (f ≡ writes.NotWholeBytes → FitsIn form o.sound.count → ⊥) → IsRenamingFault form o (fault_of_writing f)
-ends_refused form o writes.NotWholeBytes not = inr (refl, not refl)
-ends_refused form o writes.Memory not = inl refl
-
 -- ---- what is left of the output
 module _ (form : Form) (input output : List ℕ) (old new : View) (others : KeepsOthers output old new) (outline : Outline) (found : OutlinesRead input old outline) (in_parts : FormsWrittenInParts) (w : Renaming) (is : IsRenaming form (around_of outline) w) where
   abbrev o : Surroundings

@@ -106,16 +106,7 @@ drained b file bits n all plays =
     let same : bits ++ bare_waiting b ≡ (bits ++ bare_waiting b) ++ drop n b.pending.items = sym (no_more (bits ++ bare_waiting b) (drop n b.pending.items) none) in
     record { stage = subst (λ out. PlaysBareStage b.layout file 0 out b.header.items b.place b.stage) same plays.stage }
 
-pub is_drained : (b : Bare) (n : ℕ) → n ≡ length b.pending.items → IsBare b → IsBare (record b { pulled = n })
-is_drained b n all is = record { pulled = omega (arith, all); stated = is.stated; known = is.known; stage = is.stage; none = is.none }
-
 -- ---- what can be joined
-pub too_long : (shape : Option Shape) (count : ℕ) (s : Sound) → IsOfShape shape s → (Fits shape count s → ⊥) → 2 ^ 36 ≤ count + s.count
-too_long shape count s is misfits = elim (cases_lt (count + s.count) (2 ^ 36)) [
-  | inl less ↦ absurd (misfits (is, less))
-  | inr more ↦ more
-]
-
 pub misfits_none : (shape : Option Shape) (count : ℕ) (stage : BareStage) → IsNotOpen stage → Misfits shape count stage
 misfits_none shape count (stages.Header walked) is = tt
 misfits_none shape count (stages.Open s) is = absurd is
@@ -227,13 +218,6 @@ add_own way before file pulled stage bits new (Err e) adds ends = tt
 -- ---- what a push leaves
 pub failed_keeps : (new : Joined) → new.stage ≡ joins.Failed → IsBare new.bare → new.bare.layout ≡ own_layout → new.pulled ≤ length new.pending.items → IfSome new.shape IsShape → new.count ≤ 2 ^ 36 → IsJoined new
 failed_keeps new failed bare layout pulled shape few = record { bare = bare; layout = layout; pulled = pulled; stage = subst (λ s. IsAtJoin s new) (sym failed) tt; shape = shape; few = few }
-
-pub started_on : (old new : BareStage) (s : Sound) → IsOwn old s → IfOwn old (λ t. IsOwn new t) → IsOwn new s
-started_on (stages.Header walked) new s is on = absurd is
-started_on (stages.Open t) new s is on = absurd is
-started_on (stages.Sound t r) new s is on = subst (IsOwn new) is on
-started_on (stages.After t back) new s is on = subst (IsOwn new) is on
-started_on stages.Failed new s is on = absurd is
 
 -- a player whose file alone changed, and that failed
 pub same_fails : (old new : Joined) → new ≡ record old { bare = new.bare; count = new.count } → old.stage ≡ joins.Failed → old.pulled ≤ length old.pending.items → IfSome old.shape IsShape → IsBare new.bare → new.bare.layout ≡ own_layout → new.count ≤ 2 ^ 36 → IsJoined new

@@ -46,7 +46,7 @@ abbrev pub IsOfShape : Option Shape → Sound → Type 0
 IsOfShape None s = ⊥
 IsOfShape (Some shape) s = (s.rate ≡ shape.rate) × (s.channels ≡ shape.channels) × (s.count % 8 ≡ 0)
 
--- a sound can be joined to those before, which have so many bits of each channel
+-- a sound can follow those before it, which have this many bits of each channel
 abbrev pub Fits : Option Shape → ℕ → Sound → Type 0
 Fits shape count s = IsOfShape shape s × (count + s.count < 2 ^ 36)
 

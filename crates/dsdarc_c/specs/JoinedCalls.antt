@@ -108,8 +108,8 @@ RefusesJoinedChoice p layout faults.NotJoined = (s : Sound) × (p.bare.stage ≡
 RefusesJoinedChoice p layout faults.TooLong = (s : Sound) × (p.bare.stage ≡ stages.Open s) × (2 ^ 36 ≤ s.count)
 RefusesJoinedChoice p layout fault = RefusesChoice p.bare layout fault
 
--- these fields describe what is given: the number of frames of so many bits of each channel, the rate of the files and that
--- of the frames, and the channels and the bits of a sample
+-- these fields describe what is given of this many bits of each channel: the number of frames, the rate of the files and
+-- that of the frames, the channels, and the bits of a sample
 pub record IsShapeInfo (shape : Shape) (count : ℕ) (info : Info) : Type 0 where
   pub frames : info.frames ≡ div_ceil count shape.unit
   pub rate_in : info.rate_in ≡ shape.rate

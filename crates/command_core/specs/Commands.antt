@@ -28,6 +28,7 @@ use Rattle.transfer_commands.specs.PartPlaying.{PlayPartComesTo}
 use Rattle.transfer_commands.specs.Speaking.{SpeakComesTo}
 use Rattle.transfer_commands.specs.SpeakersConverting.{ConvertSpeakersComesTo}
 use Rattle.transfer_core.specs.declared.spans.Span.{Span}
+use Rattle.wave_core.specs.Heads.{head_of}
 use Rattle.transfer_commands.specs.declared.parts.PartFault.{PartFault}
 use Rattle.command_core.specs.Hosts.{State}
 use Rattle.command_core.specs.Outcomes.{between_outcome_of, dop_outcome_of, of_words, outcome_of, part_outcome_of, speakers_outcome_of, spoken_outcome_of, tested_outcome, verdict_of}
@@ -177,24 +178,31 @@ SaysAs {T} {F} names P outcome = (came : Result T F) × (outcome ≡ names came)
 abbrev pub SaysTest : (Result Tested TestFault → Type 0) → Outcome → Type 0
 SaysTest P outcome = (came : Result Tested TestFault) × (outcome ≡ tested_outcome came) × P came
 
--- how playing all of a file ends, with the loudspeakers of its channels or without them
-abbrev pub PlaysAs : Bool → List ℕ → List ℕ → List ℕ → View → View → Outcome → Type 0
-PlaysAs false project input output old new = Says Played (PlayComesTo project input output old new)
-PlaysAs true project input output old new = SaysAs spoken_outcome_of (SpeakComesTo project input output (record { from = None; to = None }) old new)
+-- how playing a part of a file ends, with the loudspeakers of its channels or without them, and with room in the header
+-- for sizes of 64 bits or without it
+abbrev pub PlaysPartAs : Bool → Bool → List ℕ → List ℕ → List ℕ → Span → View → View → Outcome → Type 0
+PlaysPartAs false is_wide project input output span old new = SaysPart (PlayPartComesTo (head_of is_wide 0) project input output span old new)
+PlaysPartAs true is_wide project input output span old new = SaysAs spoken_outcome_of (SpeakComesTo is_wide project input output span old new)
 
--- the same of a part
-abbrev pub PlaysPartAs : Bool → List ℕ → List ℕ → List ℕ → Span → View → View → Outcome → Type 0
-PlaysPartAs false project input output span old new = SaysPart (PlayPartComesTo project input output span old new)
-PlaysPartAs true project input output span old new = SaysAs spoken_outcome_of (SpeakComesTo project input output span old new)
+-- the same of all of a file: with one of both or both, all of it is a part
+abbrev pub PlaysAs : Bool → Bool → List ℕ → List ℕ → List ℕ → View → View → Outcome → Type 0
+PlaysAs false false project input output old new = Says Played (PlayComesTo project input output old new)
+PlaysAs false true project input output old new = PlaysPartAs false true project input output (record { from = None; to = None }) old new
+PlaysAs true is_wide project input output old new = PlaysPartAs true is_wide project input output (record { from = None; to = None }) old new
 
 -- how converting ends, with the loudspeakers of the channels or without them
 abbrev pub ConvertsAs : Bool → Form → List ℕ → List ℕ → View → View → Outcome → Type 0
 ConvertsAs false form input output old new = Says Converted (ConvertComesTo form input output old new)
 ConvertsAs true form input output old new = SaysAs speakers_outcome_of (ConvertSpeakersComesTo form input output old new)
 
+-- a task that plays all of a recording
+abbrev pub IsPlayedWhole : Task → Type 0
+IsPlayedWhole (tasks.Play project input output speakers rf64) = ⊤
+IsPlayedWhole _ = ⊥
+
 -- a task that plays a part of a recording, or a recording between others
 abbrev pub IsPlayedInside : Task → Type 0
-IsPlayedInside (tasks.PlayPart project input output from to speakers) = ⊤
+IsPlayedInside (tasks.PlayPart project input output from to speakers rf64) = ⊤
 IsPlayedInside (tasks.PlayBetween project input output previous next) = ⊤
 IsPlayedInside _ = ⊥
 
@@ -208,8 +216,8 @@ IsConverting _ = ⊥
 -- converted piece by piece; a failed write changes one file, or two if the first is the master that was cut; and if the
 -- folder keeps old files, no fault replaces one by a prefix. `sum` is no command over one folder
 abbrev pub TaskComesTo : Task → View → View → Outcome → Type 0
-TaskComesTo (tasks.Play project input output speakers) old new = PlaysAs speakers project.now input.now output.now old new
-TaskComesTo (tasks.PlayPart project input output from to speakers) old new = PlaysPartAs speakers project.now input.now output.now (record { from = from; to = to }) old new
+TaskComesTo (tasks.Play project input output speakers rf64) old new = PlaysAs speakers rf64 project.now input.now output.now old new
+TaskComesTo (tasks.PlayPart project input output from to speakers rf64) old new = PlaysPartAs speakers rf64 project.now input.now output.now (record { from = from; to = to }) old new
 TaskComesTo (tasks.Convert form input output speakers) old new = ConvertsAs speakers form input.now output.now old new
 TaskComesTo (tasks.Edit form project master cert) old new = Says Edited (EditComesTo (cut_into form project.now master.now cert.now) old new)
 TaskComesTo (tasks.Check project master cert) old new = Says verdict_of (CheckComesTo project.now master.now cert.now old new)

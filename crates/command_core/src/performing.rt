@@ -1,7 +1,7 @@
 //! Commands over the files of a folder.
 
-ghost use Rattle.std.specs.Prelude.{◌≡◌, IfErr, IfOk, OnErr};
-ghost use Rattle.command_core.specs.Commands.{CheckComesTo, ConvertsAs, EditComesTo, IsConverting, IsPlayedInside, PlaysAs, PlaysPartAs, TaskComesTo, cut_into};
+ghost use Rattle.std.specs.Prelude.{◌≡◌, IfErr, IfOk, None, OnErr};
+ghost use Rattle.command_core.specs.Commands.{CheckComesTo, ConvertsAs, EditComesTo, IsConverting, IsPlayedInside, IsPlayedWhole, PlaysAs, PlaysPartAs, TaskComesTo, cut_into};
 ghost use Rattle.command_core.specs.Outcomes.{between_outcome_of, dop_outcome_of, outcome_of, part_outcome_of, speakers_outcome_of, spoken_outcome_of, tested_outcome, verdict_of};
 ghost use Rattle.command_core.specs.declared.outcome.Outcome.TheVariants as outcomes;
 ghost use Rattle.words_core.specs.declared.task.Task.TheVariants as tasks;
@@ -17,9 +17,9 @@ use folder_core::Folder;
 use null_commands::{TestFault, Tested, null_test_files};
 use std::alloc::Global;
 use transfer_commands::{
-    BetweenFault, CommandFault, DopConvertFault, NeighbourNames, PartFault, PlayedSpeakers,
-    Reported, SpeakersFault, convert_dop_file, convert_file, convert_speakers_file, open_file,
-    play_between_file, play_dop_file, play_file, play_part_file, play_speakers_file,
+    BetweenFault, CommandFault, DopConvertFault, NeighbourNames, PartAsked, PartFault,
+    PlayedSpeakers, Reported, SpeakersFault, convert_dop_file, convert_file, convert_speakers_file,
+    open_file, play_between_file, play_dop_file, play_file, play_part_file, play_speakers_file,
     source_excerpts,
 };
 use transfer_core::Span;
@@ -49,6 +49,7 @@ pub struct SumTask<'a> {
 /// - `PlayBetween`: After the recording, the files before and after it are opened, one after the other, and read as far
 ///   as the filter reaches and for what is around their sound. Then it is played as by `Play`.
 /// - `PlayDop`: As `Play`, without a project.
+/// - `Play` with `rf64`: as `PlayPart`.
 /// - `Play` and `PlayPart` with `speakers`: the recording is read through as for `Info` before that, for its loudspeakers
 ///   and the part. One that can't be opened again is held whole instead.
 /// - `Convert` and `Check`: see below.
@@ -81,12 +82,7 @@ pub fn perform<'a, F: Folder>(
     ensures same { OnErr result (F.view folder.new ≡ F.view folder.old) }
 {
     match task {
-        Task::Play {
-            project,
-            input,
-            output,
-            speakers,
-        } => Ok(play_all(alloc, folder, project, input, output, speakers)),
+        Task::Play { .. } => Ok(play_whole(alloc, task, folder)),
         Task::PlayPart { .. } | Task::PlayBetween { .. } => Ok(play_inside(alloc, task, folder)),
         Task::PlayDop { input, output } => Ok(played(play_dop_file(alloc, folder, input, output))),
         Task::Convert { .. } | Task::ConvertDop { .. } => Ok(perform_convert(alloc, task, folder)),
@@ -107,6 +103,40 @@ pub fn perform<'a, F: Folder>(
     }
 }
 
+// Plays all of a file.
+fn play_whole<F: Folder>(alloc: Global, task: Task, folder: &mut F) -> Outcome
+    requires { IsPlayedWhole task }
+    ensures { TaskComesTo task.entry (F.view folder.old) (F.view folder.new) result }
+{
+    match task {
+        Task::Play {
+            project,
+            input,
+            output,
+            speakers,
+            rf64,
+        } => {
+            let all = Span {
+                from: None,
+                to: None,
+            };
+            let asked = PartAsked {
+                span: all,
+                is_wide: rf64,
+            };
+            let whole = PartTask {
+                project,
+                input,
+                output,
+                asked,
+                speakers,
+            };
+            play_all(alloc, folder, whole)
+        }
+        _ => unreachable!(),
+    }
+}
+
 // Plays a part of a file, or a file between its neighbours.
 fn play_inside<F: Folder>(alloc: Global, task: Task, folder: &mut F) -> Outcome
     requires { IsPlayedInside task }
@@ -120,14 +150,20 @@ fn play_inside<F: Folder>(alloc: Global, task: Task, folder: &mut F) -> Outcome
             from,
             to,
             speakers,
+            rf64,
         } => {
+            let asked = PartAsked {
+                span: Span { from, to },
+                is_wide: rf64,
+            };
             let part = PartTask {
                 project,
                 input,
                 output,
-                span: Span { from, to },
+                asked,
+                speakers,
             };
-            play_some(alloc, folder, part, speakers)
+            play_some(alloc, folder, part)
         }
         Task::PlayBetween {
             project,
@@ -182,57 +218,44 @@ fn convert_all<F: Folder>(
     }
 }
 
-// A part that is asked for.
+// A part that is asked for, and whether the loudspeakers of the channels are.
 #[derive(Clone, Copy)]
 struct PartTask<'a> {
     project: &'a str,
     input: &'a str,
     output: &'a str,
-    span: Span,
+    asked: PartAsked,
+    speakers: bool,
 }
 
-// Plays all of a file, with the loudspeakers of its channels if they are asked for.
-fn play_all<F: Folder>(
-    alloc: Global,
-    folder: &mut F,
-    project: &str,
-    input: &str,
-    output: &str,
-    speakers: bool,
-) -> Outcome
-    ensures { PlaysAs speakers project.now input.now output.now (F.view folder.old) (F.view folder.new) result }
+// Plays all of a file, with what is asked of the header of its WAVE file.
+fn play_all<F: Folder>(alloc: Global, folder: &mut F, all: PartTask<'_>) -> Outcome
+    requires { all.asked.span ≡ record { from = None; to = None } }
+    ensures { PlaysAs all.entry.speakers all.entry.asked.is_wide all.entry.project.now all.entry.input.now
+        all.entry.output.now (F.view folder.old) (F.view folder.new) result }
 {
-    if speakers {
-        let all = Span {
-            from: None,
-            to: None,
-        };
-        spoken(play_speakers_file(alloc, folder, project, input, output, all))
-    } else {
-        played(play_file(alloc, folder, project, input, output))
+    if all.speakers || all.asked.is_wide {
+        return play_some(alloc, folder, all);
     }
+    played(play_file(alloc, folder, all.project, all.input, all.output))
 }
 
 // Plays a part of a file, with the loudspeakers of its channels if they are asked for.
-fn play_some<F: Folder>(
-    alloc: Global,
-    folder: &mut F,
-    part: PartTask<'_>,
-    speakers: bool,
-) -> Outcome
-    ensures { PlaysPartAs speakers part.entry.project.now part.entry.input.now part.entry.output.now part.entry.span
-        (F.view folder.old) (F.view folder.new) result }
+fn play_some<F: Folder>(alloc: Global, folder: &mut F, part: PartTask<'_>) -> Outcome
+    ensures { PlaysPartAs part.entry.speakers part.entry.asked.is_wide part.entry.project.now part.entry.input.now
+        part.entry.output.now part.entry.asked.span (F.view folder.old) (F.view folder.new) result }
 {
     let PartTask {
         project,
         input,
         output,
-        span,
+        asked,
+        speakers,
     } = part;
     if speakers {
-        spoken(play_speakers_file(alloc, folder, project, input, output, span))
+        spoken(play_speakers_file(alloc, folder, project, input, output, asked))
     } else {
-        played_part(play_part_file(alloc, folder, project, input, output, span))
+        played_part(play_part_file(alloc, folder, project, input, output, asked))
     }
 }
 

@@ -1,6 +1,6 @@
 -- A file that is read into a sink which plays it as DoP samples.
-use Rattle.std.proofs.Common.{◌≡◌, ℕ, ◌+◌, ◌-◌, ◌*◌, ◌%◌, ◌^◌, ◌<◌, inl, inr, List, [], ◌++◌, length, Option, None, Some, IfSome, Err, refl, sym, subst, ap, ◌∙◌, arith, append_assoc, append-nil, eq-eqb, ne_eqb, length-append}
-use Rattle.std.proofs.lemmas.Bool.{cases_eq}
+use Rattle.std.proofs.Common.{◌≡◌, ℕ, ◌+◌, ◌-◌, ◌*◌, ◌%◌, ◌^◌, ◌<◌, ◌≤◌, inl, inr, List, [], ◌++◌, length, Option, None, Some, IfSome, Err, refl, sym, subst, ap, ◌∙◌, arith, append_assoc, append-nil, eq-eqb, ne_eqb, length-append}
+use Rattle.std.proofs.lemmas.Bool.{cases_eq, cases_lt}
 use Rattle.std.proofs.lemmas.List.{length-replicate, nil_from_length}
 use Rattle.std.specs.Io.KnownBytes.{Appends, Consumes}
 use Rattle.std.proofs.KnownBytes.{Appends-trans}
@@ -12,15 +12,17 @@ use Rattle.dsd_bits.specs.declared.interleaving.Interleaving.TheVariants.{Bytes}
 use Rattle.dsd_bits.specs.declared.sound.Sound.{Sound}
 use Rattle.native_core.specs.Native.{NativeHasSize, NativeJoins}
 use Rattle.native_core.specs.declared.layout.Layout.TheVariants.{Dop}
-use Rattle.sound_core.specs.Faults.{IsBeforeWriting, IsSinkFault, IsWritingFault, failed_writes}
+use Rattle.sound_core.specs.Faults.{IsBeforeWriting, IsSinkFault, IsWritingFault, StopsReading, failed_writes}
+use Rattle.sound_core.specs.Files.{GivesNone, LeadsToSound}
 use Rattle.sound_core.specs.Outlines.{AreStated, IsOutlineFault, IsPlacedIn, Surroundings}
-use Rattle.sound_core.specs.Sinks.{BeginsSound, StopsTaking, TakesFile, TakesGiven}
+use Rattle.sound_core.specs.Sinks.{BeginsSound, IsFed, StopsTaking, TakesFile, TakesGiven, sound_given}
 use Rattle.sound_core.specs.declared.fault.StreamFault.{StreamFault}
 use Rattle.sound_core.specs.declared.fault.StreamFault.TheVariants.{FileRefused, RateNotDivided, TooLarge, ReadFailed, WriteFailed, TurnLimit, Memory}
 use Rattle.sound_core.proofs.FaultLaws.{by_writing}
+use Rattle.sound_core.proofs.StatedLaws.{stated_once}
 use Rattle.wave_core.specs.Sizes.{pad_size}
 use Rattle.wave_core.specs.Texts.{pad_bytes}
-use Rattle.dop_core.specs.Playing.{DopAppliesBy, DopPlaysFile, DopPlaysGiven, DopWritesPrefix, HasSoundThat, IsNotDivided, IsTooLarge, PlaysDop}
+use Rattle.dop_core.specs.Playing.{DopAppliesBy, DopKeepsUpBy, DopPlaysFile, DopPlaysGiven, DopWritesPrefix, HasSoundThat, IsNotDivided, IsTooLarge, PlaysDop, WritesSamples}
 use Rattle.dop_core.specs.Sinks.{DopFails, IsDopFault, IsDopPlaying, RefusesDop, file_of_sound, head_of_sound, samples_of}
 use Rattle.dop_core.specs.Writing.{count_chunk, count_size, dop_file_size, dop_head, dop_tail, frames_of}
 use Rattle.dop_core.specs.declared.sink.DopSink.{DopSink}
@@ -56,6 +58,16 @@ outline_unwritten left TurnLimit h = refl
 outline_unwritten left Memory h = refl
 
 -- ---- faults of the sink
+-- one of its own doesn't stop the reading
+own_goes_on : (f : StreamFault) → IsSinkFault f → StopsReading f → ⊥
+own_goes_on FileRefused h stops = stops
+own_goes_on RateNotDivided h stops = stops
+own_goes_on TooLarge h stops = stops
+own_goes_on ReadFailed h stops = h
+own_goes_on WriteFailed h stops = stops
+own_goes_on TurnLimit h stops = h
+own_goes_on Memory h stops = stops
+
 module _ (s : Sound) (came : List ℕ) where
   sound_that : (P : Sound → Type 0) (file : List ℕ) → BeginsSound s came file → P s → HasSoundThat P file
   sound_that P file begins is = record { prefix = begins.prefix; rest = begins.rest; sound = s; file_is = begins.file_is; states = begins.states; is_so = is }
@@ -74,8 +86,12 @@ module _ (s : Sound) (came : List ℕ) where
 pub never_refused : {W : Type 0} (held : W → Option (List ℕ)) (first now : DopSink W) → ((s : Sound) × (came : List ℕ) × RefusesDop held first now s came FileRefused) → ⊥
 never_refused held first now (s, came, refused) = refused.fault
 
+-- ---- how long the header is
+head_long : (rate channels count : ℕ) → length (dop_head rate channels count) ≡ 68
+head_long rate channels count = refl
+
 -- ---- a file that is not taken to its end
-module _ {W : Type 0} (held : W → Option (List ℕ)) (first new : DopSink W) (law : NativeJoins) where
+module _ {W : Type 0} (held : W → Option (List ℕ)) (first new : DopSink W) (law : NativeJoins) (sizes : NativeHasSize) where
   abbrev a : Option (List ℕ)
   a = held (outlet_writer first.outlet.now)
 
@@ -128,11 +144,48 @@ module _ {W : Type 0} (held : W → Option (List ℕ)) (first new : DopSink W) (
     | inr refuses ↦ refuses.refuses.same
   ]
 
-  pub stops_playing : {R : Type 0} (left : R → Option (List ℕ)) (i : Inlet R) (g h : ℕ) (f : StreamFault) → Stops (left (inlet_reader i)) g h f → DopFails left held i first new f
+  -- what came before the reading stopped
+  keeps_came : (s : Sound) (came : List ℕ) (few : length came ≤ s.size) (done : ℕ) → IsFed s done came → IsDopPlaying held first new s done came → (left : Option (List ℕ)) (given : ℕ) → IfSome left (BeginsSound s came) → sound_given s given ≤ length came + 65536
+      → DopKeepsUpBy left given a b
+  keeps_came s came few done fed is None given begins pace = tt
+  keeps_came s came few done fed is (Some file) given begins pace = λ bytes t plays stated much.
+      let text = text_came s came file bytes begins few plays in
+      let more = file_begins law s done came text.rest fed text.long in
+      let same : t ≡ s = stated_once begins.prefix begins.rest s t begins.states (subst (λ f. LeadsToSound f t) begins.file_is stated) in
+      let head = head_of_sound s in
+      let made = samples_of s done came in
+      let whole : s.interleaving ≡ Bytes → done % 8 ≡ 0 = λ e. elim (cases_lt done s.count) [
+        | inl less ↦ (let groups = fed.groups less in omega (arith, groups))
+        | inr all ↦ (let is_all : done ≡ s.count = omega (arith, all, fed.within) in ap (λ m. m % 8) is_all ∙ fed.whole e)
+      ] in
+      let long : length made ≡ frames_of done * (3 * s.channels) = sizes Dop s.interleaving s.channels done came fed.is_sound.some_channel fed.size whole in
+      subst (λ (z : Sound). WritesSamples z (sound_given z given - 65536) bytes a b) (sym same) (record {
+        prefix = head ++ made;
+        back = more.0;
+        parts = text.is ∙ more.1;
+        written = is.written;
+        done = done;
+        near = omega (arith, pace, fed.size);
+        size = omega (arith, length-append head made, head_long s.rate s.channels s.count, long);
+      })
+
+  keeps_none : (left : Option (List ℕ)) (g h : ℕ) → GivesNone left g h → DopKeepsUpBy left (h - g) a b
+  keeps_none None g h none = tt
+  keeps_none (Some file) g h none = λ bytes s plays stated much. let before = none s (plays.recording, plays.file_holds) stated in absurd (omega (arith, before, much))
+
+  stops_lag : (left : Option (List ℕ)) (g h : ℕ) (f : StreamFault) → Stops left g h f → StopsReading f → DopKeepsUpBy left (h - g) a b
+  stops_lag left g h f (inl none) stops = keeps_none left g h (none.none stops)
+  stops_lag left g h f (inr some) stops = elim some.how [
+    | inl ends ↦ keeps_came some.sound some.came some.few ends.done ends.fed ends.taken left (h - g) some.begins (ends.pace stops)
+    | inr refuses ↦ absurd (own_goes_on f refuses.own stops)
+  ]
+
+  pub stops_playing : {R : Type 0} (left : R → Option (List ℕ)) (i : Inlet R) (g h : ℕ) (f : StreamFault) → Stops (left (inlet_reader i)) g h f → DopFails left held i (h - g) first new f
   stops_playing left i g h f stops = record {
     fault = stops_fault (left (inlet_reader i)) g h f stops;
     unwritten = stops_unwritten (left (inlet_reader i)) g h f stops;
     prefix = stops_prefix (left (inlet_reader i)) g h f stops;
+    keeps_up = stops_lag (left (inlet_reader i)) g h f stops;
     failures = stops_counted (left (inlet_reader i)) g h f stops;
   }
 
@@ -142,9 +195,6 @@ count_long count = elim (cases_eq (count % 16) 0) [
   | inl none ↦ rw (eq-eqb (count % 16) 0 none) refl
   | inr some ↦ rw (ne_eqb (count % 16) 0 some) refl
 ]
-
-head_long : (rate channels count : ℕ) → length (dop_head rate channels count) ≡ 68
-head_long rate channels count = refl
 
 file_long : NativeHasSize → (s : Sound) (bytes : List ℕ) → IsSound s → (s.interleaving ≡ Bytes → s.count % 8 ≡ 0) → length bytes ≡ s.size → length (file_of_sound s bytes) ≡ dop_file_size s.channels s.count
 file_long law s bytes is whole long =
@@ -204,9 +254,9 @@ module _ {W : Type 0} (held : W → Option (List ℕ)) (first mid : DopSink W) (
     abbrev ended : Option (List ℕ)
     ended = held (outlet_writer new.outlet.now)
 
-    pub end_fails : {R : Type 0} (left : R → Option (List ℕ)) (i j : Inlet R) (g h : ℕ) (f : StreamFault) → NativeJoins → TakesGiven has left i j o → new.outlet.ghost_name ≡ mid.outlet.ghost_name → IsWritingFault f
-        → AppendsPrefix after_sound ended tail → outlet_failures new.outlet.now ≡ outlet_failures mid.outlet.now + failed_writes {X = Unit {0}} (Err f) → DopFails left held i first new f
-    end_fails left i j g h f law (read, reads, taken) reference fault out failures = stops_playing held first new law left i g h f (inr (record {
+    pub end_fails : {R : Type 0} (left : R → Option (List ℕ)) (i j : Inlet R) (g h : ℕ) (f : StreamFault) → NativeJoins → NativeHasSize → TakesGiven has left i j o → new.outlet.ghost_name ≡ mid.outlet.ghost_name → IsWritingFault f
+        → AppendsPrefix after_sound ended tail → outlet_failures new.outlet.now ≡ outlet_failures mid.outlet.now + failed_writes {X = Unit {0}} (Err f) → DopFails left held i (h - g) first new f
+    end_fails left i j g h f law sizes (read, reads, taken) reference fault out failures = stops_playing held first new law sizes left i g h f (inr (record {
       sound = o.sound;
       came = taken.0;
       few = omega (arith, taken.1.sound_long);

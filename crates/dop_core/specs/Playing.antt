@@ -1,19 +1,21 @@
 -- What is played of a reader's file as DoP samples, and which faults apply.
-use Rattle.std.specs.Prelude.{◌≡◌, ◌≢◌, ℕ, ◌%◌, ◌≤◌, ◌^◌, List, ◌++◌, length, Option, IfSome, ⊤}
+use Rattle.std.specs.Prelude.{◌≡◌, ◌≢◌, ℕ, ◌+◌, ◌-◌, ◌*◌, ◌%◌, ◌<◌, ◌≤◌, ◌^◌, List, ◌++◌, length, Option, IfSome, ⊤}
 use Rattle.std.specs.Io.KnownBytes.{Appends}
-use Rattle.chunk_core.specs.Inlets.{inlet_reader}
+use Rattle.chunk_core.specs.Inlets.{inlet_given, inlet_reader}
 use Rattle.chunk_core.specs.Outlets.{AppendsPrefix, outlet_writer}
 use Rattle.chunk_core.specs.declared.inlet.Inlet.{Inlet}
 use Rattle.chunk_core.specs.declared.outlet.Outlet.{Outlet}
 use Rattle.dsd_bits.specs.Channels.{count_of}
 use Rattle.dsd_bits.specs.Contents.{Content}
 use Rattle.dsd_bits.specs.declared.sound.Sound.{Sound}
-use Rattle.sound_core.specs.Faults.{IsFromOutside}
+use Rattle.dsd_bits.specs.Sounds.{sound_size}
+use Rattle.sound_core.specs.Faults.{IsFromOutside, StopsReading}
 use Rattle.sound_core.specs.Files.{HoldsRecording, IsRefused, LeadsToSound}
 use Rattle.sound_core.specs.Reads.{Reads}
+use Rattle.sound_core.specs.Sinks.{sound_given}
 use Rattle.sound_core.specs.declared.fault.StreamFault.{StreamFault}
 use Rattle.sound_core.specs.declared.fault.StreamFault.TheVariants.{FileRefused, RateNotDivided, TooLarge, ReadFailed, WriteFailed, TurnLimit, Memory}
-use Rattle.dop_core.specs.Writing.{FitsDop, dop_riff_size, dop_text}
+use Rattle.dop_core.specs.Writing.{FitsDop, dop_riff_size, dop_text, frames_of}
 
 -- the file holds a recording whose rate 16 divides, and these bytes are the WAVE file of its bits, whose sizes fit
 pub record PlaysDop (file bytes : List ℕ) : Type 0 where
@@ -58,6 +60,23 @@ DopAppliesBy left f = IfSome left (λ file. DopApplies file f)
 abbrev pub DopOnlyFromOutsideBy : Option (List ℕ) → StreamFault → Type 0
 DopOnlyFromOutsideBy left f = IfSome left (λ file. (bytes : List ℕ) → PlaysDop file bytes → IsFromOutside f)
 
+-- a prefix of these bytes was written: the header, and the samples of the first bits of each channel, which have at least
+-- n bytes of the sound
+pub record WritesSamples (s : Sound) (n : ℕ) (bytes : List ℕ) (held_old held_new : Option (List ℕ)) : Type 0 where
+  pub prefix : List ℕ
+  pub back : List ℕ
+  pub parts : bytes ≡ prefix ++ back
+  pub written : Appends held_old held_new prefix
+  pub done : ℕ
+  pub near : n ≤ sound_size s.interleaving s.channels done
+  pub size : length prefix ≡ 68 + frames_of done * (3 * s.channels)
+
+-- if more than 65,536 bytes of the sound of a file that can be played were read, what was written lags by at most that
+-- many: it holds the header, and the samples of the bytes before
+abbrev pub DopKeepsUpBy : Option (List ℕ) → ℕ → Option (List ℕ) → Option (List ℕ) → Type 0
+DopKeepsUpBy left given held_old held_new = IfSome left (λ file. (bytes : List ℕ) (s : Sound) → PlaysDop file bytes → LeadsToSound file s → 65536 < sound_given s given
+    → WritesSamples s (sound_given s given - 65536) bytes held_old held_new)
+
 -- n bytes were written, which are what the reader's file plays, if that is known
 abbrev pub DopPlaysFile : Option (List ℕ) → Option (List ℕ) → Option (List ℕ) → ℕ → Type 0
 DopPlaysFile left held_old held_new n = IfSome left (λ file. (bytes : List ℕ) × PlaysDop file bytes × (n ≡ length bytes) × Appends held_old held_new bytes)
@@ -83,3 +102,8 @@ DopPlaysReadTo left held inlet_old inlet_new old new = DopPlaysGiven left inlet_
 -- a prefix of whatever the inlet's file plays was written to the outlet
 abbrev pub DopWritesPrefixTo : {R W : Type 0} → (R → Option (List ℕ)) → (W → Option (List ℕ)) → Inlet R → Outlet W → Outlet W → Type 0
 DopWritesPrefixTo left held inlet old new = DopWritesPrefix (left (inlet_reader inlet)) (held (outlet_writer old)) (held (outlet_writer new))
+
+-- if this fault stops the reading, what was written lags what was read by at most 65,536 bytes of the sound
+abbrev pub DopLags : {R W : Type 0} → (R → Option (List ℕ)) → (W → Option (List ℕ)) → Inlet R → Inlet R → Outlet W → Outlet W → StreamFault → Type 0
+DopLags left held inlet_old inlet_new old new f = StopsReading f
+    → DopKeepsUpBy (left (inlet_reader inlet_old)) (inlet_given inlet_new - inlet_given inlet_old) (held (outlet_writer old)) (held (outlet_writer new))

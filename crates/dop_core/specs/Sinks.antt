@@ -1,17 +1,17 @@
 -- The sink that plays a sound as DoP samples to an outlet while its file is read.
 use Rattle.std.specs.Prelude.{◌≡◌, ℕ, ◌+◌, ◌-◌, ◌%◌, ◌<◌, ◌^◌, List, ◌++◌, length, Option, Err, ⊤}
 use Rattle.std.specs.Io.KnownBytes.{Appends}
-use Rattle.chunk_core.specs.Inlets.{inlet_reader}
+use Rattle.chunk_core.specs.Inlets.{inlet_given, inlet_reader}
 use Rattle.chunk_core.specs.Outlets.{AppendsPrefix, outlet_failures, outlet_writer}
 use Rattle.chunk_core.specs.declared.inlet.Inlet.{Inlet}
 use Rattle.dsd_bits.specs.declared.sound.Sound.{Sound}
 use Rattle.native_core.specs.Native.{native_of}
 use Rattle.native_core.specs.declared.layout.Layout.TheVariants.{Dop}
-use Rattle.sound_core.specs.Faults.{IsBeforeWriting, failed_writes}
+use Rattle.sound_core.specs.Faults.{IsBeforeWriting, StopsReading, failed_writes}
 use Rattle.sound_core.specs.declared.fault.StreamFault.{StreamFault}
 use Rattle.sound_core.specs.declared.fault.StreamFault.TheVariants.{RateNotDivided, TooLarge, WriteFailed, Memory}
 use Rattle.dop_core.specs.Writing.{FitsDop, dop_head, dop_tail}
-use Rattle.dop_core.specs.Playing.{DopAppliesBy, DopPlaysReadTo, DopPlaysTo, DopWritesPrefix, IsNotDivided, IsTooLarge}
+use Rattle.dop_core.specs.Playing.{DopAppliesBy, DopKeepsUpBy, DopPlaysReadTo, DopPlaysTo, DopWritesPrefix, IsNotDivided, IsTooLarge}
 use Rattle.dop_core.specs.declared.sink.DopSink.{DopSink}
 
 -- the bytes before the samples of a sound
@@ -61,11 +61,13 @@ pub record RefusesDop {W : Type 0} (held : W → Option (List ℕ)) (first now :
 
 -- ---- a file that is read into the sink
 
--- why a file is not played to its end: a fault applies, and a prefix of what it plays was written
-pub record DopFails {R W : Type 0} (left : R → Option (List ℕ)) (held : W → Option (List ℕ)) (inlet : Inlet R) (old new : DopSink W) (f : StreamFault) : Type 0 where
+-- why a file is not played to its end: a fault applies, and a prefix of what it plays was written, which keeps up with
+-- the reading
+pub record DopFails {R W : Type 0} (left : R → Option (List ℕ)) (held : W → Option (List ℕ)) (inlet : Inlet R) (given : ℕ) (old new : DopSink W) (f : StreamFault) : Type 0 where
   pub fault : DopAppliesBy (left (inlet_reader inlet)) f
   pub unwritten : IsBeforeWriting f → outlet_writer new.outlet.now ≡ outlet_writer old.outlet.now
   pub prefix : DopWritesPrefix (left (inlet_reader inlet)) (held (outlet_writer old.outlet.now)) (held (outlet_writer new.outlet.now))
+  pub keeps_up : StopsReading f → DopKeepsUpBy (left (inlet_reader inlet)) given (held (outlet_writer old.outlet.now)) (held (outlet_writer new.outlet.now))
   pub failures : outlet_failures new.outlet.now ≡ outlet_failures old.outlet.now + failed_writes {X = Unit {0}} (Err f)
 
 -- what the inlet's file plays was written
@@ -75,3 +77,7 @@ SinkPlays left held inlet old new = DopPlaysTo left held inlet old.outlet.now ne
 -- what the bytes play that were read from the inlet was written
 abbrev pub SinkPlaysRead : {R W : Type 0} → (R → Option (List ℕ)) → (W → Option (List ℕ)) → Inlet R → Inlet R → DopSink W → DopSink W → ℕ → Type 0
 SinkPlaysRead left held inlet_old inlet_new old new = DopPlaysReadTo left held inlet_old inlet_new old.outlet.now new.outlet.now
+
+-- why a file is not played to its end, after the bytes that the inlet has counted
+abbrev pub SinkFails : {R W : Type 0} → (R → Option (List ℕ)) → (W → Option (List ℕ)) → Inlet R → Inlet R → DopSink W → DopSink W → StreamFault → Type 0
+SinkFails left held inlet_old inlet_new old new f = DopFails left held inlet_old (inlet_given inlet_new - inlet_given inlet_old) old new f

@@ -7,8 +7,8 @@ ghost use Rattle.form_core.specs.Steps.{map_err};
 ghost use Rattle.sound_core.specs.Faults.{IsBeforeWriting, failed_reads, failed_writes};
 ghost use Rattle.sound_core.specs.Naming.{IfRefusedAs, IsExact, NamesFault, plain};
 ghost use Rattle.sound_core.specs.Readers.{CanFail, RunsOut};
-ghost use Rattle.dop_core.specs.Playing.{DopAppliesBy, DopOnlyFromOutsideBy, DopPlaysReadTo, DopPlaysTo, DopWritesPrefixTo};
-ghost use Rattle.dop_core.specs.Sinks.{DopFails, SinkPlays, SinkPlaysRead};
+ghost use Rattle.dop_core.specs.Playing.{DopAppliesBy, DopLags, DopOnlyFromOutsideBy, DopPlaysReadTo, DopPlaysTo, DopWritesPrefixTo};
+ghost use Rattle.dop_core.specs.Sinks.{SinkFails, SinkPlays, SinkPlaysRead};
 
 use crate::header::file_size;
 use crate::sink::{DopSink, put_tail};
@@ -26,6 +26,9 @@ use std::io::{Read, Write};
 /// DSF file that holds a recording; `RateNotDivided` if 16 doesn't divide the rate, `TooLarge`, before the first write;
 /// `ReadFailed`, `WriteFailed`; `TurnLimit` after `2^40` reads, or at once if the inlet had counted `2^63` reads or
 /// bytes, or inlet or outlet as many failures as they can; `Memory`.
+///
+/// After `ReadFailed` and `TurnLimit`, if more than 65,536 bytes of the sound were read, what was written holds the
+/// header and the samples of all but the last 65,536 of them.
 ///
 /// Of the sound it holds one block of 65,536 bytes and its samples. Of a file that holds no recording as much more is
 /// read as tells its first fault, at most to its end or that of its DSDIFF form.
@@ -50,6 +53,9 @@ pub fn play_dop<R: Read, W: Write>(
         → outlet_writer outlet.new ≡ outlet_writer outlet.old) }
     // After a refusal a prefix of what the file plays was written.
     ensures prefix { OnErr result (DopWritesPrefixTo R.remaining W.contents inlet.old outlet.old outlet.new) }
+    // If the reading stops, what was written lags by at most 65,536 bytes of the one sound that the file describes.
+    ensures keeps_up { IfErr result (λ u. DopLags R.remaining W.contents inlet.old inlet.new outlet.old outlet.new
+        (plain u)) }
     ensures read_failed { inlet_failures inlet.new ≡ inlet_failures inlet.old + failed_reads (map_err plain result) }
     ensures write_failed { outlet_failures outlet.new
         ≡ outlet_failures outlet.old + failed_writes (map_err plain result) }
@@ -76,7 +82,8 @@ fn play_file<R: Read, W: Write>(
     ensures ok { IfOk result (SinkPlays R.remaining W.contents inlet.old sink.old sink.new) }
     ensures any_reader { IfOk result (SinkPlaysRead R.remaining W.contents inlet.old inlet.new sink.old sink.new) }
     ensures failures { OnOk result (outlet_failures sink.new.outlet.now ≡ outlet_failures sink.old.outlet.now) }
-    ensures fault { IfErr result (λ u. DopFails R.remaining W.contents inlet.old sink.old sink.new (plain u)) }
+    ensures fault { IfErr result (λ u. SinkFails R.remaining W.contents inlet.old inlet.new sink.old sink.new
+        (plain u)) }
     ensures named { IfErr result (λ u. IfRefusedAs u (NamesFault R.remaining inlet.old inlet.new)) }
     ensures exact { IfErr result IsExact }
     ensures read_failed { inlet_failures inlet.new ≡ inlet_failures inlet.old + failed_reads (map_err plain result) }

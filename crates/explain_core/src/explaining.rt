@@ -67,10 +67,9 @@ impl Line {
                     self.explain_not_null(rt, mix, master, reason);
                 }
             }
-            Ended::Played(front, bytes) => self.explain_played(rt, task, &front, bytes),
+            Ended::Played(front, bytes) => self.explain_wave(rt, task, (&front, bytes), None),
             Ended::Spoken(front, bytes, mask) => {
-                self.explain_played(rt, task, &front, bytes);
-                self.say_speakers(&front, mask);
+                self.explain_wave(rt, task, (&front, bytes), Some(mask));
             }
             Ended::Unprinted(error) => {
                 self.push("standard output did not take the answer: ");
@@ -160,6 +159,9 @@ impl Line {
                 self.push("the part of ");
                 self.named(input, "IN", LARGE_PART);
             }
+            (Task::PlayBetween { input, .. }, StreamFault::TooLarge) => {
+                self.named(input, "IN", LARGE_BETWEEN);
+            }
             (
                 Task::Play { project, input, .. }
                 | Task::PlayPart { project, input, .. }
@@ -220,4 +222,8 @@ const NO_TYPE: &str =
     " has IDs whose loudspeakers no channel type of DSF has; dsdarc info prints them: convert it without \
      --speakers, or to dsdiff";
 
-const LARGE_PART: &str = " would make a WAVE file of more than 4,294 MB: name shorter parts";
+const LARGE_PART: &str =
+    " would make a WAVE file of more than 4,294 MB: make it RF64 by --rf64, or name shorter parts";
+
+const LARGE_BETWEEN: &str =
+    " would make a WAVE file of more than 4,294 MB: choose a filter for a lower rate or 16 bits";

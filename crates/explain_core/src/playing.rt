@@ -1,10 +1,10 @@
 //! Why a recording is not played: the numbers, and what would fit. Or what was written, and what may surprise in it.
 
-use crate::files::text_of;
+use crate::files::{reopen, text_of};
 use crate::line::Line;
 use crate::opening::{output_of, project_of};
 use crate::recordings::{marks_of, sound_of};
-use chunk_core::{Order, u16_at, u32_at};
+use chunk_core::{Order, id_at, u16_at, u32_at};
 use dsd_bits::Sound;
 use folder_core::{FRONT, Step};
 use place_core::Place;
@@ -12,6 +12,7 @@ use project_core::{Project, read};
 use request_core::SpanFault;
 use sound_core::StreamFault;
 use std::alloc::Global;
+use std::io::{Read, Seek, SeekFrom};
 use std::rt::Files;
 use words_core::Task;
 
@@ -38,6 +39,9 @@ const SPEAKERS: [(u32, &str); 6] = [
     (16, "BL"),
     (32, "BR"),
 ];
+
+// The bytes of the chunk that makes room in a header for sizes of 64 bits.
+const ROOM: u64 = 36;
 
 /// The project and the input of a command that plays.
 pub(crate) type Played<'a> = (&'a str, &'a str);
@@ -79,6 +83,19 @@ fn found_in(project: &Project) -> Tables {
 /// What the project of a name has.
 pub(crate) fn tables_of<R: Files>(rt: &R, alloc: Global, name: &str) -> Option<Tables> {
     tables_in(alloc, &text_of(rt, alloc, name)?)
+}
+
+// Takes the room that the header of a WAVE file may have for sizes of 64 bits out of its first bytes, and returns how
+// many bytes the file has without it. With room the format chunk is read again from the file of the output, if it can be.
+fn without_room<R: Files>(rt: &R, task: Task, front: &mut [u8; FRONT], bytes: u64) -> Option<u64> {
+    if id_at(front, 12) == *b"fmt " {
+        return Some(bytes);
+    }
+    let (output, _) = output_of(task, Step::First)?;
+    let (mut file, _) = reopen(rt, output).ok()?;
+    file.seek(SeekFrom::Start(ROOM)).ok()?;
+    file.read(front).ok()?;
+    Some(bytes.saturating_sub(ROOM))
 }
 
 impl Line {
@@ -168,15 +185,32 @@ impl Line {
         self.push(advice);
     }
 
-    /// Adds what a WAVE file of so many bytes holds, by the first of them: its rate, width, channels and duration. Then
-    /// comes what may surprise: a filter for another rate, a name that is that of another kind of file, no frames.
-    pub(crate) fn explain_played<R: Files>(
+    /// Adds what a WAVE file of so many bytes holds, by the first of them, and which loudspeakers it names by a mask of the
+    /// channels, if there is one.
+    pub(crate) fn explain_wave<R: Files>(
         &mut self,
         rt: &R,
         task: Task,
-        front: &[u8; FRONT],
-        bytes: u64,
+        (front, bytes): (&[u8; FRONT], u64),
+        mask: Option<u32>,
     ) {
+        let is_rf64 = id_at(front, 0) == *b"RF64";
+        let mut plain = *front;
+        let Some(size) = without_room(rt, task, &mut plain, bytes) else {
+            return;
+        };
+        self.explain_played(rt, task, &plain, size);
+        if let Some(mask) = mask {
+            self.say_speakers(&plain, mask);
+        }
+        if is_rf64 {
+            self.push(IS_RF64);
+        }
+    }
+
+    // Adds what a WAVE file of so many bytes holds, by the first of them: its rate, width, channels and duration. Then
+    // comes what may surprise: a filter for another rate, a name that is that of another kind of file, no frames.
+    fn explain_played<R: Files>(&mut self, rt: &R, task: Task, front: &[u8; FRONT], bytes: u64) {
         let (rate, frames) = self.say_wave(front, bytes);
         if let Some(project) = project_of(task) {
             self.explain_filter(rt, project, rate);
@@ -192,8 +226,8 @@ impl Line {
         }
     }
 
-    /// Adds which loudspeakers a WAVE file names, by its first bytes and the mask of the channels.
-    pub(crate) fn say_speakers(&mut self, front: &[u8; FRONT], mask: u32) {
+    // Adds which loudspeakers a WAVE file names, by its first bytes and the mask of the channels.
+    fn say_speakers(&mut self, front: &[u8; FRONT], mask: u32) {
         if mask == 0 {
             return self.push(NO_SPEAKERS);
         }
@@ -380,8 +414,10 @@ fn has_rate(rates: &str, rate: u64) -> bool {
 }
 
 const LARGE: &str =
-    " would make a WAVE file of {b0}, and 4,294 MB are the most: choose a filter for a lower rate or \
-     16 bits, or play it in parts";
+    " would make a WAVE file of {b0}, and 4,294 MB are the most: make it RF64 by --rf64, choose a filter \
+     for a lower rate or 16 bits, or play it in parts";
+
+const IS_RF64: &str = "; it is RF64, as it has more than 4,294 MB";
 
 const NO_SPEAKERS: &str =
     "; no loudspeakers: an ID is none of theirs, or two channels have the same";

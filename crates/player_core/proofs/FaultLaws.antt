@@ -12,7 +12,7 @@ use Rattle.sound_core.specs.declared.fault.StreamFault.TheVariants.{FileRefused,
 use Rattle.sound_core.specs.declared.fault.Unread.{Unread}
 use Rattle.sound_core.specs.declared.fault.Unread.TheVariants as answers
 use Rattle.sound_core.proofs.FaultLaws.{by_writing}
-use Rattle.wave_core.specs.Sizes.{riff_size}
+use Rattle.wave_core.specs.Heads.{limit_of, size_in}
 use Rattle.player_core.specs.Laws.{total_frames}
 use Rattle.player_core.specs.Playing.{Applies}
 use Rattle.player_core.specs.Ranges.{IsInside, number_of}
@@ -51,10 +51,10 @@ outline_unwritten X left TurnLimit h = refl
 outline_unwritten X left Memory h = refl
 
 -- ---- where the header is written
-pub opening : (d : Decimator) (s : Sound) (range : FrameRange) → 0 < d.factor → IsInside range (total_frames d s) → (f : StreamFault) → IsOpeningFault d (range_sound d s range) f → IsPlayingFault d s range f
+pub opening : (d : Decimator) (s : Sound) (range : FrameRange) → 0 < d.factor → IsInside range (total_frames d s) → (f : StreamFault) → IsOpeningFault range.head d (range_sound d s range) f → IsPlayingFault d s range f
 opening d s range some inside FileRefused h = absurd h
 opening d s range some inside RateNotDivided h = h
-opening d s range some inside TooLarge h = (inside, h.0, subst (λ n. 2 ^ 32 ≤ riff_size s.channels d.width n) (frames_number d s (number_of range (total_frames d s)) some (omega (arith, inside.0, inside.1))) h.1)
+opening d s range some inside TooLarge h = (inside, h.0, subst (λ n. limit_of range.head ≤ size_in range.head s.channels d.width n) (frames_number d s (number_of range (total_frames d s)) some (omega (arith, inside.0, inside.1))) h.1)
 opening d s range some inside ReadFailed h = absurd h
 opening d s range some inside WriteFailed h = tt
 opening d s range some inside TurnLimit h = absurd h

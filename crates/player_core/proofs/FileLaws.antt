@@ -38,7 +38,7 @@ module _ {W : Type 0} (held : W → Option (List ℕ)) (old mid new : PlayingSin
         let d = old.taps.now in (
           range_file d o.sound old.range sound,
           plays_held o stated file sound stands law d least old.range on.divided on.inside on.fits,
-          end.size ∙ sym (part_size d old.range.start (stop_of old.range (total_frames d o.sound)) on.inside.0 o.sound stated.is_sound stated.whole on.inside.1 sound stands.sound_long (omega (arith, least))),
+          end.size ∙ sym (part_size d old.range.start (stop_of old.range (total_frames d o.sound)) on.inside.0 o.sound stated.is_sound stated.whole on.inside.1 sound stands.sound_long old.range.head (omega (arith, least))),
           end.written,
         )
 

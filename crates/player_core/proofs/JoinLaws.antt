@@ -28,6 +28,7 @@ use Rattle.sound_core.specs.Outlines.{AreStated, IsPlacedIn, Surroundings, with_
 use Rattle.sound_core.specs.Sinks.{IsFed, TakesFile, TakesGiven}
 use Rattle.sound_core.specs.declared.part.SoundPart.{SoundPart}
 use Rattle.sound_core.proofs.SameLaws.{holds_in}
+use Rattle.wave_core.specs.Heads.{plain}
 use Rattle.wave_core.specs.Sizes.{FitsRiff, riff_size}
 use Rattle.wave_core.specs.Texts.{wave_text}
 use Rattle.player_core.specs.Between.{IsJoined, IsJoining, bits_after, bits_before, channels_after, channels_before, frame_after, framed, in_frames, joined, own_range, with_range}
@@ -310,15 +311,15 @@ module _ (around : Neighbours) (s j : Sound) (is : IsJoined around s j) (is_soun
       }
 
   pub text_is : PartIsPlayed → (d : Decimator) → 8 ≤ d.factor → (start stop : ℕ) → start ≤ stop → stop ≤ total_frames d j → FitsRiff j.channels d.width (stop - start)
-      → wave_text (part_pcm (record r { channels = both }) d start stop) ≡ Some (part_file d j start stop all)
+      → wave_text (part_pcm (record r { channels = both }) d start stop) ≡ Some (part_file plain d j start stop all)
   text_is law d least start stop ordered inside fits =
-      (law all (record r { channels = both }) j d start stop has_joined (joined_sound_is around s j is is_sound) (λ bytes. joined_whole around s j is is_sound) least ordered inside).whole fits
-      ∙ ap (λ bytes. Some (part_file d j start stop bytes)) bytes_are
+      (law all (record r { channels = both }) j plain d start stop has_joined (joined_sound_is around s j is is_sound) (λ bytes. joined_whole around s j is is_sound) least ordered inside).whole fits
+      ∙ ap (λ bytes. Some (part_file plain d j start stop bytes)) bytes_are
 
   pub text_none : PartIsPlayed → (d : Decimator) → 8 ≤ d.factor → (start stop : ℕ) → start ≤ stop → stop ≤ total_frames d j → 2 ^ 32 ≤ riff_size j.channels d.width (stop - start)
       → wave_text (part_pcm (record r { channels = both }) d start stop) ≡ None
   text_none law d least start stop ordered inside large =
-      (law all (record r { channels = both }) j d start stop has_joined (joined_sound_is around s j is is_sound) (λ bytes. joined_whole around s j is is_sound) least ordered inside).too_large large
+      (law all (record r { channels = both }) j plain d start stop has_joined (joined_sound_is around s j is is_sound) (λ bytes. joined_whole around s j is is_sound) least ordered inside).too_large large
 
 -- a file was read into a sink, which ended
 module _ {W : Type 0} (held : W → Option (List ℕ)) (old mid new : JoiningSink W) (o : Surroundings) (stated : AreStated o) where
@@ -363,7 +364,7 @@ module _ {W : Type 0} (held : W → Option (List ℕ)) (old mid new : JoiningSin
             rate_divided = ap (λ k. k % d.factor) (has.rate ∙ sym (ap (λ (t : Sound). t.rate) isj.is)) ∙ divided;
             text = ap₂ (λ a b. wave_text (part_pcm (record r { channels = joined (channels_before around) r.channels (channels_after around) }) d (frame_after d a) (frame_after d b))) before_count (ap₂ (λ a b. a + b) before_count has.count) ∙ text;
           },
-          fin.size ∙ sym (part_size d start stop inside.0 j (joined_sound_is around s j isj stated.is_sound) (λ b. joined_whole around s j isj stated.is_sound) inside.1 bytes (all_long around s j isj stated.is_sound sound stands.sound_long r has.rate refl) (omega (arith, least))),
+          fin.size ∙ sym (part_size d start stop inside.0 j (joined_sound_is around s j isj stated.is_sound) (λ b. joined_whole around s j isj stated.is_sound) inside.1 bytes (all_long around s j isj stated.is_sound sound stands.sound_long r has.rate refl) plain (omega (arith, least))),
           fin.written,
         )
 

@@ -10,8 +10,7 @@ use Rattle.dsd_bits.specs.declared.interleaving.Interleaving.{Interleaving}
 use Rattle.dsd_bits.specs.declared.interleaving.Interleaving.TheVariants.{Bytes, Blocks}
 use Rattle.dsd_bits.specs.declared.sound.Sound.{Sound}
 use Rattle.dsd_bits.specs.Channels.{count_of}
-use Rattle.dsd_bits.specs.Sounds.{HasSound, IsSound, has_blocks, sound_bytes, sound_channels, sound_size}
-use Rattle.fir_core.specs.Decimator.{Decimator}
+use Rattle.dsd_bits.specs.Sounds.{IsSound, has_blocks, sound_bytes, sound_channels, sound_size}
 use Rattle.sound_core.specs.Files.{HoldsRecording}
 use Rattle.sound_core.specs.Outlines.{AreStated, Surroundings}
 use Rattle.sound_core.specs.Sinks.{BeginsSound, IsFed, StopsTaking, TakesGiven}
@@ -66,9 +65,9 @@ playing_prefix held first now s came is rest all =
     let parts : drop n whole ≡ drop n seen ++ drop (n - length seen) after = drop_more_of n seen after in
     let more = due_first p on.is_player (drop n seen) (drop (n - length seen) after) (ap length (sym parts) ∙ rest_long held first now s seen on p on.player_is whole long) in
     let part : part_bytes d s whole range.start (stop_of range (total_frames d s)) ≡ part_due p (drop n seen) ++ more.0 = sym (on.plays.gives whole long) ∙ ap (part_all p) parts ∙ more.1 in (
-      sound_header d fs ++ part_due p (drop n seen),
+      sound_header range.head d fs ++ part_due p (drop n seen),
       more.0 ++ pad_of d fs,
-      ap (range_file d s range) one ∙ ap (file_around d fs) part ∙ parted (sound_header d fs) (part_due p (drop n seen)) more.0 (pad_of d fs),
+      ap (range_file d s range) one ∙ ap (file_around range.head d fs) part ∙ parted (sound_header range.head d fs) (part_due p (drop n seen)) more.0 (pad_of d fs),
       on.written,
     )
 

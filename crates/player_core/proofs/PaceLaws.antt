@@ -25,7 +25,8 @@ use Rattle.sound_core.specs.Sinks.{BeginsSound, RefusesFile, StopsTaking, sound_
 use Rattle.sound_core.specs.declared.fault.StreamFault.{StreamFault}
 use Rattle.sound_core.specs.declared.fault.Unread.{Unread}
 use Rattle.sound_core.proofs.StatedLaws.{stated_once}
-use Rattle.wave_core.specs.Sizes.{block_align, header_size}
+use Rattle.wave_core.specs.Heads.{header_size_in}
+use Rattle.wave_core.specs.Sizes.{block_align}
 use Rattle.wave_core.proofs.SizeLaws.{length_of_header}
 use Rattle.player_core.proofs.FaultLaws.{opening_holds, outline_holds, outline_later, outline_unwritten, own_goes_on}
 use Rattle.player_core.proofs.FeedLaws.{place_after}
@@ -123,7 +124,7 @@ module _ {W : Type 0} (held : W → Option (List ℕ)) (law : PartIsPlayed) (old
   fs = range_sound d s range
 
   abbrev first : List ℕ
-  first = sound_header d fs ++ part_due p (drop (part_start p) is.looked_at)
+  first = sound_header range.head d fs ++ part_due p (drop (part_start p) is.looked_at)
 
   -- that much of what the file plays was written, and nothing after it
   begun : (file bytes : List ℕ) → BeginsSound s came file → PlaysBy d range file bytes → (back : List ℕ) × (bytes ≡ first ++ back)
@@ -140,7 +141,7 @@ module _ {W : Type 0} (held : W → Option (List ℕ)) (law : PartIsPlayed) (old
       let more = due_first p on.is_player (drop n seen) (drop (n - length seen) after) (ap length (sym all) ∙ rest_long held old new s seen on p on.player_is whole long) in
       let part : part_bytes d s whole range.start (stop_of range (total_frames d s)) ≡ part_due p (drop n seen) ++ more.0 = sym (on.plays.gives whole long) ∙ ap (part_all p) all ∙ more.1 in (
         more.0 ++ pad_of d fs,
-        text.is ∙ ap (range_file d s range) joined ∙ ap (file_around d fs) part ∙ parted (sound_header d fs) (part_due p (drop n seen)) more.0 (pad_of d fs),
+        text.is ∙ ap (range_file d s range) joined ∙ ap (file_around range.head d fs) part ∙ parted (sound_header range.head d fs) (part_due p (drop n seen)) more.0 (pad_of d fs),
       )
 
   pub prefix_came : (left : Option (List ℕ)) → IfSome left (BeginsSound s came) → WritesPrefix left (PlaysBy d range) a c
@@ -167,8 +168,8 @@ module _ {W : Type 0} (held : W → Option (List ℕ)) (law : PartIsPlayed) (old
       let back = begun file bytes begins plays in
       let same : t ≡ s = stated_once begins.prefix begins.rest s t begins.states (subst (λ f. LeadsToSound f t) begins.file_is stated) in
       let n = sound_given s given - 131072 in
-      let long : length first ≡ header_size s.channels d.width + length (part_due p (drop (part_start p) is.looked_at))
-      = length-append (sound_header d fs) (part_due p (drop (part_start p) is.looked_at)) ∙ ap (λ k. k + length (part_due p (drop (part_start p) is.looked_at))) (length_of_header s.channels (s.rate / d.factor) d.width (total_frames d fs)) in
+      let long : length first ≡ header_size_in range.head s.channels d.width + length (part_due p (drop (part_start p) is.looked_at))
+      = length-append (sound_header range.head d fs) (part_due p (drop (part_start p) is.looked_at)) ∙ ap (λ k. k + length (part_due p (drop (part_start p) is.looked_at))) (length_of_header range.head s.channels (s.rate / d.factor) d.width (total_frames d fs)) in
       let holds : HoldsFrames d s range n (length first) = record {
         header = omega (arith, long);
         frames = λ j has stands. omega (arith, long, frames_came begins.states.whole (length came) j (omega arith) has (λ e low. omega (arith, stands e low, pace)));

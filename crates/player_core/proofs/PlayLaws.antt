@@ -16,8 +16,10 @@ use Rattle.fir_core.specs.Decimator.{Decimator, sample_at}
 use Rattle.fir_core.proofs.TileLaws.{below_ceil}
 use Rattle.wave_core.specs.Contents.{Pcm}
 use Rattle.wave_core.specs.Laws.{PartsJoin}
-use Rattle.wave_core.specs.Sizes.{FitsRiff, block_align, riff_size}
-use Rattle.wave_core.specs.Texts.{header, pad_bytes, sample_bytes, wave_text}
+use Rattle.wave_core.specs.Heads.{FitsIn, header_in, limit_of, size_in, text_in}
+use Rattle.wave_core.specs.Sizes.{block_align}
+use Rattle.wave_core.specs.Texts.{pad_bytes, sample_bytes}
+use Rattle.wave_core.specs.declared.head.WaveHead.{WaveHead}
 use Rattle.player_core.specs.Due.{all_bytes}
 use Rattle.player_core.specs.Frames.{frame, frame_count, frames}
 use Rattle.player_core.specs.Laws.{total_frames}
@@ -75,13 +77,13 @@ module _ (d : Decimator) (start stop : ℕ) (ordered : start ≤ stop) where
         length-slice_range (all_bytes d s bytes) (start * align) (stop * align) (omega (arith, most, frames_fill d s bytes is whole all))
         ∙ sym (less_times stop start align)
 
-    pub part_size : 0 < d.factor → length (part_file d s start stop bytes) ≡ wave_file_size d (frames_sound d s (stop - start))
-    part_size some =
+    pub part_size : (head : WaveHead) → 0 < d.factor → length (part_file head d s start stop bytes) ≡ wave_file_size head d (frames_sound d s (stop - start))
+    part_size head some =
         let number = frames_number d s (stop - start) some (omega (arith, inside)) in
-        file_has_size d (frames_sound d s (stop - start)) (part_bytes d s bytes start stop) (part_long ∙ ap (λ n. n * block_align s.channels d.width) (sym number))
+        file_has_size head d (frames_sound d s (stop - start)) (part_bytes d s bytes start stop) (part_long ∙ ap (λ n. n * block_align s.channels d.width) (sym number))
 
 pub part_is_played : PartsJoin → PartIsPlayed
-part_is_played law file r s d start stop has is whole least ordered inside =
+part_is_played law file r s head d start stop has is whole least ordered inside =
     let channels = length r.channels in
     let w = d.width / 8 in
     let total : frame_count d r.channels ≡ total_frames d s = ap (λ k. div_ceil k d.factor) has.count in
@@ -90,7 +92,7 @@ part_is_played law file r s d start stop has is whole least ordered inside =
     let within : stop * channels ≤ frame_count d r.channels * channels = mul-le-mul_right channels (omega (arith, inside, total)) in
     let long : length (part_pcm r d start stop).samples ≡ (stop - start) * channels =
     length-slice_range (frames d r.channels) (start * channels) (stop * channels) (omega (arith, within, samples_long)) ∙ sym (less_times stop start channels) in
-    let joined = law (part_pcm r d start stop) (stop - start) (omega (arith, has.number, is.some_channel)) long in
+    let joined = law head (part_pcm r d start stop) (stop - start) (omega (arith, has.number, is.some_channel)) long in
     let number = frames_number d s (stop - start) (omega (arith, least)) (omega (arith, inside)) in
     let sb : List ℤ → List ℕ = flat_map (sample_bytes d.width) in
     let sliced : sb (part_pcm r d start stop).samples ≡ slice_range (sb (frames d r.channels)) (start * channels * w) (stop * channels * w) =
@@ -100,11 +102,11 @@ part_is_played law file r s d start stop has is whole least ordered inside =
     ∙ ap₂ (λ m n. slice_range (sb (frames d r.channels)) m n) (mul_assoc start channels w) (mul_assoc stop channels w)
     ∙ ap (λ cs. slice_range (sb (frames d cs)) (start * (channels * w)) (stop * (channels * w))) has.channels
     ∙ ap (λ c. slice_range (all_bytes d s (sound_bytes file s)) (start * (c * w)) (stop * (c * w))) has.number in
-    let size = ap (λ c. riff_size c d.width (stop - start)) has.number in
-    let parts : part_file d s start stop (sound_bytes file s) ≡ header channels (r.rate / d.factor) d.width (stop - start) ++ (sb (part_pcm r d start stop).samples ++ pad_bytes channels d.width (stop - start)) =
-    ap (λ n. header s.channels (s.rate / d.factor) d.width n ++ (part_bytes d s (sound_bytes file s) start stop ++ pad_bytes s.channels d.width n)) number
-    ∙ ap (λ xs. header s.channels (s.rate / d.factor) d.width (stop - start) ++ (xs ++ pad_bytes s.channels d.width (stop - start))) (sym bytes)
-    ∙ ap₂ (λ c k. header c (k / d.factor) d.width (stop - start) ++ (sb (part_pcm r d start stop).samples ++ pad_bytes c d.width (stop - start))) (sym has.number) (sym has.rate) in
+    let size = ap (λ c. size_in head c d.width (stop - start)) has.number in
+    let parts : part_file head d s start stop (sound_bytes file s) ≡ header_in head channels (r.rate / d.factor) d.width (stop - start) ++ (sb (part_pcm r d start stop).samples ++ pad_bytes channels d.width (stop - start)) =
+    ap (λ n. header_in head s.channels (s.rate / d.factor) d.width n ++ (part_bytes d s (sound_bytes file s) start stop ++ pad_bytes s.channels d.width n)) number
+    ∙ ap (λ xs. header_in head s.channels (s.rate / d.factor) d.width (stop - start) ++ (xs ++ pad_bytes s.channels d.width (stop - start))) (sym bytes)
+    ∙ ap₂ (λ c k. header_in head c (k / d.factor) d.width (stop - start) ++ (sb (part_pcm r d start stop).samples ++ pad_bytes c d.width (stop - start))) (sym has.number) (sym has.rate) in
     record {
       whole = λ fits. joined.whole (omega (arith, fits, size)) ∙ ap (λ xs. Some xs) (sym parts);
       too_large = λ large. joined.too_large (omega (arith, large, size));
@@ -161,13 +163,13 @@ module _ (law : PartIsPlayed) (d : Decimator) (least : 8 ≤ d.factor) (range : 
         let has : HasSound (prefix ++ left) r s = states.has left r plays.file_holds in
         let total : frame_count d r.channels ≡ total_frames d s = ap (λ k. div_ceil k d.factor) has.count in
         let inside : IsInside range (total_frames d s) = subst (IsInside range) total plays.inside in
-        let text : wave_text (part_pcm r d range.start stop) ≡ Some bytes = subst (λ n. wave_text (part_pcm r d range.start (stop_of range n)) ≡ Some bytes) total plays.text in
-        let played = law (prefix ++ left) r s d range.start stop has states.is_sound states.whole least inside.0 inside.1 in
+        let text : text_in range.head (part_pcm r d range.start stop) ≡ Some bytes = subst (λ n. text_in range.head (part_pcm r d range.start (stop_of range n)) ≡ Some bytes) total plays.text in
+        let played = law (prefix ++ left) r s range.head d range.start stop has states.is_sound states.whole least inside.0 inside.1 in
         record {
           divided = subst (λ n. n % d.factor ≡ 0) has.rate plays.rate_divided;
           inside = inside;
           enough = omega (arith, has.in_file, size_at left);
-          is = elim (cases_lt (riff_size s.channels d.width (stop - range.start)) (2 ^ 32)) [
+          is = elim (cases_lt (size_in range.head s.channels d.width (stop - range.start)) (limit_of range.head)) [
             | inl fits ↦ (let both : Some bytes ≡ Some (range_file d s range (sound_bytes (prefix ++ left) s)) = sym text ∙ played.whole fits in same both ∙ ap (range_file d s range) (sound_at left))
             | inr large ↦ (let both : Some bytes ≡ None = sym text ∙ played.too_large large in absurd cc)
           ];
@@ -212,7 +214,7 @@ module _ (o : Surroundings) (stated : AreStated o) (file sound : List ℕ) (stan
     sound_is = sym (drop-append-le o.sound.start o.head (sound ++ (after ++ more)) stated.states.within) ∙ own (sound ++ (after ++ more));
   }
 
-  module _ (law : PartIsPlayed) (d : Decimator) (least : 8 ≤ d.factor) (range : FrameRange) (divided : o.sound.rate % d.factor ≡ 0) (inside : IsInside range (total_frames d o.sound)) (fits : FitsRiff o.sound.channels d.width (number_of range (total_frames d o.sound))) where
+  module _ (law : PartIsPlayed) (d : Decimator) (least : 8 ≤ d.factor) (range : FrameRange) (divided : o.sound.rate % d.factor ≡ 0) (inside : IsInside range (total_frames d o.sound)) (fits : FitsIn range.head o.sound.channels d.width (number_of range (total_frames d o.sound))) where
     pub plays_held : PlaysBy d range file (range_file d o.sound range sound)
     plays_held =
         let s = o.sound in
@@ -226,8 +228,8 @@ module _ (o : Surroundings) (stated : AreStated o) (file sound : List ℕ) (stan
           file_holds = holds;
           rate_divided = subst (λ n. n % d.factor ≡ 0) (sym has.rate) divided;
           inside = subst (IsInside range) (sym total) inside;
-          text = ap (λ n. wave_text (part_pcm r d range.start (stop_of range n))) total
-              ∙ (law file r s d range.start (stop_of range (total_frames d s)) has stated.is_sound stated.whole least inside.0 inside.1).whole fits
+          text = ap (λ n. text_in range.head (part_pcm r d range.start (stop_of range n))) total
+              ∙ (law file r s range.head d range.start (stop_of range (total_frames d s)) has stated.is_sound stated.whole least inside.0 inside.1).whole fits
               ∙ ap (λ xs. Some (range_file d s range xs)) bytes;
         }
 
@@ -253,8 +255,8 @@ module _ (law : PartIsPlayed) (d : Decimator) (least : 8 ≤ d.factor) (range : 
       let r = plays.recording in
       let has = stands.states.has stands.rest r (subst (λ f. HoldsRecording f r) stands.file_is plays.file_holds) in
       let total : frame_count d r.channels ≡ total_frames d s = ap (λ k. div_ceil k d.factor) has.count in
-      let none = (law (stands.prefix ++ stands.rest) r s d range.start (stop_of range (total_frames d s)) has stands.states.is_sound stands.states.whole least stands.inside.0 stands.inside.1).too_large stands.large in
-      let both : Some bytes ≡ None = sym plays.text ∙ ap (λ n. wave_text (part_pcm r d range.start (stop_of range n))) total ∙ none in
+      let none = (law (stands.prefix ++ stands.rest) r s range.head d range.start (stop_of range (total_frames d s)) has stands.states.is_sound stands.states.whole least stands.inside.0 stands.inside.1).too_large stands.large in
+      let both : Some bytes ≡ None = sym plays.text ∙ ap (λ n. text_in range.head (part_pcm r d range.start (stop_of range n))) total ∙ none in
       absurd cc
   outside file bytes ReadFailed stands plays = tt
   outside file bytes WriteFailed stands plays = tt

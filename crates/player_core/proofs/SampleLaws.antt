@@ -11,6 +11,7 @@ use Rattle.wave_core.specs.declared.fault.WaveFault.{WaveFault}
 use Rattle.wave_core.specs.declared.fault.WaveFault.TheVariants.{TooLarge, Memory}
 use Rattle.wave_core.specs.Contents.{IsSample}
 use Rattle.wave_core.specs.Laws.{IsJoined, PartsJoin}
+use Rattle.wave_core.specs.Heads.{plain}
 use Rattle.wave_core.specs.Sizes.{FitsRiff, riff_size}
 use Rattle.wave_core.specs.Texts.{header, pad_bytes, sample_bytes, wave_text}
 use Rattle.player_core.specs.Frames.{frame, frame_count, frames_below}
@@ -40,8 +41,8 @@ module _ (r : Content) (d : Decimator) (some : 1 ≤ length r.channels) (law : P
   abbrev number : ℕ
   number = frame_count d r.channels
 
-  joined : IsJoined (pcm r d) number
-  joined = law (pcm r d) number some (length-frames (frame d r.channels) (length r.channels) 0 number (λ j. length-map r.channels (λ bits. sample_at d bits j)))
+  joined : IsJoined plain (pcm r d) number
+  joined = law plain (pcm r d) number some (length-frames (frame d r.channels) (length r.channels) 0 number (λ j. length-map r.channels (λ bits. sample_at d bits j)))
 
   pub no_text : 2 ^ 32 ≤ riff_size (length r.channels) d.width number → wave_text (pcm r d) ≡ None
   no_text large = joined.too_large large

@@ -78,8 +78,8 @@ module _ {W : Type 0} (held : W → Option (List ℕ)) (first old : PlayingSink 
   abbrev b : Option (List ℕ)
   b = held (outlet_writer old.outlet.now)
 
-  so_far : Appends a b (sound_header d fs ++ part_due p (drop n bytes))
-  so_far = subst (λ q. Appends a b (sound_header d fs ++ part_due q (drop (part_start q) bytes))) here is.written
+  so_far : Appends a b (sound_header first.range.head d fs ++ part_due p (drop n bytes))
+  so_far = subst (λ q. Appends a b (sound_header first.range.head d fs ++ part_due q (drop (part_start q) bytes))) here is.written
 
   -- how many bytes its rest has
   pub rest_long : (xs : List ℕ) → length xs ≡ s.size → length (drop n xs) ≡ (part_rest p).size
@@ -117,7 +117,7 @@ module _ {W : Type 0} (held : W → Option (List ℕ)) (first old : PlayingSink 
         plays = by.plays;
         fed = by.fed;
         came = came ∙ is.came;
-        written = subst (λ o. Appends a (held (outlet_writer o)) (sound_header d fs ++ part_due p (drop n bytes))) (sym outlet) so_far;
+        written = subst (λ o. Appends a (held (outlet_writer o)) (sound_header first.range.head d fs ++ part_due p (drop n bytes))) (sym outlet) so_far;
         ready = is.ready;
         failures = ap outlet_failures outlet ∙ is.failures;
       }
@@ -154,7 +154,7 @@ module _ {W : Type 0} (held : W → Option (List ℕ)) (first old : PlayingSink 
           plays = plays_on d s first.range.start stop p q same by.plays;
           fed = subst (IsPartFed q) (sym at) on.0;
           came = omega (arith, came, is.came, length-append bytes piece);
-          written = subst (Appends a c) (append_assoc (sound_header d fs) (part_due p (drop n bytes)) puts.0 ∙ ap (λ xs. sound_header d fs ++ xs) (sym due)) (Appends-trans a b c (sound_header d fs ++ part_due p (drop n bytes)) puts.0 so_far puts.1);
+          written = subst (Appends a c) (append_assoc (sound_header first.range.head d fs) (part_due p (drop n bytes)) puts.0 ∙ ap (λ xs. sound_header first.range.head d fs ++ xs) (sym due)) (Appends-trans a b c (sound_header first.range.head d fs ++ part_due p (drop n bytes)) puts.0 so_far puts.1);
           ready = is.ready;
           failures = failures ∙ is.failures;
         }
@@ -171,8 +171,8 @@ module _ {W : Type 0} (held : W → Option (List ℕ)) (first old : PlayingSink 
           let all : drop n whole ≡ drop n bytes ++ (fed_piece ++ after) = drop_more_of n (bytes ++ piece) rest ∙ ap (λ xs. xs ++ after) joined ∙ append_assoc (drop n bytes) fed_piece after in
           let put = subst (λ k. PutsPrefixOf p (drop (n - k) piece) b c) is.came out (drop n bytes) after by.fed (ap length (sym all) ∙ rest_long whole long) in
           let part : part_bytes d s whole first.range.start stop ≡ part_due p (drop n bytes) ++ put.0 = sym (by.plays.gives whole long) ∙ ap (part_all p) all ∙ put.1 in
-          subst (AppendsPrefix a c) (sym (ap (file_around d fs) part ∙ parted (sound_header d fs) (part_due p (drop n bytes)) put.0 (pad_of d fs)))
-          (prefix_on a b c (sound_header d fs ++ part_due p (drop n bytes)) (put.0 ++ pad_of d fs) so_far (prefix_more b c put.0 (pad_of d fs) put.2));
+          subst (AppendsPrefix a c) (sym (ap (file_around first.range.head d fs) part ∙ parted (sound_header first.range.head d fs) (part_due p (drop n bytes)) put.0 (pad_of d fs)))
+          (prefix_on a b c (sound_header first.range.head d fs ++ part_due p (drop n bytes)) (put.0 ++ pad_of d fs) so_far (prefix_more b c put.0 (pad_of d fs) put.2));
       failures = failures ∙ ap (λ m. m + failed_writes {X = Unit {0}} (Err f)) is.failures;
     }
 
@@ -188,13 +188,13 @@ module _ {W : Type 0} (held : W → Option (List ℕ)) (first old : PlayingSink 
     abbrev whole : List ℕ
     whole = bytes ++ over
 
-    all_put : Appends a m (sound_header d fs ++ part_bytes d s whole first.range.start stop)
+    all_put : Appends a m (sound_header first.range.head d fs ++ part_bytes d s whole first.range.start stop)
     all_put =
         let by = player_of in
         let all : drop n whole ≡ drop n bytes ++ drop (n - length bytes) over = drop_more_of n bytes over in
         let due : part_all p (drop n bytes ++ drop (n - length bytes) over) ≡ part_due p (drop n bytes) ++ puts.0 = puts.2 (drop n bytes) (drop (n - length bytes) over) by.fed (ap length (sym all) ∙ rest_long whole long) in
         let part : part_bytes d s whole first.range.start stop ≡ part_due p (drop n bytes) ++ puts.0 = sym (by.plays.gives whole long) ∙ ap (part_all p) all ∙ due in
-        subst (Appends a m) (append_assoc (sound_header d fs) (part_due p (drop n bytes)) puts.0 ∙ ap (λ xs. sound_header d fs ++ xs) (sym part)) (Appends-trans a b m (sound_header d fs ++ part_due p (drop n bytes)) puts.0 so_far puts.1)
+        subst (Appends a m) (append_assoc (sound_header first.range.head d fs) (part_due p (drop n bytes)) puts.0 ∙ ap (λ xs. sound_header first.range.head d fs ++ xs) (sym part)) (Appends-trans a b m (sound_header first.range.head d fs ++ part_due p (drop n bytes)) puts.0 so_far puts.1)
 
     module _ (new : PlayingSink W) (reference : new.outlet.ghost_name ≡ old.outlet.ghost_name) (t : Sound) (frames : t ≡ range_sound old.taps.now s old.range) where
       frames_are : t ≡ fs
@@ -203,13 +203,13 @@ module _ {W : Type 0} (held : W → Option (List ℕ)) (first old : PlayingSink 
       pad : pad_of old.taps.now t ≡ pad_of d fs
       pad = ap₂ (λ e u. pad_of e.now u) is.taps frames_are
 
-      pub fed_finishes : (size : ℕ) → size ≡ wave_file_size old.taps.now t → Appends m (held (outlet_writer new.outlet.now)) (pad_of old.taps.now t) → outlet_failures new.outlet.now ≡ outlet_failures old.outlet.now → FinishesPlaying held first new s whole size
+      pub fed_finishes : (size : ℕ) → size ≡ wave_file_size old.range.head old.taps.now t → Appends m (held (outlet_writer new.outlet.now)) (pad_of old.taps.now t) → outlet_failures new.outlet.now ≡ outlet_failures old.outlet.now → FinishesPlaying held first new s whole size
       fed_finishes size is_size out failures = record {
         same = reference ∙ is.same;
-        written = subst (Appends a (held (outlet_writer new.outlet.now))) (append_assoc (sound_header d fs) (part_bytes d s whole first.range.start stop) (pad_of d fs))
-            (Appends-trans a m (held (outlet_writer new.outlet.now)) (sound_header d fs ++ part_bytes d s whole first.range.start stop) (pad_of d fs) all_put (subst (Appends m (held (outlet_writer new.outlet.now))) pad out));
+        written = subst (Appends a (held (outlet_writer new.outlet.now))) (append_assoc (sound_header first.range.head d fs) (part_bytes d s whole first.range.start stop) (pad_of d fs))
+            (Appends-trans a m (held (outlet_writer new.outlet.now)) (sound_header first.range.head d fs ++ part_bytes d s whole first.range.start stop) (pad_of d fs) all_put (subst (Appends m (held (outlet_writer new.outlet.now))) pad out));
         failures = failures ∙ is.failures;
-        size = is_size ∙ ap₂ (λ e u. wave_file_size e.now u) is.taps frames_are;
+        size = is_size ∙ ap (λ r. wave_file_size r.head old.taps.now t) is.range ∙ ap₂ (λ e u. wave_file_size first.range.head e.now u) is.taps frames_are;
       }
 
       pub fed_pad_refuses : (f : StreamFault) → IsWritingFault f → AppendsPrefix m (held (outlet_writer new.outlet.now)) (pad_of old.taps.now t) → outlet_failures new.outlet.now ≡ outlet_failures old.outlet.now + failed_writes {X = Unit {0}} (Err f) → RefusesPlaying held first new s whole f
@@ -220,8 +220,8 @@ module _ {W : Type 0} (held : W → Option (List ℕ)) (first old : PlayingSink 
         prefix = λ rest all.
             let none : whole ++ rest ≡ whole = ap (λ xs. whole ++ xs) (nil_from_length rest (omega (arith, all, long, length-append whole rest))) ∙ append-nil whole in
             subst (λ xs. AppendsPrefix a (held (outlet_writer new.outlet.now)) (range_file d s first.range xs)) (sym none)
-            (subst (AppendsPrefix a (held (outlet_writer new.outlet.now))) (append_assoc (sound_header d fs) (part_bytes d s whole first.range.start stop) (pad_of d fs))
-            (prefix_on a m (held (outlet_writer new.outlet.now)) (sound_header d fs ++ part_bytes d s whole first.range.start stop) (pad_of d fs) all_put (subst (AppendsPrefix m (held (outlet_writer new.outlet.now))) pad out)));
+            (subst (AppendsPrefix a (held (outlet_writer new.outlet.now))) (append_assoc (sound_header first.range.head d fs) (part_bytes d s whole first.range.start stop) (pad_of d fs))
+            (prefix_on a m (held (outlet_writer new.outlet.now)) (sound_header first.range.head d fs ++ part_bytes d s whole first.range.start stop) (pad_of d fs) all_put (subst (AppendsPrefix m (held (outlet_writer new.outlet.now))) pad out)));
         failures = failures ∙ ap (λ k. k + failed_writes {X = Unit {0}} (Err f)) is.failures;
       }
 
@@ -285,7 +285,7 @@ module _ {W : Type 0} (held : W → Option (List ℕ)) (first old : PlayingSink 
     whole_long : length (is.looked_at ++ is.passed_over) ≡ s.size
     whole_long = ap length (sym is.bytes_are) ∙ long
 
-    pub all_finishes : (size : ℕ) → size ≡ wave_file_size old.taps.now t → Appends m (held (outlet_writer new.outlet.now)) (pad_of old.taps.now t) → outlet_failures new.outlet.now ≡ outlet_failures old.outlet.now → FinishesPlaying held first new s bytes size
+    pub all_finishes : (size : ℕ) → size ≡ wave_file_size old.range.head old.taps.now t → Appends m (held (outlet_writer new.outlet.now)) (pad_of old.taps.now t) → outlet_failures new.outlet.now ≡ outlet_failures old.outlet.now → FinishesPlaying held first new s bytes size
     all_finishes size is_size out failures = subst (λ xs. FinishesPlaying held first new s xs size) (sym is.bytes_are) (fed_finishes held first old s is.looked_at is.feeding p was m puts is.passed_over whole_long new reference t frames size is_size out failures)
 
     pub pad_refuses : (f : StreamFault) → IsWritingFault f → AppendsPrefix m (held (outlet_writer new.outlet.now)) (pad_of old.taps.now t) → outlet_failures new.outlet.now ≡ outlet_failures old.outlet.now + failed_writes {X = Unit {0}} (Err f) → RefusesPlaying held first new s bytes f

@@ -9,6 +9,7 @@ use Rattle.dsd_bits.specs.Sounds.{sound_bytes, sound_channels}
 use Rattle.fir_core.specs.Decimator.{sample_at}
 use Rattle.fir_core.specs.Streams.{due_number, bits_held}
 use Rattle.wave_core.specs.Laws.{PartsJoin}
+use Rattle.wave_core.specs.Heads.{header_in, plain}
 use Rattle.wave_core.specs.Sizes.{pad_size, riff_size}
 use Rattle.wave_core.specs.Texts.{header, pad_bytes, sample_bytes}
 use Rattle.wave_core.proofs.SizeLaws.{length_of_header, length_of_samples}
@@ -28,12 +29,12 @@ sound_is_played law file r s d has is =
     let size = ap₂ (λ c k. riff_size c d.width k) (sym has.number) total in
     let bytes = flat_map (sample_bytes d.width) (frames d r.channels) in
     let all : all_bytes d s (sound_bytes file s) ≡ bytes = ap (λ cs. flat_map (sample_bytes d.width) (frames d cs)) (sym has.channels) in
-    let parts : file_around d s (all_bytes d s (sound_bytes file s)) ≡ header (length r.channels) (r.rate / d.factor) d.width n ++ (bytes ++ pad_bytes (length r.channels) d.width n)
-    = ap (file_around d s) all
+    let parts : file_around plain d s (all_bytes d s (sound_bytes file s)) ≡ header (length r.channels) (r.rate / d.factor) d.width n ++ (bytes ++ pad_bytes (length r.channels) d.width n)
+    = ap (file_around plain d s) all
     ∙ ap₂ (λ c k. header c (s.rate / d.factor) d.width k ++ (bytes ++ pad_bytes c d.width k)) (sym has.number) total
     ∙ ap (λ k. header (length r.channels) (k / d.factor) d.width n ++ (bytes ++ pad_bytes (length r.channels) d.width n)) (sym has.rate) in
     record {
-      whole = λ fits. text_is r d some law (file_around d s (all_bytes d s (sound_bytes file s))) (omega (arith, fits, size)) parts;
+      whole = λ fits. text_is r d some law (file_around plain d s (all_bytes d s (sound_bytes file s))) (omega (arith, fits, size)) parts;
       too_large = λ large. no_text r d some law (omega (arith, large, size));
     }
 
@@ -51,11 +52,11 @@ frames_fill d s bytes is whole all =
     ∙ mul_assoc (total_frames d s) s.channels (d.width / 8)
 
 pub file_has_size : FileHasSize
-file_has_size d s bytes long =
+file_has_size head d s bytes long =
     let n = total_frames d s in
-    let head = header s.channels (s.rate / d.factor) d.width n in
+    let front = header_in head s.channels (s.rate / d.factor) d.width n in
     let pad = pad_bytes s.channels d.width n in
-    omega (arith, long, length-append head (bytes ++ pad), length-append bytes pad, length_of_header s.channels (s.rate / d.factor) d.width n, length-replicate {A = ℕ} (pad_size s.channels d.width n) 0)
+    omega (arith, long, length-append front (bytes ++ pad), length-append bytes pad, length_of_header head s.channels (s.rate / d.factor) d.width n, length-replicate {A = ℕ} (pad_size s.channels d.width n) 0)
 
 -- ---- nothing is due before the first byte
 pub nothing_is_due : NothingIsDue

@@ -12,6 +12,7 @@ use Rattle.fir_core.specs.Decimator.{Decimator}
 use Rattle.interleave_core.specs.Reinterleaving.{reinterleaved}
 use Rattle.sound_core.specs.Files.{HoldsRecording}
 use Rattle.wave_core.specs.Contents.{Pcm}
+use Rattle.wave_core.specs.Heads.{plain}
 use Rattle.wave_core.specs.Texts.{wave_text}
 use Rattle.player_core.specs.Playing.{part_pcm}
 use Rattle.player_core.specs.declared.joining.JoiningSink.{JoiningSink}
@@ -87,7 +88,7 @@ pub record IsJoined (around : Neighbours) (s j : Sound) : Type 0 where
 
 -- the frames of a joined sound whose place lies in the sound itself
 abbrev pub own_range : Decimator → Neighbours → Sound → FrameRange
-own_range d around s = record { start = frame_after d (bits_before around); stop = Some (frame_after d (bits_before around + s.count)) }
+own_range d around s = record { head = plain; start = frame_after d (bits_before around); stop = Some (frame_after d (bits_before around + s.count)) }
 
 -- sound bytes of `count` bits of each channel, with a byte of each channel in turn
 abbrev pub framed : Interleaving → ℕ → ℕ → List ℕ → List ℕ

@@ -6,7 +6,8 @@ use Rattle.fir_core.specs.Decimator.{Decimator}
 use Rattle.player_core.specs.Groups.{place_in}
 use Rattle.player_core.specs.Ranges.{HasFrame}
 use Rattle.player_core.specs.declared.range.FrameRange.{FrameRange}
-use Rattle.wave_core.specs.Sizes.{block_align, header_size}
+use Rattle.wave_core.specs.Heads.{header_size_in}
+use Rattle.wave_core.specs.Sizes.{block_align}
 use Rattle.sound_core.specs.Files.{LeadsToSound}
 use Rattle.sound_core.specs.Sinks.{sound_given}
 use Rattle.player_core.specs.Playing.{PlaysBy, Applies, WritesPrefix}
@@ -24,8 +25,8 @@ IsWithinBytes s n i = (c : ℕ) → c < s.channels → place_in s.interleaving s
 -- the first `size` bytes of the WAVE file of a range hold its header, and each of its frames whose place is in the first
 -- n bytes of the sound
 pub record HoldsFrames (d : Decimator) (s : Sound) (range : FrameRange) (n size : ℕ) : Type 0 where
-  pub header : header_size s.channels d.width ≤ size
-  pub frames : (j : ℕ) → HasFrame range j → IsWithinBytes s n (j * d.factor + d.delay) → header_size s.channels d.width + (j + 1 - range.start) * block_align s.channels d.width ≤ size
+  pub header : header_size_in range.head s.channels d.width ≤ size
+  pub frames : (j : ℕ) → HasFrame range j → IsWithinBytes s n (j * d.factor + d.delay) → header_size_in range.head s.channels d.width + (j + 1 - range.start) * block_align s.channels d.width ≤ size
 
 -- a prefix of these bytes was written that holds them
 abbrev pub WritesFrames : Decimator → Sound → FrameRange → ℕ → List ℕ → Option (List ℕ) → Option (List ℕ) → Type 0

@@ -9,6 +9,7 @@ use Rattle.fir_core.specs.Decimator.{Decimator}
 use Rattle.fir_core.specs.Rests.{first_whole}
 use Rattle.wave_core.specs.Sizes.{block_align}
 use Rattle.wave_core.specs.Texts.{sample_bytes}
+use Rattle.wave_core.specs.declared.head.WaveHead.{WaveHead}
 use Rattle.player_core.specs.Due.{all_bytes}
 use Rattle.player_core.specs.Frames.{frame}
 use Rattle.player_core.specs.Groups.{group_size, part_size}
@@ -61,8 +62,8 @@ frames_sound d s number = record {
 }
 
 -- the WAVE file of a part: its header, the bytes of its frames, its pad
-abbrev pub part_file : Decimator → Sound → ℕ → ℕ → List ℕ → List ℕ
-part_file d s start stop bytes = file_around d (frames_sound d s (stop - start)) (part_bytes d s bytes start stop)
+abbrev pub part_file : WaveHead → Decimator → Sound → ℕ → ℕ → List ℕ → List ℕ
+part_file head d s start stop bytes = file_around head d (frames_sound d s (stop - start)) (part_bytes d s bytes start stop)
 
 -- ---- laws
 -- parts that meet make one part

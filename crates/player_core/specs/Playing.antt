@@ -17,8 +17,8 @@ use Rattle.player_core.specs.Ranges.{IsInside, IsOutside, number_of, stop_of, wh
 use Rattle.player_core.specs.Samples.{pcm}
 use Rattle.player_core.specs.declared.range.FrameRange.{FrameRange}
 use Rattle.wave_core.specs.Contents.{Pcm}
-use Rattle.wave_core.specs.Sizes.{FitsRiff, riff_size}
-use Rattle.wave_core.specs.Texts.{wave_text}
+use Rattle.wave_core.specs.Heads.{FitsIn, limit_of, size_in, text_in}
+use Rattle.wave_core.specs.declared.head.WaveHead.{WaveHead}
 use Rattle.sound_core.specs.Faults.{IsFromOutside}
 use Rattle.sound_core.specs.Files.{HoldsRecording, IsRefused, LeadsToSound}
 use Rattle.sound_core.specs.Readers.{CanFail, RunsOut}
@@ -40,14 +40,14 @@ part_pcm r d start stop = record {
 abbrev pub range_pcm : Content → Decimator → FrameRange → Pcm
 range_pcm r d range = part_pcm r d range.start (stop_of range (frame_count d r.channels))
 
--- the file holds a recording that has these frames, whose rate the factor divides, and these bytes are the WAVE text of
--- their samples
+-- the file holds a recording that has these frames, whose rate the factor divides, and these bytes are the text of a
+-- WAVE file of their samples
 pub record PlaysBy (d : Decimator) (range : FrameRange) (file bytes : List ℕ) : Type 0 where
   pub recording : Content
   pub file_holds : HoldsRecording file recording
   pub rate_divided : recording.rate % d.factor ≡ 0
   pub inside : IsInside range (frame_count d recording.channels)
-  pub text : wave_text (range_pcm recording d range) ≡ Some bytes
+  pub text : text_in range.head (range_pcm recording d range) ≡ Some bytes
 
 -- the prefix of the file describes a sound that lacks frames of the range
 pub record IsOutsideOf (d : Decimator) (range : FrameRange) (file : List ℕ) : Type 0 where
@@ -81,7 +81,7 @@ pub record IsTooLarge (d : Decimator) (range : FrameRange) (file : List ℕ) : T
   pub states : LeadsToSound prefix sound
   pub inside : IsInside range (total_frames d sound)
   pub divided : sound.rate % d.factor ≡ 0
-  pub large : 2 ^ 32 ≤ riff_size sound.channels d.width (number_of range (total_frames d sound))
+  pub large : limit_of range.head ≤ size_in range.head sound.channels d.width (number_of range (total_frames d sound))
 
 -- this fault applies; a device, the number of reads and memory don't depend on the file
 abbrev pub Applies : Decimator → FrameRange → List ℕ → StreamFault → Type 0
@@ -115,13 +115,13 @@ pub record WholeIsAll : Type 0 where
 
 -- what is played of a part of a recording in a file: the WAVE file around the bytes of the part's frames, or nothing
 -- where its sizes are too large
-pub record IsPartPlayed (file : List ℕ) (r : Content) (s : Sound) (d : Decimator) (start stop : ℕ) : Type 0 where
-  pub whole : FitsRiff s.channels d.width (stop - start) → wave_text (part_pcm r d start stop) ≡ Some (part_file d s start stop (sound_bytes file s))
-  pub too_large : 2 ^ 32 ≤ riff_size s.channels d.width (stop - start) → wave_text (part_pcm r d start stop) ≡ None
+pub record IsPartPlayed (file : List ℕ) (r : Content) (s : Sound) (head : WaveHead) (d : Decimator) (start stop : ℕ) : Type 0 where
+  pub whole : FitsIn head s.channels d.width (stop - start) → text_in head (part_pcm r d start stop) ≡ Some (part_file head d s start stop (sound_bytes file s))
+  pub too_large : limit_of head ≤ size_in head s.channels d.width (stop - start) → text_in head (part_pcm r d start stop) ≡ None
 
 -- the part of the sound of a recording in a file is all that is played of that part
 abbrev pub PartIsPlayed : Type 0
-PartIsPlayed = (file : List ℕ) (r : Content) (s : Sound) (d : Decimator) (start stop : ℕ) → HasSound file r s → IsSound s → (s.interleaving ≡ Bytes → s.count % 8 ≡ 0) → 8 ≤ d.factor → start ≤ stop → stop ≤ total_frames d s → IsPartPlayed file r s d start stop
+PartIsPlayed = (file : List ℕ) (r : Content) (s : Sound) (head : WaveHead) (d : Decimator) (start stop : ℕ) → HasSound file r s → IsSound s → (s.interleaving ≡ Bytes → s.count % 8 ≡ 0) → 8 ≤ d.factor → start ≤ stop → stop ≤ total_frames d s → IsPartPlayed file r s head d start stop
 
 -- ---- whatever it is that says what a file plays
 

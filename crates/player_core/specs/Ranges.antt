@@ -1,10 +1,11 @@
 -- Which frames of a recording are played.
 use Rattle.std.specs.Prelude.{◌⊎◌, ℕ, ◌-◌, ◌<◌, ◌≤◌, None, IfSome, unwrap_or}
 use Rattle.player_core.specs.declared.range.FrameRange.{FrameRange}
+use Rattle.wave_core.specs.Heads.{plain}
 
--- all frames
+-- all frames, in a file of the plain form
 abbrev pub whole_range : FrameRange
-whole_range = record { start = 0; stop = None }
+whole_range = record { start = 0; stop = None; head = plain }
 
 -- the frame after the last one of a range, if there are `total` frames
 abbrev pub stop_of : FrameRange → ℕ → ℕ

@@ -7,7 +7,7 @@ use Rattle.chunk_core.specs.declared.inlet.Inlet.{Inlet}
 use Rattle.dsd_bits.specs.declared.sound.Sound.{Sound}
 use Rattle.dsd_bits.specs.Sounds.{IsSound}
 use Rattle.fir_core.specs.Decimator.{Decimator}
-use Rattle.wave_core.specs.Sizes.{FitsRiff, riff_size}
+use Rattle.wave_core.specs.Heads.{FitsIn, limit_of, size_in}
 use Rattle.sound_core.specs.Faults.{IsBeforeWriting, failed_writes}
 use Rattle.sound_core.specs.declared.fault.StreamFault.{StreamFault}
 use Rattle.sound_core.specs.declared.fault.StreamFault.TheVariants.{FileRefused, RateNotDivided, TooLarge, WriteFailed, Memory}
@@ -28,7 +28,7 @@ range_sound d s range = frames_sound d s (number_of range (total_frames d s))
 
 -- the WAVE file of a range of a sound's frames
 abbrev pub range_file : Decimator → Sound → FrameRange → List ℕ → List ℕ
-range_file d s range bytes = part_file d s range.start (stop_of range (total_frames d s)) bytes
+range_file d s range bytes = part_file range.head d s range.start (stop_of range (total_frames d s)) bytes
 
 -- after these bytes of a sound that has the frames, whose rate the factor divides and whose sizes fit, the player was
 -- fed those from its start on; the header was written, and the frames that are due
@@ -39,14 +39,14 @@ pub record IsFeeding {W : Type 0} (held : W → Option (List ℕ)) (first now : 
   pub is_sound : IsSound s
   pub divided : s.rate % first.taps.now.factor ≡ 0
   pub inside : IsInside first.range (total_frames first.taps.now s)
-  pub fits : FitsRiff s.channels first.taps.now.width (number_of first.range (total_frames first.taps.now s))
+  pub fits : FitsIn first.range.head s.channels first.taps.now.width (number_of first.range (total_frames first.taps.now s))
   pub player : PartPlayer
   pub player_is : now.player.now ≡ Some player
   pub is_player : IsPartPlayer player
   pub plays : IsPartOf first.taps.now s first.range.start (stop_of first.range (total_frames first.taps.now s)) player
   pub fed : IsPartFed player (drop (part_start player) bytes)
   pub came : now.came ≡ length bytes
-  pub written : Appends (held (outlet_writer first.outlet.now)) (held (outlet_writer now.outlet.now)) (sound_header first.taps.now (range_sound first.taps.now s first.range) ++ part_due player (drop (part_start player) bytes))
+  pub written : Appends (held (outlet_writer first.outlet.now)) (held (outlet_writer now.outlet.now)) (sound_header first.range.head first.taps.now (range_sound first.taps.now s first.range) ++ part_due player (drop (part_start player) bytes))
   pub ready : outlet_failures first.outlet.now < 2 ^ 64 - 1
   pub failures : outlet_failures now.outlet.now ≡ outlet_failures first.outlet.now
 
@@ -63,7 +63,7 @@ pub record IsPlaying {W : Type 0} (held : W → Option (List ℕ)) (first now : 
 abbrev pub IsPlayingFault : Decimator → Sound → FrameRange → StreamFault → Type 0
 IsPlayingFault d s range FileRefused = IsOutside range (total_frames d s)
 IsPlayingFault d s range RateNotDivided = s.rate % d.factor ≢ 0
-IsPlayingFault d s range TooLarge = IsInside range (total_frames d s) × (s.rate % d.factor ≡ 0) × (2 ^ 32 ≤ riff_size s.channels d.width (number_of range (total_frames d s)))
+IsPlayingFault d s range TooLarge = IsInside range (total_frames d s) × (s.rate % d.factor ≡ 0) × (limit_of range.head ≤ size_in range.head s.channels d.width (number_of range (total_frames d s)))
 IsPlayingFault d s range WriteFailed = ⊤
 IsPlayingFault d s range Memory = ⊤
 IsPlayingFault d s range _ = ⊥
@@ -82,7 +82,7 @@ pub record FinishesPlaying {W : Type 0} (held : W → Option (List ℕ)) (first 
   pub same : now.outlet.ghost_name ≡ first.outlet.ghost_name
   pub written : Appends (held (outlet_writer first.outlet.now)) (held (outlet_writer now.outlet.now)) (range_file first.taps.now s first.range bytes)
   pub failures : outlet_failures now.outlet.now ≡ outlet_failures first.outlet.now
-  pub size : n ≡ wave_file_size first.taps.now (range_sound first.taps.now s first.range)
+  pub size : n ≡ wave_file_size first.range.head first.taps.now (range_sound first.taps.now s first.range)
 
 -- ---- a file that is read into the sink
 

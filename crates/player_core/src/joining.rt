@@ -1,6 +1,6 @@
 //! A sink that plays a sound between others, to which it is joined.
 
-ghost use Rattle.std.specs.Prelude.{◌≡◌, ◌+◌, ◌*◌, ◌/◌, ◌<◌, ◌≤◌, ◌^◌, IfErr, IfOk, IfSome, length};
+ghost use Rattle.std.specs.Prelude.{◌≡◌, ◌+◌, ◌*◌, ◌/◌, ◌<◌, ◌≤◌, ◌^◌, IfErr, IfOk, IfSome};
 ghost use Rattle.fir_core.specs.Decimator.{IsWithinLimits};
 ghost use Rattle.player_core.specs.Between as Between;
 ghost use Rattle.player_core.specs.Between.{IsJoined, bits_before};
@@ -14,6 +14,7 @@ use interleave_core::push_reinterleaved;
 use sound_core::{SoundPart, SoundSink, StreamFault};
 use std::alloc::Global;
 use std::io::Write;
+use wave_core::WaveHead;
 
 // How many sound bytes there are before or after at most.
 const MOST: usize = 65_536;
@@ -123,6 +124,7 @@ fn range_in(taps: &Taps, sound: &Sound, around: &Neighbours<'_>) -> FrameRange
     let factor = taps.factor() as usize;
     let before = 8 * (around.before.len() / around.channels);
     FrameRange {
+        head: WaveHead::plain(),
         start: before.div_ceil(factor),
         stop: Some((before + sound.count).div_ceil(factor)),
     }

@@ -99,4 +99,5 @@ pub use parts::PartPlayer;
 pub use pausing::PausedPart;
 pub use playing::play;
 pub use range::FrameRange;
+pub use wave_core::WaveHead;
 pub use wave_file::wave_of;

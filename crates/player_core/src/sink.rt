@@ -83,7 +83,7 @@ impl<'a, 't, W: Write> SoundSink for PlayingSink<'a, 't, W> {
         }
         let stop = stop_in(self.range, self.taps, &sound);
         let frames = frames_sound(self.taps, &sound, stop - self.range.start);
-        put_header(self.taps, &frames, self.out, self.outlet)?;
+        put_header(self.taps, &frames, self.range.head, self.out, self.outlet)?;
         let player = PartPlayer::new(alloc, self.taps, sound, self.range.start, stop)?;
         put_in(self.player, player);
         self.came = 0;
@@ -182,5 +182,5 @@ pub(crate) fn finish<W: Write>(
     let stop = stop_in(sink.range, sink.taps, sound);
     let frames = frames_sound(sink.taps, sound, stop - sink.range.start);
     put_pad(sink.taps, &frames, sink.out, sink.outlet)?;
-    Ok(file_size(sink.taps, &frames))
+    Ok(file_size(sink.taps, &frames, sink.range.head))
 }

@@ -15,7 +15,7 @@ use dsd_bits::Sound;
 use fir_core::Taps;
 use sound_core::{StreamFault, put};
 use std::io::Write;
-use wave_core::{WaveFault, WaveSpec};
+use wave_core::{WaveFault, WaveHead, WaveSpec};
 
 /// How many frames are played of a sound.
 pub(crate) fn total_frames(taps: &Taps, sound: &Sound) -> u64
@@ -34,11 +34,11 @@ fn spec_of(taps: &Taps, sound: &Sound) -> WaveSpec
 }
 
 /// How many bytes the WAVE file of a sound has.
-pub(crate) fn file_size(taps: &Taps, sound: &Sound) -> u64
+pub(crate) fn file_size(taps: &Taps, sound: &Sound, head: WaveHead) -> u64
     requires { IsSound sound.now }
-    ensures { result ≡ wave_file_size taps.now sound.now }
+    ensures { result ≡ wave_file_size head taps.now sound.now }
 {
-    spec_of(taps, sound).file_size(total_frames(taps, sound))
+    spec_of(taps, sound).file_size_as(head, total_frames(taps, sound))
 }
 
 /// Writes the header of the WAVE file of a sound.
@@ -47,15 +47,16 @@ pub(crate) fn file_size(taps: &Taps, sound: &Sound) -> u64
 pub(crate) fn put_header<W: Write>(
     taps: &Taps,
     sound: &Sound,
+    head: WaveHead,
     out: &mut Vec<u8>,
     outlet: &mut Outlet<W>,
 ) -> Result<(), StreamFault>
     requires sound { IsSound sound.now }
     requires ready { outlet_failures outlet.old < 2 ^ 64 - 1 }
-    ensures ok { OnOk result (OnOutlet W.contents outlet.old outlet.new (OpensWave taps.now sound.now)) }
-    ensures err { OnErr result (PutsPrefix W.contents outlet.old outlet.new (sound_header taps.now sound.now)) }
+    ensures ok { OnOk result (OnOutlet W.contents outlet.old outlet.new (OpensWave head taps.now sound.now)) }
+    ensures err { OnErr result (PutsPrefix W.contents outlet.old outlet.new (sound_header head taps.now sound.now)) }
     ensures least { OnOk result (8 ≤ taps.now.factor) }
-    ensures fault { IfErr result (IsOpeningFault taps.now sound.now) }
+    ensures fault { IfErr result (IsOpeningFault head taps.now sound.now) }
     ensures unwritten { IfErr result (λ f. IsBeforeWriting f → outlet_writer outlet.new ≡ outlet_writer outlet.old) }
     ensures failures { outlet_failures outlet.new ≡ outlet_failures outlet.old + failed_writes result }
 {
@@ -63,7 +64,7 @@ pub(crate) fn put_header<W: Write>(
         return Err(StreamFault::RateNotDivided);
     }
     out.clear();
-    match spec_of(taps, sound).push_header(out, total_frames(taps, sound)) {
+    match spec_of(taps, sound).push_header_as(out, head, total_frames(taps, sound)) {
         Ok(()) => put(outlet, out.as_slice()),
         Err(WaveFault::TooLarge) => Err(StreamFault::TooLarge),
         Err(WaveFault::Memory) => Err(StreamFault::Memory),

@@ -2,10 +2,7 @@
 -- which order a WAVE file has them (Microsoft, WAVEFORMATEXTENSIBLE).
 use Rattle.std.specs.Prelude.{ℕ, ◌+◌, Bool, false, true, List, [], ◌∷◌, Option, None, Some, codes, is_some, length, map, nat_eq, option_to_list, if◌then◌else◌}
 use Rattle.std.specs.List.{flat_map, range_with_len}
-use Rattle.chunk_core.specs.declared.numbers.Order.TheVariants.{Little}
-use Rattle.chunk_core.specs.Numbers.{bytes_of}
 use Rattle.dsd_bits.specs.Ids.{same_id}
-use Rattle.wave_core.specs.Sizes.{is_extensible}
 
 -- the loudspeaker that an ID of DSDIFF names, if it names one; a loudspeaker is the number of its bit in the mask: 0
 -- front left, 1 front right, 2 front centre, 3 low frequency, 4 back left, 5 back right
@@ -73,10 +70,6 @@ is_moved (c ∷ cs) place = if nat_eq c place then is_moved cs (place + 1) else 
 -- how many of the groups of a sound have their channels in another order: none if each channel stays where it is
 abbrev pub moved_groups : List ℕ → ℕ → ℕ
 moved_groups order groups = if is_moved order 0 then groups else 0
-
--- the bytes of a channel mask in the format chunk; its first form has no place for one
-abbrev pub mask_bytes : ℕ → ℕ → ℕ → List ℕ
-mask_bytes channels width mask = if is_extensible channels width then bytes_of Little 4 mask else []
 
 -- the ID of DSDIFF that names a loudspeaker of channels that aren't two
 abbrev pub speaker_id : ℕ → List ℕ

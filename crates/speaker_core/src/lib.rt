@@ -5,8 +5,7 @@
 //! of its own, the mask is 0, and the channels stay where they are.
 //!
 //! A [`ReorderedFile`] is read from its sound on, and its channels come in another order, group by group. It holds 4096
-//! bytes of each channel. A [`PatchedFile`] is written with some bytes, a [`Patch`], in place of those that come there.
-//! So what plays a file needs to know nothing of either.
+//! bytes of each channel. So what plays a file needs to know nothing of the order.
 //!
 //! The words of the contracts:
 //!
@@ -15,11 +14,9 @@
 //!   channel type, `layout_with` the type of a mask (`specs/Speakers.antt`).
 //! - `groups_in order size groups bytes` is bytes with the channels of their first groups in an order
 //!   (`specs/Reordering.antt`), `channels_in` channels in one, `left_in_order` what a `ReorderedFile` has left (`specs/Reordered.antt`).
-//! - `patched place new bytes` is bytes with others in place of as many (`specs/Patches.antt`), `written_to` what was
-//!   written to a `PatchedFile`, before its patch (`specs/Patched.antt`).
 //!
 //! What it promises: a `ReorderedFile` is a reader of what its file has left, in the new order, however its reads are
-//! cut; a read that fails loses nothing. A `PatchedFile` is a writer, and its file has what was written, patched.
+//! cut; a read that fails loses nothing.
 //!
 //! ```text
 //! let speakers = Speakers::of_ids(alloc, &[*b"MRGT", *b"MLFT"])?;    // mask 3, order 1, 0
@@ -28,12 +25,10 @@
 //! ```
 #![tactic(auto)]
 
-mod patched_file;
 mod reordered_file;
 mod reordering;
 mod speakers;
 
-pub use patched_file::{Patch, PatchedFile};
 pub use reordered_file::{ReorderedFile, Reordering};
 pub use reordering::reordered_bytes_hold_channels;
-pub use speakers::{Speakers, layout_ids, layout_with, mask_bytes};
+pub use speakers::{Speakers, layout_ids, layout_with};

@@ -6,7 +6,6 @@ ghost use Rattle.dsd_bits.specs.Layouts.{layout_channels};
 ghost use Rattle.speaker_core.specs.Reordering.{NamesChannels};
 ghost use Rattle.speaker_core.specs.Speakers as speakers;
 
-use chunk_core::{Order, push_u32};
 use std::alloc::{AllocError, Global};
 
 // The loudspeakers, in the order of the mask's bits.
@@ -80,22 +79,6 @@ impl Speakers {
     {
         if is_moved(&self.order) { groups } else { 0 }
     }
-}
-
-/// The bytes of a channel mask in the format chunk of a WAVE file; none if that has no place for it.
-pub fn mask_bytes(
-    alloc: Global,
-    channels: usize,
-    width: u32,
-    mask: u32,
-) -> Result<Vec<u8>, AllocError>
-    ensures { IfOk result (λ bytes. bytes.items ≡ speakers.mask_bytes channels width mask) }
-{
-    let mut bytes = Vec::new(alloc);
-    if width == 24 || channels > 2 {
-        push_u32(&mut bytes, Order::Little, mask)?;
-    }
-    Ok(bytes)
 }
 
 /// The channel type of DSF 1.01 that has the loudspeakers of a mask, and so its channels in the order of the mask's bits;

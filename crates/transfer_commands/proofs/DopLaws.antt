@@ -40,7 +40,7 @@ dop_played input output old new remaining held written given empty others stands
 -- a fault ended it, and what was written is given up
 pub dop_ended : (output : List ℕ) (old new : View) (remaining held written : Option (List ℕ)) → IsGivenUp output old new written → (fault : calls.Fault) → StopsDop remaining held written fault
     → (file : List ℕ) → remaining ≡ Some file → held ≡ Some [] → EndsDop file output old new fault
-dop_ended output old new remaining held written stays fault stops file left empty = record { stands = own.stands; prefix = by stays }
+dop_ended output old new remaining held written stays fault stops file left empty = record { stands = own.stands; outside = own.outside; prefix = by stays }
   where
     own : StopsDop (Some file) (Some []) written fault
     own = subst (λ o. StopsDop o (Some []) written fault) left (subst (λ o. StopsDop remaining o written fault) empty stops)

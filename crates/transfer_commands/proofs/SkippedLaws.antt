@@ -29,6 +29,7 @@ use Rattle.sound_core.specs.declared.fault.Unread.TheVariants as answers
 use Rattle.sound_core.specs.declared.outline.Outline.{Outline}
 use Rattle.sound_core.proofs.SameLaws.{stated_same}
 use Rattle.transfer_core.specs.Spans.{AreFramesOf}
+use Rattle.wave_core.specs.declared.head.WaveHead.{WaveHead}
 use Rattle.transfer_core.specs.Streaming.{PlaysRange, StreamApplies, part_range}
 use Rattle.transfer_core.specs.declared.frames.PlayedFrames.{PlayedFrames}
 use Rattle.transfer_core.specs.Unread.{AreSameBut, IsOfSound, IsUnreadBy}
@@ -202,8 +203,8 @@ pub factor_said : (project : List ℕ) (rate count : ℕ) (f : PlayedFrames) →
 factor_said project rate count f are = λ d says. ap (λ (e : Decimator). e.factor) (one_decimator project d are.decimator says are.says) ∙ sym are.factor_is
 
 -- what is around a part is not needed for it
-pub around_unneeded : (project : List ℕ) (prefix : List ℕ) (s : Sound) (factor start stop : ℕ) (gaps : Gaps) → LeadsToSound prefix s → IsFactorOf project factor → LieInSound s gaps → HoldNoBitOf s factor start stop gaps → AreNotNeeded project (part_range start stop) prefix gaps
-around_unneeded project prefix s factor start stop gaps states is within unread = inr (
+pub around_unneeded : (head : WaveHead) (project : List ℕ) (prefix : List ℕ) (s : Sound) (factor start stop : ℕ) (gaps : Gaps) → LeadsToSound prefix s → IsFactorOf project factor → LieInSound s gaps → HoldNoBitOf s factor start stop gaps → AreNotNeeded project (part_range head start stop) prefix gaps
+around_unneeded head project prefix s factor start stop gaps states is within unread = inr (
   s,
   record {
     leads = states;

@@ -1,6 +1,6 @@
 -- What becomes of a file that is played with its channels in an order, and a mask.
-use Rattle.std.proofs.Common.{◌≡◌, ◌⊎◌, ◌*◌, ◌/◌, ℕ, inl, inr, Bool, List, [], ◌++◌, IsTrue, Option, None, Some, Result, Ok, Err, drop, false, length, true, refl, subst, sym, ap, ap₂, ◌∙◌, append_assoc}
-use Rattle.std.specs.Prelude.{IfErr, IfOk, IfSome, IsOk, option_map, unwrap_or}
+use Rattle.std.proofs.Common.{◌≡◌, ◌⊎◌, ◌*◌, ◌/◌, ℕ, inl, inr, Bool, List, [], ◌++◌, IsTrue, Option, None, Some, Err, drop, false, length, true, refl, subst, sym, ap, ap₂, ◌∙◌, append_assoc}
+use Rattle.std.specs.Prelude.{option_map, unwrap_or}
 use Rattle.std.specs.Fmt.{option_append}
 use Rattle.std.specs.Io.KnownBytes.{prepend_known}
 use lib.Seq.{drop-append_seam, take-append_seam}
@@ -9,26 +9,18 @@ use Rattle.player_core.specs.Groups.{part_size}
 use Rattle.player_core.specs.Playing.{PlaysFile}
 use Rattle.player_core.specs.declared.range.FrameRange.{FrameRange}
 use Rattle.request_core.specs.declared.fault.Fault as calls
-use Rattle.request_core.specs.declared.fault.Fault.TheVariants as faults
-use Rattle.request_core.specs.Faults.{OfStream}
-use Rattle.form_core.specs.Opening.{opened_of}
-use Rattle.player_core.specs.Playing.{Applies}
-use Rattle.sound_core.specs.Faults.{IsFromOutside}
-use Rattle.sound_core.specs.Naming.{IfRefusedAs}
-use Rattle.sound_core.specs.declared.fault.Unread.TheVariants as answers
 use Rattle.sound_core.specs.Files.{LeadsToSound}
 use Rattle.speaker_core.specs.Speakers.{moved_groups}
 use Rattle.speaker_core.specs.declared.speakers.Speakers.{Speakers}
-use Rattle.sound_core.specs.declared.fault.StreamFault.TheVariants as streams
-use Rattle.speaker_core.specs.Patches.{patched}
 use Rattle.speaker_core.specs.Reordered.{reordered_known, reordering_groups, reordering_order, reordering_size}
 use Rattle.speaker_core.specs.Reordering.{groups_in}
 use Rattle.folder_core.specs.Files.{HadNone, IsGiven, IsGivenUp, IsReadOf, KeepsOthers, View}
+use Rattle.wave_core.specs.Heads.{head_of}
 use Rattle.transfer_core.specs.Streaming.{OnlyFromOutside, PlaysRange, StreamApplies, part_range}
 use Rattle.transfer_core.specs.declared.spans.Span.{Span}
-use Rattle.transfer_commands.specs.Playing.{PlaysSome, PlaysTo}
+use Rattle.transfer_commands.specs.Playing.{WritesRange}
 use Rattle.transfer_commands.specs.PartPlaying.{FindsSpan}
-use Rattle.transfer_commands.specs.Speaking.{AreSpeakersOf, IsToBeSpoken, LeavesOld, SpeaksFile, SpeaksPart, SpeaksTo, SpokenComesTo, StopsSpeaking, WritesSpoken, left_spoken, mask_place, ordered_spoken, with_order}
+use Rattle.transfer_commands.specs.Speaking.{AreSpeakersOf, IsToBeSpoken, LeavesOld, SpeaksFile, SpeaksPart, SpokenComesTo, StopsSpeaking, left_spoken, ordered_spoken, with_order}
 use Rattle.transfer_commands.specs.declared.fault.CommandFault.{CommandFault}
 use Rattle.transfer_commands.specs.declared.fault.CommandFault.TheVariants.{Call, ReadFailed, WriteFailed}
 use Rattle.transfer_commands.specs.declared.speaking.Spoken.{Spoken}
@@ -54,85 +46,45 @@ ordered_is head tail order size groups (Some rest) file is =
     let whole = λ (o : Option (List ℕ)). Some (with_order order size groups (length head) (unwrap_or o [])) in
     ap Some (sym (ap₂ (λ a b. a ++ groups_in order size groups b) (take-append_seam head own) (drop-append_seam head own))) ∙ ap whole is
 
--- ---- a reader's file
-any_left : (left : Option (List ℕ)) (P : List ℕ → Type 0) → ((file : List ℕ) → P file) → IfSome left P
-any_left None P holds = tt
-any_left (Some file) P holds = holds file
-
--- a file that could not be written
-not_written : (left : Option (List ℕ)) (project : List ℕ) (range : FrameRange) (n : ℕ) → PlaysSome project range n
-    → StreamApplies left project range (faults.Stream streams.WriteFailed) × OnlyFromOutside left project range (faults.Stream streams.WriteFailed)
-not_written left project range n some =
-    let plays = some.2 in
-    let d = plays.decimator in (
-      inr (
-        d,
-        plays.project_says,
-        (
-          answers.Stream streams.WriteFailed,
-          refl,
-          record {
-            applies = any_left left (λ file. Applies d range file streams.WriteFailed) (λ file. tt);
-            first = any_left left (λ file. IfRefusedAs (answers.Stream streams.WriteFailed) (λ fault. opened_of file ≡ Err fault)) (λ file. tt);
-            exact = λ is. absurd cc;
-          },
-        ),
-      ),
-      any_left left (λ file. (bytes : List ℕ) → PlaysRange project range file bytes → OfStream IsFromOutside (faults.Stream streams.WriteFailed)) (λ file bytes played. (streams.WriteFailed, refl, tt)),
-    )
-
-pub speaks : {R : Type 0} (left : R → Option (List ℕ)) (spoken : Spoken R) {W : Type 0} (held : W → Option (List ℕ)) (old new : W) (before after : Option (List ℕ)) (played came : Result ℕ calls.Fault) (has_mask : Bool)
-    → PlaysTo held spoken.project.now spoken.range (ordered_spoken left spoken) old new played → (before ≡ Some [] → held old ≡ Some []) → (has_mask ≡ true → IfSome (held new) (λ bytes. after ≡ Some (patched mask_place spoken.mask.items bytes)))
-    → IfOk came (λ n. (has_mask ≡ true) × (played ≡ Ok n)) → IfErr came (λ fault. ((fault ≡ faults.Stream streams.WriteFailed) × IsOk played) ⊎ (played ≡ Err fault)) → SpeaksTo left spoken before after came
-speaks left spoken held old new before after played (Ok n) has_mask plays empty masked ok err =
-    record { plain_before = held old; plain_after = held new; empty = empty; masked = masked ok.0; made = subst (PlaysTo held spoken.project.now spoken.range (ordered_spoken left spoken) old new) ok.1 plays }
-speaks left spoken held old new before after (Ok n) (Err fault) has_mask plays empty masked ok (inl unwritten) =
-    subst (λ (f : calls.Fault). StreamApplies (ordered_spoken left spoken) spoken.project.now spoken.range f × OnlyFromOutside (ordered_spoken left spoken) spoken.project.now spoken.range f) (sym unwritten.0)
-    (not_written (ordered_spoken left spoken) spoken.project.now spoken.range n plays.some)
-speaks left spoken held old new before after (Err other) (Err fault) has_mask plays empty masked ok (inl unwritten) = let no = unwritten.1 in absurd cc
-speaks left spoken held old new before after played (Err fault) has_mask plays empty masked ok (inr failed) =
-    let stops = subst (PlaysTo held spoken.project.now spoken.range (ordered_spoken left spoken) old new) failed plays in
-    (stops.stands, stops.outside)
-
 -- ---- a file that is played
 module _ {R : Type 0} (left : R → Option (List ℕ)) (spoken : Spoken R) (input output : List ℕ) (old new : View) (given : IsGiven old input (left_spoken left spoken)) (others : KeepsOthers output old new) where
   abbrev order : List ℕ → List ℕ
-  order = with_order (reordering_order spoken.reordering) (reordering_size spoken.reordering) (reordering_groups spoken.reordering) (length spoken.head.items)
+  order = with_order (reordering_order spoken.reordering) (reordering_size spoken.reordering) (reordering_groups spoken.reordering) (length spoken.before.items)
 
   in_its_order : (file : List ℕ) → left_spoken left spoken ≡ Some file → ordered_spoken left spoken ≡ Some (order file)
-  in_its_order file is = ordered_is spoken.head.items spoken.tail.items (reordering_order spoken.reordering) (reordering_size spoken.reordering) (reordering_groups spoken.reordering) (left spoken.file) file is
+  in_its_order file is = ordered_is spoken.before.items spoken.tail.items (reordering_order spoken.reordering) (reordering_size spoken.reordering) (reordering_groups spoken.reordering) (left spoken.file) file is
 
   -- all of it was written, and handed back
-  pub spoken_played : (held written : Option (List ℕ)) → (IsTrue old.is_known → held ≡ Some []) → (IsTrue old.is_known → new.file output ≡ written) → (n : ℕ) → WritesSpoken left spoken held written n
-      → SpeaksFile spoken.project.now spoken.range order spoken.mask.items input output old new n
+  pub spoken_played : (held written : Option (List ℕ)) → (IsTrue old.is_known → held ≡ Some []) → (IsTrue old.is_known → new.file output ≡ written) → (n : ℕ) → WritesRange spoken.project.now spoken.range (ordered_spoken left spoken) held written n
+      → SpeaksFile spoken.project.now spoken.range order input output old new n
   spoken_played held written empty stands n wrote = by old.is_known refl
     where
-      all : (file : List ℕ) (w : Option (List ℕ)) → PlaysFile (Some file) (PlaysRange spoken.project.now spoken.range) (Some []) w n → IfSome w (λ bytes. written ≡ Some (patched mask_place spoken.mask.items bytes))
-          → (bytes : List ℕ) × (written ≡ Some (patched mask_place spoken.mask.items bytes)) × PlaysRange spoken.project.now spoken.range file bytes × (n ≡ length bytes)
-      all file None h masked = absurd h.3
-      all file (Some w) h masked = (h.0, masked ∙ ap (λ xs. Some (patched mask_place spoken.mask.items xs)) h.3, h.1, h.2)
+      all : (file : List ℕ) (w : Option (List ℕ)) → PlaysFile (Some file) (PlaysRange spoken.project.now spoken.range) (Some []) w n → new.file output ≡ w
+          → (bytes : List ℕ) × (new.file output ≡ Some bytes) × PlaysRange spoken.project.now spoken.range file bytes × (n ≡ length bytes)
+      all file None h is = absurd h.3
+      all file (Some w) h is = (h.0, is ∙ ap (λ xs. Some xs) h.3, h.1, h.2)
 
-      by : (reported : Bool) → old.is_known ≡ reported → SpeaksFile spoken.project.now spoken.range order spoken.mask.items input output old new n
+      by : (reported : Bool) → old.is_known ≡ reported → SpeaksFile spoken.project.now spoken.range order input output old new n
       by true is =
           let g = given is in
-          let plain = wrote.empty (empty is) in
-          let whole = all (order g.0) wrote.plain_after (subst (λ o. PlaysFile o (PlaysRange spoken.project.now spoken.range) (Some []) wrote.plain_after n) (in_its_order g.0 g.2) (subst (λ o. PlaysFile (ordered_spoken left spoken) (PlaysRange spoken.project.now spoken.range) o wrote.plain_after n) plain wrote.made.plays)) wrote.masked in
+          let plays = subst (λ o. PlaysFile (ordered_spoken left spoken) (PlaysRange spoken.project.now spoken.range) o written n) (empty is) wrote.plays in
+          let whole = all (order g.0) written (subst (λ o. PlaysFile o (PlaysRange spoken.project.now spoken.range) (Some []) written n) (in_its_order g.0 g.2) plays) (stands is) in
           record {
             spoken = order g.0;
-            plain = whole.0;
+            bytes = whole.0;
             is_ordered = λ reported. (g.0, g.1, refl);
             plays = whole.2;
-            output_put = λ reported. stands is ∙ whole.1;
+            output_put = λ reported. whole.1;
             counted = whole.3;
             others = others;
           }
       by false is = record {
-        spoken = wrote.made.some.0;
-        plain = wrote.made.some.1;
+        spoken = wrote.some.0;
+        bytes = wrote.some.1;
         is_ordered = unknown_view old.is_known is;
-        plays = wrote.made.some.2;
+        plays = wrote.some.2;
         output_put = unknown_view new.is_known (others.same_known ∙ is);
-        counted = wrote.made.some.3;
+        counted = wrote.some.3;
         others = others;
       }
 
@@ -154,29 +106,28 @@ module _ {R : Type 0} (left : R → Option (List ℕ)) (spoken : Spoken R) (inpu
 
 -- ---- a part that is played
 -- a fault after the part was found
-pub speech_failed : (project : List ℕ) (range : FrameRange) (own : List ℕ → List ℕ) (mask input output : List ℕ) (old mid new : View) → mid ≡ old → (fault : CommandFault) → SpokenComesTo project range own mask input output mid new (Err fault)
+pub speech_failed : (project : List ℕ) (range : FrameRange) (own : List ℕ → List ℕ) (input output : List ℕ) (old mid new : View) → mid ≡ old → (fault : CommandFault) → SpokenComesTo project range own input output mid new (Err fault)
     → KeepsOthers output old new × LeavesOld output old new
-speech_failed project range own mask input output old mid new same (Call fault) h =
+speech_failed project range own input output old mid new same (Call fault) h =
     subst (λ (v : View). KeepsOthers output v new × LeavesOld output v new) same (h.others, h.left)
-speech_failed project range own mask input output old mid new same WriteFailed h =
+speech_failed project range own input output old mid new same WriteFailed h =
     subst (λ (v : View). KeepsOthers output v new × LeavesOld output v new) same (h.0, λ reported. inl h.1)
-speech_failed project range own mask input output old mid new same ReadFailed h = absurd h
+speech_failed project range own input output old mid new same ReadFailed h = absurd h
 
 -- what was found was played
-pub speech_ends : (project_name file_name output_name project : List ℕ) (span : Span) (old mid new : View) (start stop : ℕ) (speakers : Speakers) (prefix : List ℕ) (s : Sound) {R : Type 0} (spoken : Spoken R) (n : ℕ)
-    → IsReadOf old project_name project → AreSpeakersOf file_name old speakers → FindsSpan project file_name old span start stop → LeadsToSound prefix s → IsToBeSpoken project start stop speakers s spoken → mid ≡ old
-    → SpeaksFile spoken.project.now spoken.range (with_order (reordering_order spoken.reordering) (reordering_size spoken.reordering) (reordering_groups spoken.reordering) (length spoken.head.items)) spoken.mask.items file_name output_name mid new n
-    → SpeaksPart project_name file_name output_name span old new (record { size = n; mask = speakers.mask })
-speech_ends project_name file_name output_name project span old mid new start stop speakers prefix s spoken n project_read are_speakers has_span leads is same h =
-    let mask = spoken.mask.items in
+pub speech_ends : (is_wide : Bool) (project_name file_name output_name project : List ℕ) (span : Span) (old mid new : View) (start stop : ℕ) (speakers : Speakers) (prefix : List ℕ) (s : Sound) {R : Type 0} (spoken : Spoken R) (n : ℕ)
+    → IsReadOf old project_name project → AreSpeakersOf file_name old speakers → FindsSpan project file_name old span start stop → LeadsToSound prefix s → IsToBeSpoken project start stop speakers is_wide s spoken → mid ≡ old
+    → SpeaksFile spoken.project.now spoken.range (with_order (reordering_order spoken.reordering) (reordering_size spoken.reordering) (reordering_groups spoken.reordering) (length spoken.before.items)) file_name output_name mid new n
+    → SpeaksPart is_wide project_name file_name output_name span old new (record { size = n; mask = speakers.mask })
+speech_ends is_wide project_name file_name output_name project span old mid new start stop speakers prefix s spoken n project_read are_speakers has_span leads is same h =
     let size = part_size s.interleaving in
     let groups = moved_groups speakers.order.items (s.size / (s.channels * size)) in
-    let own = with_order (reordering_order spoken.reordering) (reordering_size spoken.reordering) (reordering_groups spoken.reordering) (length spoken.head.items) in
+    let own = with_order (reordering_order spoken.reordering) (reordering_size spoken.reordering) (reordering_groups spoken.reordering) (length spoken.before.items) in
     let order_is : own ≡ with_order speakers.order.items size groups s.start =
-    ap₂ (λ o k. with_order o k (reordering_groups spoken.reordering) (length spoken.head.items)) is.order_is is.size_is ∙ ap₂ (λ k m. with_order speakers.order.items size k m) is.groups_are is.start_is in
-    let ended = subst (λ (v : View). SpeaksFile spoken.project.now spoken.range own mask file_name output_name v new n) same h in
-    let named = subst (λ p. SpeaksFile p spoken.range own mask file_name output_name old new n) is.project_is ended in
-    let ranged = subst (λ (r : FrameRange). SpeaksFile project r own mask file_name output_name old new n) is.range_is named in
+    ap₂ (λ o k. with_order o k (reordering_groups spoken.reordering) (length spoken.before.items)) is.order_is is.size_is ∙ ap₂ (λ k m. with_order speakers.order.items size k m) is.groups_are is.start_is in
+    let ended = subst (λ (v : View). SpeaksFile spoken.project.now spoken.range own file_name output_name v new n) same h in
+    let named = subst (λ p. SpeaksFile p spoken.range own file_name output_name old new n) is.project_is ended in
+    let ranged = subst (λ (r : FrameRange). SpeaksFile project r own file_name output_name old new n) is.range_is named in
     record {
       project = project;
       start = start;
@@ -184,12 +135,10 @@ speech_ends project_name file_name output_name project span old mid new start st
       speakers = speakers;
       prefix = prefix;
       sound = s;
-      mask = mask;
       mask_is = refl;
       project_read = project_read;
-      has_mask = is.has_mask;
       are_speakers = are_speakers;
       has_span = has_span;
       leads = leads;
-      speaks = subst (λ (o : List ℕ → List ℕ). SpeaksFile project (part_range start stop) o mask file_name output_name old new n) order_is ranged;
+      speaks = subst (λ (o : List ℕ → List ℕ). SpeaksFile project (part_range (head_of is_wide speakers.mask) start stop) o file_name output_name old new n) order_is ranged;
     }

@@ -1,6 +1,6 @@
 -- How a folder changes if one of its files is played to another as DoP samples.
 use Rattle.std.specs.Prelude.{◌≡◌, ◌⊎◌, ℕ, List, [], ◌++◌, length, IsTrue, Option, Some, Result, Ok, Err}
-use Rattle.dop_core.specs.Playing.{DopAppliesBy, DopPlaysFile, DopWritesPrefix, PlaysDop}
+use Rattle.dop_core.specs.Playing.{DopAppliesBy, DopOnlyFromOutsideBy, DopPlaysFile, DopWritesPrefix, PlaysDop}
 use Rattle.folder_core.specs.Files.{HadNone, IsPut, IsReadOf, KeepsOthers, OpensAs, View}
 use Rattle.request_core.specs.Faults.{IfNamed, OfUnread}
 use Rattle.request_core.specs.declared.fault.Fault as calls
@@ -27,10 +27,11 @@ pub record HoldsDop (file : List ℕ) (fault : calls.Fault) (held : Option (List
   pub prefix : (bytes : List ℕ) → PlaysDop file bytes → (prefix : List ℕ) × (rest : List ℕ) × (held ≡ Some prefix) × (bytes ≡ prefix ++ rest)
   pub none : FailsBeforeWriting fault → held ≡ Some []
 
--- a fault ended the playing of a file, and is right; the output is unchanged, or no old one had to be kept and it holds
--- such a prefix
+-- a fault ended the playing of a file, and is right; a file that can be played is refused only for memory, a device or
+-- the number of reads; the output is unchanged, or no old one had to be kept and it holds such a prefix
 pub record EndsDop (file output_name : List ℕ) (old new : View) (fault : calls.Fault) : Type 0 where
   pub stands : OfUnread (λ u. DopAppliesBy (Some file) (plain u)) fault
+  pub outside : OfUnread (λ u. DopOnlyFromOutsideBy (Some file) (plain u)) fault
   pub prefix : (new.file output_name ≡ old.file output_name) ⊎ (HoldsDop file fault (new.file output_name) × HadNone output_name old)
 
 -- the same for bytes that an opening of the file gives, if the folder's bytes are known
@@ -60,10 +61,11 @@ pub record WritesDop (left held written : Option (List ℕ)) (n : ℕ) : Type 0 
   pub plays : DopPlaysFile left held written n
   pub some : (read : List ℕ) × (bytes : List ℕ) × PlaysDop read bytes × (n ≡ length bytes)
 
--- a fault ended the playing of a reader's file, and is right: what was written is a prefix, or nothing if it comes
--- before the first write
+-- a fault ended the playing of a reader's file, and is right; a file that can be played is refused only from outside:
+-- what was written is a prefix, or nothing if it comes before the first write
 pub record StopsDop (left held written : Option (List ℕ)) (fault : calls.Fault) : Type 0 where
   pub stands : OfUnread (λ u. DopAppliesBy left (plain u)) fault
+  pub outside : OfUnread (λ u. DopOnlyFromOutsideBy left (plain u)) fault
   pub named : IfNamed fault (IsFirstFault left)
   pub prefix : DopWritesPrefix left held written
   pub none : FailsBeforeWriting fault → written ≡ held

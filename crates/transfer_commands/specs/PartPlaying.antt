@@ -12,6 +12,7 @@ use Rattle.transfer_core.specs.declared.spans.Span.{Span}
 use Rattle.request_core.specs.declared.span_fault.SpanFault.{SpanFault}
 use Rattle.transfer_core.specs.Spans.{AreFramesOf, FramesRefused, IsSpanOf, SpanRefused}
 use Rattle.transfer_core.specs.Streaming.{PlaysRange, part_range}
+use Rattle.wave_core.specs.declared.head.WaveHead.{WaveHead}
 use Rattle.folder_core.specs.Files.{OpensAs, IsPut, IsReadOf, KeepsOthers, View}
 use Rattle.transfer_commands.specs.Gaps.{IsFactorOf}
 use Rattle.transfer_commands.specs.Playing.{EndsPlaying, NamesRead}
@@ -101,7 +102,7 @@ IsNotInSound project sound span (Spans fault) = (NamesMark span → ⊥) → (ma
 -- ---- the files
 -- the output holds `count` bytes now: the WAVE file of the span's part of the recording that was read, as the project
 -- that was read plays it; no other file changed
-pub record PlaysPartFiles (project_name file_name output_name : List ℕ) (span : Span) (old new : View) (count : ℕ) : Type 0 where
+pub record PlaysPartFiles (head : WaveHead) (project_name file_name output_name : List ℕ) (span : Span) (old new : View) (count : ℕ) : Type 0 where
   pub project : List ℕ
   pub file : List ℕ
   pub bytes : List ℕ
@@ -112,17 +113,17 @@ pub record PlaysPartFiles (project_name file_name output_name : List ℕ) (span 
   pub has_span : FindsSpan project file_name old span start stop
   pub output_put : IsPut new output_name bytes
   pub others : KeepsOthers output_name old new
-  pub plays : PlaysRange project (part_range start stop) file bytes
+  pub plays : PlaysRange project (part_range head start stop) file bytes
   pub counted : count ≡ length bytes
 
 -- the same of bytes that openings of the project and of a file give, where the folder has known bytes
-pub record LeavesPart (project_name file_name output_name : List ℕ) (span : Span) (old new : View) (fault : calls.Fault) : Type 0 where
+pub record LeavesPart (head : WaveHead) (project_name file_name output_name : List ℕ) (span : Span) (old new : View) (fault : calls.Fault) : Type 0 where
   pub project : List ℕ
   pub start : ℕ
   pub stop : ℕ
   pub project_read : IsReadOf old project_name project
   pub has_span : FindsSpan project file_name old span start stop
-  pub ended : IsTrue old.is_known → (file : List ℕ) × OpensAs old file_name file × EndsPlaying project (part_range start stop) file output_name old new fault
+  pub ended : IsTrue old.is_known → (file : List ℕ) × OpensAs old file_name file × EndsPlaying project (part_range head start stop) file output_name old new fault
   pub named : NamesRead file_name old fault
   pub others : KeepsOthers output_name old new
 
@@ -144,10 +145,11 @@ pub record IsPartUnwritten (project_name file_name output_name : List ℕ) (span
   pub same : new.file output_name ≡ old.file output_name
   pub others : KeepsOthers output_name old new
 
--- the folder before and after a part of the input was played to the output by the project came to this
-abbrev pub PlayPartComesTo : List ℕ → List ℕ → List ℕ → Span → View → View → Result ℕ PartFault → Type 0
-PlayPartComesTo project input output span old new (Ok count) = PlaysPartFiles project input output span old new count
-PlayPartComesTo project input output span old new (Err (Command (Call fault))) = ((new ≡ old) × (fault ≡ Memory)) ⊎ (IsPartRefused project input span old new (Command (Call fault)) ⊎ LeavesPart project input output span old new fault)
-PlayPartComesTo project input output span old new (Err (Command ReadFailed)) = new ≡ old
-PlayPartComesTo project input output span old new (Err (Command WriteFailed)) = IsPartUnwritten project input output span old new
-PlayPartComesTo project input output span old new (Err (Spans fault)) = IsPartRefused project input span old new (Spans fault)
+-- the folder before and after a part of the input was played to the output, whose header is written so, by the project
+-- came to this
+abbrev pub PlayPartComesTo : WaveHead → List ℕ → List ℕ → List ℕ → Span → View → View → Result ℕ PartFault → Type 0
+PlayPartComesTo head project input output span old new (Ok count) = PlaysPartFiles head project input output span old new count
+PlayPartComesTo head project input output span old new (Err (Command (Call fault))) = ((new ≡ old) × (fault ≡ Memory)) ⊎ (IsPartRefused project input span old new (Command (Call fault)) ⊎ LeavesPart head project input output span old new fault)
+PlayPartComesTo head project input output span old new (Err (Command ReadFailed)) = new ≡ old
+PlayPartComesTo head project input output span old new (Err (Command WriteFailed)) = IsPartUnwritten project input output span old new
+PlayPartComesTo head project input output span old new (Err (Spans fault)) = IsPartRefused project input span old new (Spans fault)

@@ -1,26 +1,22 @@
 -- What becomes of a file that another is played to so that it names the loudspeakers of its channels.
-use Rattle.std.specs.Prelude.{◌≡◌, ◌⊎◌, ℕ, ◌*◌, ◌/◌, Bool, true, false, List, [], ◌++◌, drop, length, take, IfSome, IsTrue, Option, Some, Result, Ok, Err}
+use Rattle.std.specs.Prelude.{◌≡◌, ◌⊎◌, ℕ, ◌*◌, ◌/◌, Bool, true, false, List, [], ◌++◌, drop, length, take, IsTrue, Option, Some, Result, Ok, Err}
 use Rattle.std.specs.Io.KnownBytes.{prepend_known}
 use Rattle.dsd_bits.specs.declared.sound.Sound.{Sound}
-use Rattle.fir_core.specs.Decimator.{Decimator}
 use Rattle.form_core.specs.declared.form.Form.{Form}
 use Rattle.form_core.specs.declared.form.Form.TheVariants as forms
 use Rattle.player_core.specs.Groups.{part_size}
 use Rattle.player_core.specs.declared.range.FrameRange.{FrameRange}
-use Rattle.request_core.specs.Projects.{SaysDecimator}
 use Rattle.request_core.specs.declared.fault.Fault as calls
 use Rattle.sound_core.specs.Files.{LeadsToSound}
-use Rattle.speaker_core.specs.Patched.{IsFresh}
-use Rattle.speaker_core.specs.Patches.{patched}
 use Rattle.speaker_core.specs.Reordered.{reordered_known, reordering_groups, reordering_order, reordering_size}
 use Rattle.speaker_core.specs.Reordering.{groups_in}
-use Rattle.speaker_core.specs.Speakers.{channel_speakers, mask_bytes, moved_groups, speaker_mask, speaker_order}
+use Rattle.speaker_core.specs.Speakers.{channel_speakers, moved_groups, speaker_mask, speaker_order}
 use Rattle.speaker_core.specs.declared.speakers.Speakers.{Speakers}
 use Rattle.folder_core.specs.Files.{HadNone, IsGiven, IsPut, IsReadOf, KeepsOthers, OpensAs, View}
+use Rattle.wave_core.specs.Heads.{head_of}
 use Rattle.transfer_core.specs.Streaming.{OnlyFromOutside, PlaysRange, StreamApplies, part_range}
 use Rattle.transfer_core.specs.declared.spans.Span.{Span}
 use Rattle.transfer_commands.specs.PartPlaying.{FindsSpan, ReportsRead}
-use Rattle.transfer_commands.specs.Playing.{WritesRange}
 use Rattle.transfer_commands.specs.declared.fault.CommandFault.{CommandFault}
 use Rattle.transfer_commands.specs.declared.fault.CommandFault.TheVariants.{Call, ReadFailed, WriteFailed}
 use Rattle.transfer_commands.specs.declared.parts.PartFault.{PartFault}
@@ -57,48 +53,27 @@ with_order order size groups start file = take start file ++ groups_in order siz
 abbrev pub in_order : List ℕ → Sound → List ℕ → List ℕ
 in_order order s file = with_order order (part_size s.interleaving) (moved_groups order (s.size / (s.channels * part_size s.interleaving))) s.start file
 
--- the place of the channel mask in a WAVE file
-abbrev pub mask_place : ℕ
-mask_place = 40
-
--- these are the bytes of a mask, as the WAVE file of a project's filter has them
-abbrev pub HasMask : List ℕ → ℕ → ℕ → List ℕ → Type 0
-HasMask project channels mask bytes = (d : Decimator) × SaysDecimator project d × (bytes ≡ mask_bytes channels d.width mask)
-
 -- ---- a file that was opened to be played like this
 -- what is left of it, where that is known
 abbrev pub left_spoken : {R : Type 0} → (R → Option (List ℕ)) → Spoken R → Option (List ℕ)
-left_spoken left spoken = prepend_known spoken.head.items (prepend_known spoken.tail.items (left spoken.file))
+left_spoken left spoken = prepend_known spoken.before.items (prepend_known spoken.tail.items (left spoken.file))
 
 -- the same with its channels in their order
 abbrev pub ordered_spoken : {R : Type 0} → (R → Option (List ℕ)) → Spoken R → Option (List ℕ)
-ordered_spoken left spoken = prepend_known spoken.head.items (reordered_known (reordering_order spoken.reordering) (reordering_size spoken.reordering) (reordering_groups spoken.reordering) (prepend_known spoken.tail.items (left spoken.file)))
-
--- it was played to a writer: what came to be written before the mask was put in its place, and n bytes of it
-pub record WritesSpoken {R : Type 0} (left : R → Option (List ℕ)) (spoken : Spoken R) (held written : Option (List ℕ)) (n : ℕ) : Type 0 where
-  pub plain_before : Option (List ℕ)
-  pub plain_after : Option (List ℕ)
-  pub empty : held ≡ Some [] → plain_before ≡ Some []
-  pub masked : IfSome plain_after (λ bytes. written ≡ Some (patched mask_place spoken.mask.items bytes))
-  pub made : WritesRange spoken.project.now spoken.range (ordered_spoken left spoken) plain_before plain_after n
-
--- how playing it to a writer ends; a fault is right
-abbrev pub SpeaksTo : {R : Type 0} → (R → Option (List ℕ)) → Spoken R → Option (List ℕ) → Option (List ℕ) → Result ℕ calls.Fault → Type 0
-SpeaksTo left spoken held written (Ok n) = WritesSpoken left spoken held written n
-SpeaksTo left spoken held written (Err fault) = StreamApplies (ordered_spoken left spoken) spoken.project.now spoken.range fault × OnlyFromOutside (ordered_spoken left spoken) spoken.project.now spoken.range fault
+ordered_spoken left spoken = prepend_known spoken.before.items (reordered_known (reordering_order spoken.reordering) (reordering_size spoken.reordering) (reordering_groups spoken.reordering) (prepend_known spoken.tail.items (left spoken.file)))
 
 -- the bytes that were read of a name, with their channels in an order; of an unknown folder, some bytes
 abbrev pub IsOrdered : View → List ℕ → (List ℕ → List ℕ) → List ℕ → Type 0
 IsOrdered old input order spoken = IsTrue old.is_known → (file : List ℕ) × OpensAs old input file × (spoken ≡ order file)
 
--- the output has `count` bytes now: the WAVE file of these frames with a mask; no other file changed
-pub record SpeaksFile (project : List ℕ) (range : FrameRange) (order : List ℕ → List ℕ) (mask input output : List ℕ) (old new : View) (count : ℕ) : Type 0 where
+-- the output has `count` bytes now: the WAVE file of these frames; no other file changed
+pub record SpeaksFile (project : List ℕ) (range : FrameRange) (order : List ℕ → List ℕ) (input output : List ℕ) (old new : View) (count : ℕ) : Type 0 where
   pub spoken : List ℕ
-  pub plain : List ℕ
+  pub bytes : List ℕ
   pub is_ordered : IsOrdered old input order spoken
-  pub plays : PlaysRange project range spoken plain
-  pub output_put : IsPut new output (patched mask_place mask plain)
-  pub counted : count ≡ length plain
+  pub plays : PlaysRange project range spoken bytes
+  pub output_put : IsPut new output bytes
+  pub counted : count ≡ length bytes
   pub others : KeepsOthers output old new
 
 -- a file is as it was, or it was given up and there was none
@@ -113,49 +88,45 @@ pub record StopsSpeaking (project : List ℕ) (range : FrameRange) (order : List
   pub others : KeepsOthers output old new
 
 -- how playing it to an empty file ends
-abbrev pub SpokenComesTo : List ℕ → FrameRange → (List ℕ → List ℕ) → List ℕ → List ℕ → List ℕ → View → View → Result ℕ CommandFault → Type 0
-SpokenComesTo project range order mask input output old new (Ok count) = SpeaksFile project range order mask input output old new count
-SpokenComesTo project range order mask input output old new (Err (Call fault)) = StopsSpeaking project range order input output old new fault
-SpokenComesTo project range order mask input output old new (Err WriteFailed) = KeepsOthers output old new × (new.file output ≡ old.file output)
-SpokenComesTo project range order mask input output old new (Err ReadFailed) = ⊥
+abbrev pub SpokenComesTo : List ℕ → FrameRange → (List ℕ → List ℕ) → List ℕ → List ℕ → View → View → Result ℕ CommandFault → Type 0
+SpokenComesTo project range order input output old new (Ok count) = SpeaksFile project range order input output old new count
+SpokenComesTo project range order input output old new (Err (Call fault)) = StopsSpeaking project range order input output old new fault
+SpokenComesTo project range order input output old new (Err WriteFailed) = KeepsOthers output old new × (new.file output ≡ old.file output)
+SpokenComesTo project range order input output old new (Err ReadFailed) = ⊥
 
 -- the same of a file that is played, whichever name it was opened under
 abbrev pub SpeechComesTo : {R : Type 0} → (R → Option (List ℕ)) → Spoken R → List ℕ → View → View → Result ℕ CommandFault → Type 0
 SpeechComesTo left spoken output old new came = (input : List ℕ) → IsGiven old input (left_spoken left spoken)
-    → SpokenComesTo spoken.project.now spoken.range (with_order (reordering_order spoken.reordering) (reordering_size spoken.reordering) (reordering_groups spoken.reordering) (length spoken.head.items)) spoken.mask.items input output old new came
+    → SpokenComesTo spoken.project.now spoken.range (with_order (reordering_order spoken.reordering) (reordering_size spoken.reordering) (reordering_groups spoken.reordering) (length spoken.before.items)) input output old new came
 
 -- a file is to be played from the start of its sound on, by the loudspeakers of a recording and a project's filter
-pub record IsToBeSpoken {R : Type 0} (project : List ℕ) (start stop : ℕ) (speakers : Speakers) (s : Sound) (spoken : Spoken R) : Type 0 where
+pub record IsToBeSpoken {R : Type 0} (project : List ℕ) (start stop : ℕ) (speakers : Speakers) (is_wide : Bool) (s : Sound) (spoken : Spoken R) : Type 0 where
   pub project_is : spoken.project.now ≡ project
-  pub range_is : spoken.range ≡ part_range start stop
+  pub range_is : spoken.range ≡ part_range (head_of is_wide speakers.mask) start stop
   pub order_is : reordering_order spoken.reordering ≡ speakers.order.items
   pub size_is : reordering_size spoken.reordering ≡ part_size s.interleaving
   pub groups_are : reordering_groups spoken.reordering ≡ moved_groups speakers.order.items (s.size / (s.channels * part_size s.interleaving))
-  pub start_is : length spoken.head.items ≡ s.start
-  pub fresh : IsFresh spoken.patch
-  pub has_mask : HasMask project s.channels speakers.mask spoken.mask.items
+  pub start_is : length spoken.before.items ≡ s.start
 
 -- ---- the files
 -- the output is now the WAVE file of the span's part of a recording, whose channels come in the order of the mask's
 -- bits, with the mask of their loudspeakers; its size and the mask are what was returned; no other file changed
-pub record SpeaksPart (project_name file_name output_name : List ℕ) (span : Span) (old new : View) (played : PlayedSpeakers) : Type 0 where
+pub record SpeaksPart (is_wide : Bool) (project_name file_name output_name : List ℕ) (span : Span) (old new : View) (played : PlayedSpeakers) : Type 0 where
   pub project : List ℕ
   pub start : ℕ
   pub stop : ℕ
   pub speakers : Speakers
   pub prefix : List ℕ
   pub sound : Sound
-  pub mask : List ℕ
   pub project_read : IsReadOf old project_name project
-  pub has_mask : HasMask project sound.channels speakers.mask mask
   pub mask_is : played.mask ≡ speakers.mask
   pub are_speakers : AreSpeakersOf file_name old speakers
   pub has_span : FindsSpan project file_name old span start stop
   pub leads : LeadsToSound prefix sound
-  pub speaks : SpeaksFile project (part_range start stop) (in_order speakers.order.items sound) mask file_name output_name old new played.size
+  pub speaks : SpeaksFile project (part_range (head_of is_wide speakers.mask) start stop) (in_order speakers.order.items sound) file_name output_name old new played.size
 
 -- the folder before and after the input was played to the output came to this: after a fault an old file is kept, and no
 -- other file changed
-abbrev pub SpeakComesTo : List ℕ → List ℕ → List ℕ → Span → View → View → Result PlayedSpeakers PartFault → Type 0
-SpeakComesTo project input output span old new (Ok played) = SpeaksPart project input output span old new played
-SpeakComesTo project input output span old new (Err fault) = KeepsOthers output old new × LeavesOld output old new
+abbrev pub SpeakComesTo : Bool → List ℕ → List ℕ → List ℕ → Span → View → View → Result PlayedSpeakers PartFault → Type 0
+SpeakComesTo is_wide project input output span old new (Ok played) = SpeaksPart is_wide project input output span old new played
+SpeakComesTo is_wide project input output span old new (Err fault) = KeepsOthers output old new × LeavesOld output old new

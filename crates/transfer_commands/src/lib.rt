@@ -62,7 +62,7 @@ pub use converting::convert_file;
 pub use fault::CommandFault;
 pub use laws::kept_sound_has_same_sums;
 pub use neighbour::NeighbourFault;
-pub use parts::{PartFault, play_part_file};
+pub use parts::{PartAsked, PartFault, play_part_file};
 pub use play_dop::play_dop_file;
 pub use playing::play_file;
 pub use reporting::{Reported, open_file};

@@ -8,6 +8,7 @@ ghost use Rattle.transfer_commands.specs.Gaps.{IsFactorOf};
 ghost use Rattle.transfer_commands.specs.Opening.{left_of};
 ghost use Rattle.transfer_commands.specs.Playing.{IsEnough};
 ghost use Rattle.transfer_core.specs.Streaming.{part_range};
+ghost use Rattle.wave_core.specs.Heads.{head_of};
 ghost use Rattle.transfer_commands.specs.PartPlaying.{HasSpanInSound, IsFound, IsMark, IsNotInSound, IsUnfound, NamesMark, PlayPartComesTo};
 ghost use Rattle.transfer_commands.specs.declared.fault.CommandFault.TheVariants as commands;
 ghost use Rattle.transfer_commands.specs.declared.parts.PartFault.TheVariants as faults;
@@ -20,7 +21,7 @@ use crate::reporting::open_past_sound;
 use dsd_bits::Sound;
 use folder_core::{FileFault, Folder};
 use place_core::Place;
-use player_core::FrameRange;
+use player_core::{FrameRange, WaveHead};
 use std::alloc::Global;
 use transfer_core::{Fault, Span, SpanFault, frames_of, span_of};
 
@@ -65,6 +66,15 @@ impl From<SpanFault> for PartFault {
     }
 }
 
+/// Which part of a recording is played, and to which form of file.
+#[derive(Clone, Copy)]
+pub struct PartAsked {
+    /// From where to where.
+    pub span: Span,
+    /// Whether the header of the WAVE file has room for sizes of 64 bits (RF64, EBU Tech 3306).
+    pub is_wide: bool,
+}
+
 /// A part that is played: the project's text, how many bits make a frame, the first frame, and the first after it.
 #[derive(Clone, Copy)]
 pub(crate) struct Part<'a> {
@@ -72,6 +82,22 @@ pub(crate) struct Part<'a> {
     pub(crate) factor: u32,
     pub(crate) start: usize,
     pub(crate) stop: usize,
+}
+
+impl Part<'_> {
+    ghost use Rattle.std.specs.Prelude.{◌≡◌};
+    ghost use Rattle.transfer_core.specs.Streaming.{part_range};
+
+    /// The frames of the part, with this head of their WAVE file.
+    pub(crate) fn range(&self, head: WaveHead) -> FrameRange
+        ensures { result ≡ part_range head self.now.start self.now.stop }
+    {
+        FrameRange {
+            start: self.start,
+            stop: Some(self.stop),
+            head,
+        }
+    }
 }
 
 /// A part that was found, and its file, of which the prefix was read.
@@ -98,13 +124,17 @@ pub fn play_part_file<F: Folder>(
     project: &str,
     input: &str,
     output: &str,
-    span: Span,
+    asked: PartAsked,
 ) -> Result<u64, PartFault>
-    ensures { PlayPartComesTo project.now input.now output.now span (F.view folder.old) (F.view folder.new) result }
+    ensures { PlayPartComesTo (head_of asked.is_wide 0) project.now input.now output.now asked.span (F.view folder.old) (F.view folder.new) result }
 {
     let project = read_project(alloc, folder, project)?;
-    let found = find_part(alloc, folder, &project, input, span)?;
-    Ok(play_to(alloc, folder, source_of(found), output)?)
+    let found = find_part(alloc, folder, &project, input, asked.span)?;
+    let head = WaveHead {
+        is_wide: asked.is_wide,
+        mask: 0,
+    };
+    Ok(play_to(alloc, folder, source_of(found, head), output)?)
 }
 
 /// The part of a file that a span names, by a project's text, and the file, opened to be played.
@@ -199,11 +229,11 @@ fn is_mark(place: Option<Place>) -> bool
 }
 
 // The file of a part that was found, to be played. The folder passes over the sound that the part doesn't need.
-fn source_of<R>(found: FoundPart<'_, R>) -> Source<'_, R>
+fn source_of<R>(found: FoundPart<'_, R>, head: WaveHead) -> Source<'_, R>
     requires states { LeadsToSound found.opened.prefix.items found.opened.sound }
     requires factor { IsFactorOf found.part.project.now found.part.factor }
     ensures project { result.project.now ≡ found.entry.part.project.now }
-    ensures range { result.range ≡ part_range found.entry.part.start found.entry.part.stop }
+    ensures range { result.range ≡ part_range head found.entry.part.start found.entry.part.stop }
     ensures bytes { result.prefix.items ≡ found.entry.opened.prefix.items }
     ensures file { result.file ≡ found.entry.opened.file }
     ensures enough { IsEnough result }
@@ -216,10 +246,7 @@ fn source_of<R>(found: FoundPart<'_, R>) -> Source<'_, R>
     } = opened;
     Source {
         project: part.project,
-        range: FrameRange {
-            start: part.start,
-            stop: Some(part.stop),
-        },
+        range: part.range(head),
         prefix,
         file,
         gaps: gaps_around(&sound, part.factor, part.start, part.stop),

@@ -1,34 +1,31 @@
 //! Plays a file of a folder so that its WAVE file names the loudspeakers of its channels.
 
-ghost use Rattle.std.specs.Prelude.{◌≡◌, ◌⊎◌, ◌++◌, ◌*◌, ◌/◌, ◌≤◌, Err, IfErr, IfOk, IsOk, List, Ok, Option, ℕ, length, true};
+ghost use Rattle.std.specs.Prelude.{◌≡◌, ◌++◌, ◌*◌, ◌/◌, ◌≤◌, IfOk, List, Option, ℕ, length};
 ghost use Rattle.sound_core.specs.Files.{LeadsToSound};
 ghost use Rattle.dsd_bits.specs.Sounds.{IsSound};
 ghost use Rattle.player_core.specs.Groups.{part_size};
-ghost use Rattle.speaker_core.specs.Patched.{IsFresh};
 ghost use Rattle.speaker_core.specs.Reordered.{left_in_order, reordered_known, reordering_groups, reordering_order, reordering_size};
 ghost use Rattle.speaker_core.specs.Reordering.{NamesChannels};
 ghost use Rattle.speaker_core.specs.Speakers.{moved_groups};
-ghost use Rattle.transfer_core.specs.Streaming.{part_range};
 ghost use Rattle.folder_core.specs.Files.{IsGiven, IsReadOf};
 ghost use Rattle.transfer_commands.specs.Opening.{left_of};
 ghost use Rattle.transfer_commands.specs.PartPlaying.{HasSpan, ReportsRead};
-ghost use Rattle.transfer_commands.specs.Speaking.{HasMask, IsToBeSpoken, SpeakComesTo, SpeaksTo, SpeechComesTo, left_spoken, mask_of as reported_mask, order_of};
+ghost use Rattle.transfer_commands.specs.Playing.{PlaysTo};
+ghost use Rattle.transfer_commands.specs.Speaking.{IsToBeSpoken, SpeakComesTo, SpeechComesTo, left_spoken, mask_of, order_of, ordered_spoken};
 
 use crate::fault::CommandFault;
 use crate::gaps::neighbours;
 use crate::holding::hold_file;
 use crate::opened::{OpenedFile, open_prefix};
 use crate::outlining::outline_reader;
-use crate::parts::{FoundPart, Part, PartFault};
+use crate::parts::{FoundPart, Part, PartAsked, PartFault};
 use crate::playing::{play_reader, read_project};
 use crate::reporting::{Reported, open_past_sound, reported_by};
 use dsd_bits::Sound;
 use folder_core::{Folder, hand_back};
 use form_core::Form;
-use player_core::FrameRange;
-use request_core::decimator_of;
-use sound_core::StreamFault;
-use speaker_core::{Patch, PatchedFile, ReorderedFile, Reordering, Speakers, mask_bytes};
+use player_core::{FrameRange, WaveHead};
+use speaker_core::{ReorderedFile, Reordering, Speakers};
 use std::alloc::Global;
 use std::io::{Cursor, Read, Write};
 use transfer_core::{Fault, Span, frames_of, span_of};
@@ -36,28 +33,21 @@ use transfer_core::{Fault, Span, frames_of, span_of};
 // No bytes, which a file that was held has left.
 const NOTHING: [u8; 0] = [];
 
-// The place of the channel mask in a WAVE file that has one.
-const MASK_PLACE: usize = 40;
-
-/// A file that is played by a project's text, with its channels in another order and a mask in its WAVE file.
+/// A file that is played by a project's text, with its channels in another order.
 #[derive(Drop)]
 pub(crate) struct Spoken<'a, R> {
     /// The project's text.
     pub(crate) project: &'a [u8],
-    /// The frames that are played.
+    /// The frames that are played, and the head of their WAVE file, which has the mask.
     pub(crate) range: FrameRange,
     /// The bytes before the sound, which were read.
-    pub(crate) head: Vec<u8>,
+    pub(crate) before: Vec<u8>,
     /// The first bytes of the sound, as far as they were read.
     pub(crate) tail: Vec<u8>,
     /// The file, which has the others left.
     pub(crate) file: R,
     /// The order of the channels.
     pub(crate) reordering: Reordering,
-    /// The bytes of the mask.
-    pub(crate) mask: Vec<u8>,
-    /// What writes them.
-    pub(crate) patch: Patch,
 }
 
 /// A file that was played with the loudspeakers of its channels.
@@ -85,15 +75,15 @@ pub fn play_speakers_file<F: Folder>(
     project: &str,
     input: &str,
     output: &str,
-    span: Span,
+    asked: PartAsked,
 ) -> Result<PlayedSpeakers, PartFault>
-    ensures { SpeakComesTo project.now input.now output.now span (F.view folder.old) (F.view folder.new) result }
+    ensures { SpeakComesTo asked.is_wide project.now input.now output.now asked.span (F.view folder.old) (F.view folder.new) result }
 {
     let text = read_project(alloc, folder, project)?;
     let asked = Asked {
         project: &text,
         output,
-        span,
+        part: asked,
     };
     if folder.reopens(input) {
         let reported = open_past_sound(alloc, folder, input)?;
@@ -109,7 +99,7 @@ pub fn play_speakers_file<F: Folder>(
 struct Asked<'a> {
     project: &'a [u8],
     output: &'a str,
-    span: Span,
+    part: PartAsked,
 }
 
 // Plays a file that was read whole.
@@ -121,7 +111,7 @@ fn speak_held<F: Folder>(
 ) -> Result<PlayedSpeakers, PartFault>
     ensures { (project input : List ℕ) → IsReadOf (F.view folder.old) project asked.entry.project.now
         → IsReadOf (F.view folder.old) input file.items
-        → SpeakComesTo project input asked.entry.output.now asked.entry.span (F.view folder.old) (F.view folder.new) result }
+        → SpeakComesTo asked.entry.part.is_wide project input asked.entry.output.now asked.entry.part.span (F.view folder.old) (F.view folder.new) result }
 {
     let outline = outline_reader(alloc, file.as_slice())?;
     let opened = OpenedFile {
@@ -146,12 +136,13 @@ fn speak_reported<F: Folder, R: Read + Drop>(
     ensures { (project input prefix : List ℕ) → IsReadOf (F.view folder.old) project asked.entry.project.now
         → ReportsRead input (F.view folder.old) reported.now → LeadsToSound prefix opened.sound
         → IsGiven (F.view folder.old) input (left_of R.remaining opened)
-        → SpeakComesTo project input asked.entry.output.now asked.entry.span (F.view folder.old) (F.view folder.new) result }
+        → SpeakComesTo asked.entry.part.is_wide project input asked.entry.output.now asked.entry.part.span (F.view folder.old) (F.view folder.new) result }
 {
     let speakers = named_by(alloc, reported)?;
-    let part = part_by(alloc, asked.project, reported, asked.span)?;
+    let part = part_by(alloc, asked.project, reported, asked.part.span)?;
     let mask = speakers.mask;
-    let spoken = spoken_of(alloc, FoundPart { part, opened }, speakers)?;
+    let found = FoundPart { part, opened };
+    let spoken = spoken_of(alloc, found, speakers, asked.part.is_wide)?;
     let size = speak_to(alloc, folder, spoken, asked.output)?;
     Ok(PlayedSpeakers { size, mask })
 }
@@ -180,7 +171,7 @@ fn part_by<'a>(
 
 // The loudspeakers of what is reported of a file.
 fn named_by(alloc: Global, reported: &Reported) -> Result<Speakers, Fault>
-    ensures mask { IfOk result (λ s. s.mask ≡ reported_mask reported.now) }
+    ensures mask { IfOk result (λ s. s.mask ≡ mask_of reported.now) }
     ensures order { IfOk result (λ s. s.order.items ≡ order_of reported.now) }
     ensures channels { IfOk result (λ s. NamesChannels s.order.items) }
 {
@@ -196,12 +187,13 @@ fn spoken_of<'a, R: Drop>(
     alloc: Global,
     found: FoundPart<'a, R>,
     speakers: Speakers,
+    is_wide: bool,
 ) -> Result<Spoken<'a, R>, CommandFault>
     requires sound { IsSound found.opened.sound }
     requires within { found.opened.sound.start ≤ length found.opened.prefix.items }
     requires channels { NamesChannels speakers.order.items }
     ensures spoken { IfOk result (IsToBeSpoken found.entry.part.project.now found.entry.part.start found.entry.part.stop
-        speakers found.entry.opened.sound) }
+        speakers is_wide found.entry.opened.sound) }
     ensures left { IfOk result (λ s. (left : R → Option (List ℕ)) → left_spoken left s ≡ left_of left found.entry.opened) }
 {
     let FoundPart { part, opened } = found;
@@ -213,45 +205,20 @@ fn spoken_of<'a, R: Drop>(
     if speakers.order.len() != sound.channels {
         return Err(CommandFault::ReadFailed);
     }
-    let (mask, patch) = mask_of(alloc, part.project, &sound, speakers.mask)?;
+    let head = WaveHead {
+        is_wide,
+        mask: speakers.mask,
+    };
     let reordering = reordering_of(alloc, &sound, speakers)?;
-    let (head, tail) = split(alloc, prefix, sound.start)?;
+    let (before, tail) = split(alloc, prefix, sound.start)?;
     Ok(Spoken {
         project: part.project,
-        range: range_of(part),
-        head,
+        range: part.range(head),
+        before,
         tail,
         file,
         reordering,
-        mask,
-        patch,
     })
-}
-
-// The frames of a part.
-fn range_of(part: Part<'_>) -> FrameRange
-    ensures { result ≡ part_range part.entry.start part.entry.stop }
-{
-    FrameRange {
-        start: part.start,
-        stop: Some(part.stop),
-    }
-}
-
-// The mask of a WAVE file of this sound, as the project's filter writes it, and what writes it.
-fn mask_of(
-    alloc: Global,
-    project: &[u8],
-    sound: &Sound,
-    mask: u32,
-) -> Result<(Vec<u8>, Patch), Fault>
-    ensures mask { IfOk result (λ p. HasMask project.now sound.now.channels mask p.0.items) }
-    ensures fresh { IfOk result (λ p. IsFresh p.1) }
-{
-    let width = decimator_of(alloc, project)?.width();
-    let bytes = mask_bytes(alloc, sound.channels, width, mask)?;
-    let same = mask_bytes(alloc, sound.channels, width, mask)?;
-    Ok((bytes, Patch::new(alloc, MASK_PLACE, same)?))
 }
 
 // The order in which the channels of a sound come.
@@ -289,7 +256,6 @@ fn speak_to<F: Folder, R: Read + Drop>(
     spoken: Spoken<'_, R>,
     output: &str,
 ) -> Result<u64, CommandFault>
-    requires { IsFresh spoken.patch }
     ensures { SpeechComesTo R.remaining spoken.entry output.now (F.view folder.old) (F.view folder.new) result }
 {
     let Ok(wave) = folder.create(output) else {
@@ -312,24 +278,20 @@ fn speak<R: Read + Drop, W: Write>(
     spoken: Spoken<'_, R>,
     wave: W,
 ) -> (Result<u64, Fault>, W)
-    requires { IsFresh spoken.patch }
-    ensures { SpeaksTo R.remaining spoken.entry (W.contents wave) (W.contents result.1) result.0 }
+    ensures { PlaysTo W.contents spoken.entry.project.now spoken.entry.range (ordered_spoken R.remaining spoken.entry)
+        wave result.1 result.0 }
 {
     let Spoken {
         project,
         range,
-        head,
+        before,
         tail,
         file,
         reordering,
-        mask,
-        patch,
     } = spoken;
     let sound = reordered(Cursor::new(tail).chain(file), reordering);
-    let reader = Cursor::new(head).chain(sound);
-    let (played, wave) = play_reader(alloc, project, range, reader, PatchedFile::new(wave, patch));
-    let has_mask = wave.has_patch(MASK_PLACE, &mask);
-    (masked(played, has_mask), wave.into_inner())
+    let reader = Cursor::new(before).chain(sound);
+    play_reader(alloc, project, range, reader, wave)
 }
 
 /// A file whose sound comes next, with its channels in another order.
@@ -338,17 +300,4 @@ pub(crate) fn reordered<R: Read>(file: R, reordering: Reordering) -> ReorderedFi
         (reordering_size reordering) (reordering_groups reordering) (R.remaining file) }
 {
     ReorderedFile::new(file, reordering)
-}
-
-// What playing came to, if the WAVE file has its mask. It has: but which writer a call hands back, its contract doesn't
-// say, so a file without it would be given up as one that could not be written.
-fn masked(played: Result<u64, Fault>, has_mask: bool) -> Result<u64, Fault>
-    ensures ok { IfOk result (λ n. (has_mask ≡ true) × (played ≡ Ok n)) }
-    ensures err { IfErr result (λ fault. ((fault ≡ Fault.Stream StreamFault.WriteFailed) × IsOk played) ⊎ (played ≡ Err fault)) }
-{
-    match played {
-        Ok(count) if has_mask => Ok(count),
-        Ok(_) => Err(Fault::Stream(StreamFault::WriteFailed)),
-        Err(fault) => Err(fault),
-    }
 }

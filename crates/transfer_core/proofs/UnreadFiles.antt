@@ -10,7 +10,7 @@ use Rattle.player_core.specs.declared.range.FrameRange.{FrameRange}
 use Rattle.request_core.proofs.ProjectLaws.{says_decimator}
 use Rattle.request_core.specs.Projects.{SaysDecimator}
 use Rattle.request_core.specs.declared.fault.Fault.{Fault}
-use Rattle.wave_core.specs.Texts.{wave_text}
+use Rattle.wave_core.specs.Heads.{text_in}
 use Rattle.transfer_core.specs.Unread.{AreSameBut, IsOfSound, IsUnreadBy, SoundDoesNotMatter, UnreadDoNotMatter}
 use Rattle.transfer_core.proofs.OtherSounds.{around_other, as_recording, first_fault, other_holds, recording_as}
 use Rattle.transfer_core.proofs.UnreadLaws.{inside_same, pcm_same, sound_long}
@@ -58,7 +58,7 @@ unread_do_not_matter project prefix rest other bytes d s range states says same 
       file_holds = form.1;
       rate_divided = ap (λ n. n % plays.decimator.factor) (also.rate ∙ sym has.rate) ∙ plays.rate_divided;
       inside = inside_same plays.decimator s states.is_sound states.whole file twin r made.0 has also range plays.inside;
-      text = ap wave_text pcm ∙ plays.text;
+      text = ap (text_in range.head) pcm ∙ plays.text;
     }
 
 pub sound_does_not_matter : SoundDoesNotMatter

@@ -3,7 +3,8 @@ use Rattle.std.specs.Prelude.{◌≡◌, ℕ, ◌-◌, ◌%◌, ◌<◌, ◌⊎�
 use Rattle.dsd_bits.specs.Contents.{Content}
 use Rattle.dsd_bits.specs.declared.sound.Sound.{Sound}
 use Rattle.fir_core.specs.Decimator.{Decimator}
-use Rattle.wave_core.specs.Texts.{wave_text}
+use Rattle.wave_core.specs.Heads.{text_in}
+use Rattle.wave_core.specs.declared.head.WaveHead.{WaveHead}
 use Rattle.form_core.specs.declared.form.Form.{Form}
 use Rattle.form_core.specs.Forms.{HoldsAs}
 use Rattle.form_core.specs.Opening.{opened_of}
@@ -23,12 +24,12 @@ use Rattle.request_core.specs.declared.fault.Fault.TheVariants.{Project, NoDecim
 use Rattle.request_core.specs.Faults.{OfStream, OfUnread}
 use Rattle.request_core.specs.Projects.{SaysDecimator, decimator_of_text}
 
--- the frames from one on, up to another that is not among them
-abbrev pub part_range : ℕ → ℕ → FrameRange
-part_range start stop = record { start = start; stop = Some stop }
+-- the frames from one on, up to another that is not among them, in a file whose header is written so
+abbrev pub part_range : WaveHead → ℕ → ℕ → FrameRange
+part_range head start stop = record { start = start; stop = Some stop; head = head }
 
 -- the project's text says a decimator, the file holds a recording that has these frames, the factor divides its rate,
--- and these bytes are the WAVE text of their samples
+-- and these bytes are the text of a WAVE file of their samples
 pub record PlaysRange (project : List ℕ) (range : FrameRange) (file bytes : List ℕ) : Type 0 where
   pub decimator : Decimator
   pub form : Form
@@ -37,7 +38,7 @@ pub record PlaysRange (project : List ℕ) (range : FrameRange) (file bytes : Li
   pub file_holds : HoldsAs file form recording
   pub rate_divided : recording.rate % decimator.factor ≡ 0
   pub inside : IsInside range (frame_count decimator recording.channels)
-  pub text : wave_text (range_pcm recording decimator range) ≡ Some bytes
+  pub text : text_in range.head (range_pcm recording decimator range) ≡ Some bytes
 
 -- a file that can be played is refused only for memory, a device or the number of reads
 abbrev pub OnlyFromOutside : Option (List ℕ) → List ℕ → FrameRange → Fault → Type 0

@@ -1,5 +1,6 @@
 pub mod Contents
 pub mod Frames
+pub mod Heads
 pub mod Laws
 pub mod Places
 pub mod Sizes

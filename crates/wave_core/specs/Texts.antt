@@ -19,36 +19,44 @@ format_tag channels width = if is_extensible channels width then 65534 else 1
 abbrev pub pcm_subformat : List ℕ
 pcm_subformat = 1 ∷ 0 ∷ 0 ∷ 0 ∷ 0 ∷ 0 ∷ 16 ∷ 0 ∷ 128 ∷ 0 ∷ 0 ∷ 170 ∷ 0 ∷ 56 ∷ 155 ∷ 113 ∷ []
 
--- the further fields of the second form: how many bytes follow, the number of valid bits of a sample, a channel mask of
--- 0, and the subformat
-abbrev pub extension : ℕ → ℕ → List ℕ
-extension channels width =
-    if is_extensible channels width then bytes_of Little 2 22 ++ bytes_of Little 2 width ++ bytes_of Little 4 0 ++ pcm_subformat else []
+-- the further fields of the second form: how many bytes follow, the number of valid bits of a sample, the channel mask,
+-- and the subformat
+abbrev pub extension : ℕ → ℕ → ℕ → List ℕ
+extension mask channels width =
+    if is_extensible channels width then bytes_of Little 2 22 ++ bytes_of Little 2 width ++ bytes_of Little 4 mask ++ pcm_subformat else []
 
 -- the format chunk: its size, the tag, the channels, the frames and the bytes per second, the bytes of a frame, the
--- bits of a sample, and the second form's extension
-abbrev pub format_chunk : ℕ → ℕ → ℕ → List ℕ
-format_chunk channels rate width =
+-- bits of a sample, and the second form's extension with a channel mask
+abbrev pub masked_format : ℕ → ℕ → ℕ → ℕ → List ℕ
+masked_format mask channels rate width =
     codes "fmt " ++ bytes_of Little 4 (format_size channels width) ++ bytes_of Little 2 (format_tag channels width) ++ bytes_of Little 2 channels
     ++ bytes_of Little 4 rate ++ bytes_of Little 4 (rate * block_align channels width) ++ bytes_of Little 2 (block_align channels width)
-    ++ bytes_of Little 2 width ++ extension channels width
+    ++ bytes_of Little 2 width ++ extension mask channels width
+
+-- the format chunk that assigns no channel to a loudspeaker
+abbrev pub format_chunk : ℕ → ℕ → ℕ → List ℕ
+format_chunk = masked_format 0
 
 -- the header of the data chunk
 abbrev pub data_head : ℕ → List ℕ
 data_head size = codes "data" ++ bytes_of Little 4 size
 
--- all bytes before the samples of n frames
-unfoldable pub header : ℕ → ℕ → ℕ → ℕ → List ℕ
-header channels rate width frames =
-    riff_head (riff_size channels width frames) ++ (format_chunk channels rate width ++ data_head (data_size channels width frames))
+-- all bytes before the samples of n frames, with a channel mask
+unfoldable pub masked_header : ℕ → ℕ → ℕ → ℕ → ℕ → List ℕ
+masked_header mask channels rate width frames =
+    riff_head (riff_size channels width frames) ++ (masked_format mask channels rate width ++ data_head (data_size channels width frames))
 
--- the format chunk of a file with this description
-abbrev pub format_of : WaveSpec → List ℕ
-format_of s = format_chunk s.channels s.rate s.width
+-- all bytes before the samples of n frames, if no channel is assigned to a loudspeaker
+abbrev pub header : ℕ → ℕ → ℕ → ℕ → List ℕ
+header = masked_header 0
+
+-- the format chunk of a file with this description and channel mask
+abbrev pub format_of : ℕ → WaveSpec → List ℕ
+format_of mask s = masked_format mask s.channels s.rate s.width
 
 -- all bytes before its samples, with the two sizes in them
-abbrev pub head_of : WaveSpec → ℕ → ℕ → List ℕ
-head_of s riff_bytes sound_bytes = riff_head riff_bytes ++ (format_of s ++ data_head sound_bytes)
+abbrev pub head_of : ℕ → WaveSpec → ℕ → ℕ → List ℕ
+head_of mask s riff_bytes sound_bytes = riff_head riff_bytes ++ (format_of mask s ++ data_head sound_bytes)
 
 -- all bytes before its samples, for n frames
 abbrev pub header_of : WaveSpec → ℕ → List ℕ

@@ -3,18 +3,18 @@
 ghost use Rattle.std.specs.Prelude.{◌≡◌, ◌≤◌, ◌^◌, ◌++◌, ◌↔◌, IfSome, IfNone, OnOk, OnErr};
 ghost use Rattle.wave_core.specs.Contents.{IsWaveSpec, spec_of};
 ghost use Rattle.wave_core.specs.Sizes.{FitsRiff, data_size, riff_size, riff_size_of};
-ghost use Rattle.wave_core.specs.Texts.{data_head, extension, format_of, head_of, header, header_of, riff_head};
+ghost use Rattle.wave_core.specs.Heads.{FitsIn, header_in, limit_of, size_in};
+ghost use Rattle.wave_core.specs.Texts.{data_head, extension, format_of, head_of, header, header_of, masked_header, riff_head};
 
 use crate::fault::WaveFault;
+use crate::head::WaveHead;
 use crate::spec::WaveSpec;
+use crate::wide::push_wide_header;
 use chunk_core::{Order, push_u16, push_u32};
 use std::alloc::AllocError;
 
 // How many bytes of the second form follow the field with their number.
 const EXTENSION_SIZE: u16 = 22;
-
-// No channel is assigned to a loudspeaker.
-const NO_LOUDSPEAKERS: u32 = 0;
 
 // The subformat of integer samples, 00000001-0000-0010-8000-00aa00389b71, as a file stores its bytes.
 const PCM_SUBFORMAT: [u8; 16] = [
@@ -57,21 +57,58 @@ pub fn push_header(
 
 impl WaveSpec {
     /// Appends the bytes before the samples of `frames` frames. Refusals as for [`push_header`].
-    #[tactic(auto, unfolding(crate::specs::Texts::header))]
     pub fn push_header(&self, out: &mut Vec<u8>, frames: u64) -> Result<(), WaveFault>
         ensures ok { OnOk result (out.new.items ≡ out.old.items ++ header_of self.now frames) }
         ensures fits { OnOk result (FitsRiff self.now.channels self.now.width frames) }
         ensures too_large { (result ≡ Err WaveFault.TooLarge) ↔ (2 ^ 32 ≤ riff_size_of self.now frames) }
         ensures unchanged { OnErr result (out.new.items ≡ out.old.items) }
     {
-        let Some(sizes) = sizes_of(self, frames) else {
-            return Err(WaveFault::TooLarge);
-        };
-        let mut header = Vec::with_capacity(*out.allocator(), self.header_size() as usize)?;
-        push_fields(&mut header, self, &sizes)?;
-        out.extend_from_slice(&header)?;
-        Ok(())
+        push_narrow_header(out, self, 0, frames)
     }
+
+    /// Appends the bytes before the samples of `frames` frames, written so: 44 or 68, and 36 more with room for sizes of 64 bits.
+    ///
+    /// Refusals, in this order: `TooLarge` if the size of the RIFF chunk would not fit 32 bits, or 64 if there is room
+    /// for them; `Memory`. After a refusal nothing was appended.
+    pub fn push_header_as(
+        &self,
+        out: &mut Vec<u8>,
+        head: WaveHead,
+        frames: u64,
+    ) -> Result<(), WaveFault>
+        ensures ok { OnOk result (out.new.items ≡ out.old.items ++ header_in head self.now.channels self.now.rate self.now.width frames) }
+        ensures fits { OnOk result (FitsIn head self.now.channels self.now.width frames) }
+        ensures too_large { (result ≡ Err WaveFault.TooLarge) ↔ (limit_of head ≤ size_in head self.now.channels self.now.width frames) }
+        ensures unchanged { OnErr result (out.new.items ≡ out.old.items) }
+    {
+        if head.is_wide {
+            push_wide_header(out, self, head.mask, frames)
+        } else {
+            push_narrow_header(out, self, head.mask, frames)
+        }
+    }
+}
+
+// Appends the bytes before the samples of `frames` frames, without room.
+#[tactic(auto, unfolding(crate::specs::Texts::masked_header))]
+fn push_narrow_header(
+    out: &mut Vec<u8>,
+    spec: &WaveSpec,
+    mask: u32,
+    frames: u64,
+) -> Result<(), WaveFault>
+    ensures ok { OnOk result (out.new.items ≡ out.old.items ++ masked_header mask spec.now.channels spec.now.rate spec.now.width frames) }
+    ensures fits { OnOk result (FitsRiff spec.now.channels spec.now.width frames) }
+    ensures too_large { (result ≡ Err WaveFault.TooLarge) ↔ (2 ^ 32 ≤ riff_size_of spec.now frames) }
+    ensures unchanged { OnErr result (out.new.items ≡ out.old.items) }
+{
+    let Some(sizes) = sizes_of(spec, frames) else {
+        return Err(WaveFault::TooLarge);
+    };
+    let mut header = Vec::with_capacity(*out.allocator(), spec.header_size() as usize)?;
+    push_fields(&mut header, spec, mask, &sizes)?;
+    out.extend_from_slice(&header)?;
+    Ok(())
 }
 
 // The sizes for `frames` frames, if they fit.
@@ -99,18 +136,19 @@ pub(crate) fn sizes_of(spec: &WaveSpec, frames: u64) -> Option<Sizes>
 pub(crate) fn push_fields(
     out: &mut Vec<u8>,
     spec: &WaveSpec,
+    mask: u32,
     sizes: &Sizes,
 ) -> Result<(), AllocError>
-    ensures { OnOk result (out.new.items ≡ out.old.items ++ head_of spec.now sizes.now.riff_size sizes.now.data_size) }
+    ensures { OnOk result (out.new.items ≡ out.old.items ++ head_of mask spec.now sizes.now.riff_size sizes.now.data_size) }
 {
     push_riff_head(out, sizes.riff_size)?;
-    push_format(out, spec)?;
+    push_format(out, spec, mask)?;
     push_data_head(out, sizes.data_size)?;
     Ok(())
 }
 
 // Appends the header of the RIFF chunk and its type.
-fn push_riff_head(out: &mut Vec<u8>, riff_size: u32) -> Result<(), AllocError>
+pub(crate) fn push_riff_head(out: &mut Vec<u8>, riff_size: u32) -> Result<(), AllocError>
     ensures { OnOk result (out.new.items ≡ out.old.items ++ riff_head riff_size) }
 {
     out.extend_from_slice(b"RIFF")?;
@@ -120,8 +158,8 @@ fn push_riff_head(out: &mut Vec<u8>, riff_size: u32) -> Result<(), AllocError>
 }
 
 // Appends the format chunk.
-fn push_format(out: &mut Vec<u8>, spec: &WaveSpec) -> Result<(), AllocError>
-    ensures { OnOk result (out.new.items ≡ out.old.items ++ format_of spec.now) }
+pub(crate) fn push_format(out: &mut Vec<u8>, spec: &WaveSpec, mask: u32) -> Result<(), AllocError>
+    ensures { OnOk result (out.new.items ≡ out.old.items ++ format_of mask spec.now) }
 {
     let block_align = spec.block_align();
     out.extend_from_slice(b"fmt ")?;
@@ -132,25 +170,25 @@ fn push_format(out: &mut Vec<u8>, spec: &WaveSpec) -> Result<(), AllocError>
     push_u32(out, Order::Little, spec.rate * u32::from(block_align))?;
     push_u16(out, Order::Little, block_align)?;
     push_u16(out, Order::Little, spec.width as u16)?;
-    push_extension(out, spec)?;
+    push_extension(out, spec, mask)?;
     Ok(())
 }
 
 // Appends the further fields of the format chunk's second form.
-fn push_extension(out: &mut Vec<u8>, spec: &WaveSpec) -> Result<(), AllocError>
-    ensures { OnOk result (out.new.items ≡ out.old.items ++ extension spec.now.channels spec.now.width) }
+fn push_extension(out: &mut Vec<u8>, spec: &WaveSpec, mask: u32) -> Result<(), AllocError>
+    ensures { OnOk result (out.new.items ≡ out.old.items ++ extension mask spec.now.channels spec.now.width) }
 {
     if !spec.is_extensible() {
         return Ok(());
     }
     push_u16(out, Order::Little, EXTENSION_SIZE)?;
     push_u16(out, Order::Little, spec.width as u16)?;
-    push_u32(out, Order::Little, NO_LOUDSPEAKERS)?;
+    push_u32(out, Order::Little, mask)?;
     out.extend_from_slice(&PCM_SUBFORMAT)
 }
 
 // Appends the header of the data chunk.
-fn push_data_head(out: &mut Vec<u8>, data_size: u32) -> Result<(), AllocError>
+pub(crate) fn push_data_head(out: &mut Vec<u8>, data_size: u32) -> Result<(), AllocError>
     ensures { OnOk result (out.new.items ≡ out.old.items ++ data_head data_size) }
 {
     out.extend_from_slice(b"data")?;

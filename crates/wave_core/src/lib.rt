@@ -38,15 +38,18 @@
 #![tactic(auto)]
 
 mod fault;
+mod head;
 mod header;
 mod pcm;
 mod sound;
 mod spec;
+mod wide;
 mod writing;
 
 pub use fault::WaveFault;
+pub use head::WaveHead;
 pub use header::push_header;
 pub use pcm::Pcm;
 pub use sound::{push_frames, push_pad, push_sample};
 pub use spec::WaveSpec;
-pub use writing::{parts_join, write};
+pub use writing::{parts_join, sound_is_same, write};

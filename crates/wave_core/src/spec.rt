@@ -2,9 +2,11 @@
 
 ghost use Rattle.std.specs.Prelude.{◌≡◌, ◌+◌, ◌≤◌, ◌^◌};
 ghost use Rattle.wave_core.specs.Contents.{IsWaveSpec, spec_of};
+ghost use Rattle.wave_core.specs.Heads.{file_size_in};
 ghost use Rattle.wave_core.specs.Sizes as sizes;
 ghost use Rattle.wave_core.specs.Texts.{format_tag};
 
+use crate::head::WaveHead;
 use std::marker::Model;
 
 /// What a WAVE file says about its samples: the channels of a frame, 1 to 6, the frames per second, 1 to 6,250,000, and
@@ -54,6 +56,16 @@ impl WaveSpec {
     {
         let data = frames * u64::from(self.block_align());
         self.header_size() + data + data % 2
+    }
+
+    /// How many bytes it has if its header is written so.
+    pub fn file_size_as(&self, head: WaveHead, frames: u64) -> u64
+        requires { frames ≤ 2 ^ 36 }
+        ensures { result ≡ file_size_in head self.now.channels self.now.width frames }
+    {
+        let data = frames * u64::from(self.block_align());
+        let room = if head.is_wide { 36 } else { 0 };
+        room + self.header_size() + data + data % 2
     }
 
     // How many bytes of data the format chunk has.

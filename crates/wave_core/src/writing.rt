@@ -3,7 +3,7 @@
 ghost use Rattle.std.specs.Prelude.{◌≡◌, ◌↔◌, ◌++◌, All, IfOk, OnOk, None, Some};
 ghost use Rattle.std.specs.List.{flat_map};
 ghost use Rattle.wave_core.specs.Contents.{IsSample, IsWidth};
-ghost use Rattle.wave_core.specs.Laws.{PartsJoin};
+ghost use Rattle.wave_core.specs.Laws.{PartsJoin, SoundIsSame};
 ghost use Rattle.wave_core.specs.Texts.{sample_bytes, wave_text};
 
 use crate::fault::WaveFault;
@@ -17,7 +17,7 @@ use std::alloc::{AllocError, Global};
 ///
 /// Refusals, in this order: `TooLarge` if the size of the RIFF chunk would not fit 32 bits, for which no memory is
 /// needed; `Memory`.
-#[tactic(auto, unfolding(crate::specs::Texts::header))]
+#[tactic(auto, unfolding(crate::specs::Texts::masked_header))]
 pub fn write(alloc: Global, pcm: &Pcm) -> Result<Vec<u8>, WaveFault>
     ensures text { IfOk result (λ file. wave_text pcm.now ≡ Some file.items) }
     ensures too_large { (result ≡ Err WaveFault.TooLarge) ↔ (wave_text pcm.now ≡ None) }
@@ -28,7 +28,7 @@ pub fn write(alloc: Global, pcm: &Pcm) -> Result<Vec<u8>, WaveFault>
         return Err(WaveFault::TooLarge);
     };
     let mut out = Vec::with_capacity(alloc, 8 + sizes.riff_size as usize)?;
-    push_fields(&mut out, spec, &sizes)?;
+    push_fields(&mut out, spec, 0, &sizes)?;
     push_samples(&mut out, spec.width, &pcm.samples)?;
     spec.push_pad(&mut out, frames)?;
     Ok(out)
@@ -50,4 +50,10 @@ fn push_samples(out: &mut Vec<u8>, width: u32, samples: &[i32]) -> Result<(), Al
 /// large there is none. The function does nothing: a caller's proof cites what it ensures.
 pub fn parts_join()
     ensures { PartsJoin }
+{}
+
+/// The law of the header: after it, all files of the same samples have the same bytes, with or without room for sizes of
+/// 64 bits. The function does nothing: a caller's proof cites what it ensures.
+pub fn sound_is_same()
+    ensures { SoundIsSame }
 {}

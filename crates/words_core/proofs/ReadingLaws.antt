@@ -73,6 +73,7 @@ module _ (line : Line) (given : Options) (was : AreGiven line given) where
     previous = file_still line (Name word) option_names.Previous given.previous refl was.previous;
     next = file_still line (Name word) option_names.Next given.next refl was.next;
     speakers = flag_still line (Name word) option_names.Speakers given.speakers refl was.speakers;
+    rf64 = flag_still line (Name word) option_names.Rf64 given.rf64 refl was.rf64;
     dop = flag_still line (Name word) option_names.Dop given.dop refl was.dop;
     check = flag_still line (Name word) option_names.Check given.check refl was.check;
   }
@@ -84,8 +85,21 @@ module _ (line : Line) (given : Options) (was : AreGiven line given) where
     previous = file_still line (Flag option_names.Speakers) option_names.Previous given.previous refl was.previous;
     next = file_still line (Flag option_names.Speakers) option_names.Next given.next refl was.next;
     speakers = flag_there line (Flag option_names.Speakers) option_names.Speakers refl;
+    rf64 = flag_still line (Flag option_names.Speakers) option_names.Rf64 given.rf64 refl was.rf64;
     dop = flag_still line (Flag option_names.Speakers) option_names.Dop given.dop refl was.dop;
     check = flag_still line (Flag option_names.Speakers) option_names.Check given.check refl was.check;
+  }
+
+  rf64_given : AreGiven (with_item line (Flag option_names.Rf64)) (record given { rf64 = true })
+  rf64_given = record {
+    from = place_still line (Flag option_names.Rf64) option_names.From given.from refl was.from;
+    to = place_still line (Flag option_names.Rf64) option_names.To given.to refl was.to;
+    previous = file_still line (Flag option_names.Rf64) option_names.Previous given.previous refl was.previous;
+    next = file_still line (Flag option_names.Rf64) option_names.Next given.next refl was.next;
+    speakers = flag_still line (Flag option_names.Rf64) option_names.Speakers given.speakers refl was.speakers;
+    rf64 = flag_there line (Flag option_names.Rf64) option_names.Rf64 refl;
+    dop = flag_still line (Flag option_names.Rf64) option_names.Dop given.dop refl was.dop;
+    check = flag_still line (Flag option_names.Rf64) option_names.Check given.check refl was.check;
   }
 
   dop_given : AreGiven (with_item line (Flag option_names.Dop)) (record given { dop = true })
@@ -95,6 +109,7 @@ module _ (line : Line) (given : Options) (was : AreGiven line given) where
     previous = file_still line (Flag option_names.Dop) option_names.Previous given.previous refl was.previous;
     next = file_still line (Flag option_names.Dop) option_names.Next given.next refl was.next;
     speakers = flag_still line (Flag option_names.Dop) option_names.Speakers given.speakers refl was.speakers;
+    rf64 = flag_still line (Flag option_names.Dop) option_names.Rf64 given.rf64 refl was.rf64;
     dop = flag_there line (Flag option_names.Dop) option_names.Dop refl;
     check = flag_still line (Flag option_names.Dop) option_names.Check given.check refl was.check;
   }
@@ -106,6 +121,7 @@ module _ (line : Line) (given : Options) (was : AreGiven line given) where
     previous = file_still line (Flag option_names.Check) option_names.Previous given.previous refl was.previous;
     next = file_still line (Flag option_names.Check) option_names.Next given.next refl was.next;
     speakers = flag_still line (Flag option_names.Check) option_names.Speakers given.speakers refl was.speakers;
+    rf64 = flag_still line (Flag option_names.Check) option_names.Rf64 given.rf64 refl was.rf64;
     dop = flag_still line (Flag option_names.Check) option_names.Dop given.dop refl was.dop;
     check = flag_there line (Flag option_names.Check) option_names.Check refl;
   }
@@ -118,6 +134,7 @@ module _ (line : Line) (given : Options) (was : AreGiven line given) where
     previous = file_still line (Valued option_names.From is_joined word) option_names.Previous given.previous refl was.previous;
     next = file_still line (Valued option_names.From is_joined word) option_names.Next given.next refl was.next;
     speakers = flag_still line (Valued option_names.From is_joined word) option_names.Speakers given.speakers refl was.speakers;
+    rf64 = flag_still line (Valued option_names.From is_joined word) option_names.Rf64 given.rf64 refl was.rf64;
     dop = flag_still line (Valued option_names.From is_joined word) option_names.Dop given.dop refl was.dop;
     check = flag_still line (Valued option_names.From is_joined word) option_names.Check given.check refl was.check;
   }
@@ -130,6 +147,7 @@ module _ (line : Line) (given : Options) (was : AreGiven line given) where
     previous = file_still line (Valued option_names.To is_joined word) option_names.Previous given.previous refl was.previous;
     next = file_still line (Valued option_names.To is_joined word) option_names.Next given.next refl was.next;
     speakers = flag_still line (Valued option_names.To is_joined word) option_names.Speakers given.speakers refl was.speakers;
+    rf64 = flag_still line (Valued option_names.To is_joined word) option_names.Rf64 given.rf64 refl was.rf64;
     dop = flag_still line (Valued option_names.To is_joined word) option_names.Dop given.dop refl was.dop;
     check = flag_still line (Valued option_names.To is_joined word) option_names.Check given.check refl was.check;
   }
@@ -142,6 +160,7 @@ module _ (line : Line) (given : Options) (was : AreGiven line given) where
     previous = file_there line (Valued option_names.Previous is_joined word) option_names.Previous word file none refl is;
     next = file_still line (Valued option_names.Previous is_joined word) option_names.Next given.next refl was.next;
     speakers = flag_still line (Valued option_names.Previous is_joined word) option_names.Speakers given.speakers refl was.speakers;
+    rf64 = flag_still line (Valued option_names.Previous is_joined word) option_names.Rf64 given.rf64 refl was.rf64;
     dop = flag_still line (Valued option_names.Previous is_joined word) option_names.Dop given.dop refl was.dop;
     check = flag_still line (Valued option_names.Previous is_joined word) option_names.Check given.check refl was.check;
   }
@@ -154,6 +173,7 @@ module _ (line : Line) (given : Options) (was : AreGiven line given) where
     previous = file_still line (Valued option_names.Next is_joined word) option_names.Previous given.previous refl was.previous;
     next = file_there line (Valued option_names.Next is_joined word) option_names.Next word file none refl is;
     speakers = flag_still line (Valued option_names.Next is_joined word) option_names.Speakers given.speakers refl was.speakers;
+    rf64 = flag_still line (Valued option_names.Next is_joined word) option_names.Rf64 given.rf64 refl was.rf64;
     dop = flag_still line (Valued option_names.Next is_joined word) option_names.Dop given.dop refl was.dop;
     check = flag_still line (Valued option_names.Next is_joined word) option_names.Check given.check refl was.check;
   }
@@ -161,6 +181,7 @@ module _ (line : Line) (given : Options) (was : AreGiven line given) where
   -- an option that takes nothing
   flag_given : (option : OptionName) (new : Options) → IsTaken option Nothing → SetsFlag option given new → AreGiven (with_item line (Flag option)) new
   flag_given option_names.Speakers new nothing sets = subst (AreGiven (with_item line (Flag option_names.Speakers))) (sym sets) speakers_given
+  flag_given option_names.Rf64 new nothing sets = subst (AreGiven (with_item line (Flag option_names.Rf64))) (sym sets) rf64_given
   flag_given option_names.Dop new nothing sets = subst (AreGiven (with_item line (Flag option_names.Dop))) (sym sets) dop_given
   flag_given option_names.Check new nothing sets = subst (AreGiven (with_item line (Flag option_names.Check))) (sym sets) check_given
   flag_given option_names.From new nothing sets = absurd (place_not_nothing (sym nothing))
@@ -176,6 +197,7 @@ module _ (line : Line) (given : Options) (was : AreGiven line given) where
   place_given option_names.Previous is_joined word place new takes none named sets = absurd (place_not_file takes)
   place_given option_names.Next is_joined word place new takes none named sets = absurd (place_not_file takes)
   place_given option_names.Speakers is_joined word place new takes none named sets = absurd (place_not_nothing takes)
+  place_given option_names.Rf64 is_joined word place new takes none named sets = absurd (place_not_nothing takes)
   place_given option_names.Dop is_joined word place new takes none named sets = absurd (place_not_nothing takes)
   place_given option_names.Check is_joined word place new takes none named sets = absurd (place_not_nothing takes)
 
@@ -187,6 +209,7 @@ module _ (line : Line) (given : Options) (was : AreGiven line given) where
   file_given option_names.From is_joined word file new takes none is sets = absurd (place_not_file (sym takes))
   file_given option_names.To is_joined word file new takes none is sets = absurd (place_not_file (sym takes))
   file_given option_names.Speakers is_joined word file new takes none is sets = absurd (file_not_nothing takes)
+  file_given option_names.Rf64 is_joined word file new takes none is sets = absurd (file_not_nothing takes)
   file_given option_names.Dop is_joined word file new takes none is sets = absurd (file_not_nothing takes)
   file_given option_names.Check is_joined word file new takes none is sets = absurd (file_not_nothing takes)
 
@@ -234,6 +257,7 @@ ended_given line after_end given was = record {
   previous = was.previous;
   next = was.next;
   speakers = was.speakers;
+  rf64 = was.rf64;
   dop = was.dop;
   check = was.check;
 }
@@ -361,6 +385,7 @@ begins command read is names none next = record {
       previous = subst (IsNamed []) (sym none.previous) refl;
       next = subst (IsNamed []) (sym none.next) refl;
       speakers = none.speakers;
+      rf64 = none.rf64;
       dop = none.dop;
       check = none.check;
     };
@@ -423,6 +448,8 @@ awaits line old option was takes value free = record {
     none_there line given is option_names.Next value free = subst (IsNamed (values_of option_names.Next line)) free is.next
     none_there line given is option_names.Speakers (inl place) free = absurd (place_not_nothing place)
     none_there line given is option_names.Speakers (inr file) free = absurd (file_not_nothing file)
+    none_there line given is option_names.Rf64 (inl place) free = absurd (place_not_nothing place)
+    none_there line given is option_names.Rf64 (inr file) free = absurd (file_not_nothing file)
     none_there line given is option_names.Dop (inl place) free = absurd (place_not_nothing place)
     none_there line given is option_names.Dop (inr file) free = absurd (file_not_nothing file)
     none_there line given is option_names.Check (inl place) free = absurd (place_not_nothing place)
@@ -435,6 +462,7 @@ some_text option_names.To = omega arith
 some_text option_names.Previous = omega arith
 some_text option_names.Next = omega arith
 some_text option_names.Speakers = omega arith
+some_text option_names.Rf64 = omega arith
 some_text option_names.Dop = omega arith
 some_text option_names.Check = omega arith
 
@@ -442,34 +470,16 @@ pub option_is : (option : OptionName) (name word : List ℕ) → name ≡ text_o
 option_is option name word is (inl none) = absurd (let e : length (text_of option) ≡ 0 = ap length (sym is ∙ none) in let some = some_text option in omega (arith, e, some))
 option_is option name word is (inr written) = written ∙ ap (λ n. codes "--" ++ n) is
 
--- the option that a text is
-abbrev option_of : List ℕ → OptionName
-option_of text = if pointwise nat_eq text (codes "from") then option_names.From
-    else if pointwise nat_eq text (codes "to") then option_names.To
-    else if pointwise nat_eq text (codes "previous") then option_names.Previous
-    else if pointwise nat_eq text (codes "next") then option_names.Next
-    else if pointwise nat_eq text (codes "speakers") then option_names.Speakers
-    else if pointwise nat_eq text (codes "dop") then option_names.Dop
-    else option_names.Check
-
-option_read : (option : OptionName) → option_of (text_of option) ≡ option
-option_read option_names.From = refl
-option_read option_names.To = refl
-option_read option_names.Previous = refl
-option_read option_names.Next = refl
-option_read option_names.Speakers = refl
-option_read option_names.Dop = refl
-option_read option_names.Check = refl
-
 -- the options in the table
-pub play_options : (command : List ℕ) → command ≡ codes "play" → All (IsOptionOf command) (codes "from" ∷ codes "to" ∷ codes "previous" ∷ codes "next" ∷ codes "speakers" ∷ codes "dop" ∷ [])
+pub play_options : (command : List ℕ) → command ≡ codes "play" → All (IsOptionOf command) (codes "from" ∷ codes "to" ∷ codes "previous" ∷ codes "next" ∷ codes "speakers" ∷ codes "rf64" ∷ codes "dop" ∷ [])
 play_options command is =
-    All-cons (IsOptionOf command) (codes "from") (codes "to" ∷ codes "previous" ∷ codes "next" ∷ codes "speakers" ∷ codes "dop" ∷ []) (option_names.From, refl, inl (is, tt))
-    (All-cons (IsOptionOf command) (codes "to") (codes "previous" ∷ codes "next" ∷ codes "speakers" ∷ codes "dop" ∷ []) (option_names.To, refl, inl (is, tt))
-    (All-cons (IsOptionOf command) (codes "previous") (codes "next" ∷ codes "speakers" ∷ codes "dop" ∷ []) (option_names.Previous, refl, inl (is, tt))
-    (All-cons (IsOptionOf command) (codes "next") (codes "speakers" ∷ codes "dop" ∷ []) (option_names.Next, refl, inl (is, tt))
-    (All-cons (IsOptionOf command) (codes "speakers") (codes "dop" ∷ []) (option_names.Speakers, refl, inl (is, tt))
-    (All-cons (IsOptionOf command) (codes "dop") [] (option_names.Dop, refl, inl (is, tt)) (All-nil (IsOptionOf command)))))))
+    All-cons (IsOptionOf command) (codes "from") (codes "to" ∷ codes "previous" ∷ codes "next" ∷ codes "speakers" ∷ codes "rf64" ∷ codes "dop" ∷ []) (option_names.From, refl, inl (is, tt))
+    (All-cons (IsOptionOf command) (codes "to") (codes "previous" ∷ codes "next" ∷ codes "speakers" ∷ codes "rf64" ∷ codes "dop" ∷ []) (option_names.To, refl, inl (is, tt))
+    (All-cons (IsOptionOf command) (codes "previous") (codes "next" ∷ codes "speakers" ∷ codes "rf64" ∷ codes "dop" ∷ []) (option_names.Previous, refl, inl (is, tt))
+    (All-cons (IsOptionOf command) (codes "next") (codes "speakers" ∷ codes "rf64" ∷ codes "dop" ∷ []) (option_names.Next, refl, inl (is, tt))
+    (All-cons (IsOptionOf command) (codes "speakers") (codes "rf64" ∷ codes "dop" ∷ []) (option_names.Speakers, refl, inl (is, tt))
+    (All-cons (IsOptionOf command) (codes "rf64") (codes "dop" ∷ []) (option_names.Rf64, refl, inl (is, tt))
+    (All-cons (IsOptionOf command) (codes "dop") [] (option_names.Dop, refl, inl (is, tt)) (All-nil (IsOptionOf command))))))))
 
 pub convert_options : (command : List ℕ) → command ≡ codes "convert" → All (IsOptionOf command) (codes "speakers" ∷ codes "dop" ∷ [])
 convert_options command is =

@@ -18,7 +18,7 @@ use Rattle.words_core.specs.declared.task.Task.TheVariants.{Check, Convert, Conv
 -- a part that is asked for begins at a place or ends at one, or both, and what is played between others has one before
 -- it or one after it, or both
 abbrev pub HasPlaces : Task → Type 0
-HasPlaces (PlayPart project input output from to speakers) = from ≡ None → to ≡ None → ⊥
+HasPlaces (PlayPart project input output from to speakers rf64) = from ≡ None → to ≡ None → ⊥
 HasPlaces (PlayBetween project input output previous next) = previous ≡ None → next ≡ None → ⊥
 HasPlaces _ = ⊤
 
@@ -46,13 +46,14 @@ pub record AreGiven (line : Line) (given : Options) : Type 0 where
   pub previous : IsNamed (values_of option_names.Previous line) given.previous
   pub next : IsNamed (values_of option_names.Next line) given.next
   pub speakers : given.speakers ≡ has_flag option_names.Speakers line
+  pub rf64 : given.rf64 ≡ has_flag option_names.Rf64 line
   pub dop : given.dop ≡ has_flag option_names.Dop line
   pub check : given.check ≡ has_flag option_names.Check line
 
 -- the command that a task is
 abbrev pub command_of : Task → List ℕ
-command_of (Play project input output speakers) = codes "play"
-command_of (PlayPart project input output from to speakers) = codes "play"
+command_of (Play project input output speakers rf64) = codes "play"
+command_of (PlayPart project input output from to speakers rf64) = codes "play"
 command_of (PlayBetween project input output previous next) = codes "play"
 command_of (PlayDop input output) = codes "play"
 command_of (Convert form input output speakers) = codes "convert"
@@ -65,8 +66,8 @@ command_of (Sum is_check files) = codes "sum"
 
 -- the names are those of a task's files in the order of its words, for `convert` and `edit` after the name of its form
 abbrev pub AreNamesOf : Task → List (List ℕ) → Type 0
-AreNamesOf (Play project input output speakers) names = names ≡ project.now ∷ input.now ∷ output.now ∷ []
-AreNamesOf (PlayPart project input output from to speakers) names = names ≡ project.now ∷ input.now ∷ output.now ∷ []
+AreNamesOf (Play project input output speakers rf64) names = names ≡ project.now ∷ input.now ∷ output.now ∷ []
+AreNamesOf (PlayPart project input output from to speakers rf64) names = names ≡ project.now ∷ input.now ∷ output.now ∷ []
 AreNamesOf (PlayBetween project input output previous next) names = names ≡ project.now ∷ input.now ∷ output.now ∷ []
 AreNamesOf (PlayDop input output) names = names ≡ input.now ∷ output.now ∷ []
 AreNamesOf (Convert form input output speakers) names = (name : List ℕ) × (names ≡ name ∷ input.now ∷ output.now ∷ []) × (form_named name ≡ Some form)
@@ -78,21 +79,22 @@ AreNamesOf (Info file) names = names ≡ file.now ∷ []
 AreNamesOf (Sum is_check files) names = names ≡ map (λ (file : Bor (List ℕ)). file.now) files.now
 
 -- options say these places and neighbours, and whether there are the flags of `play`
-pub record AreOfPlay (given : Options) (start stop : Option Place) (before after : Option (Bor (List ℕ))) (is_spoken is_dop : Bool) : Type 0 where
+pub record AreOfPlay (given : Options) (start stop : Option Place) (before after : Option (Bor (List ℕ))) (is_spoken is_wide is_dop : Bool) : Type 0 where
   pub from : given.from ≡ start
   pub to : given.to ≡ stop
   pub previous : given.previous ≡ before
   pub next : given.next ≡ after
   pub speakers : given.speakers ≡ is_spoken
+  pub rf64 : given.rf64 ≡ is_wide
   pub dop : given.dop ≡ is_dop
 
 -- the options are those of a task: the places of a part, the files before and after what is played, and which flags are
 -- there
 abbrev pub AreOptionsOf : Task → Options → Type 0
-AreOptionsOf (Play project input output speakers) given = AreOfPlay given None None None None speakers false
-AreOptionsOf (PlayPart project input output from to speakers) given = AreOfPlay given from to None None speakers false
-AreOptionsOf (PlayBetween project input output previous next) given = AreOfPlay given None None previous next false false
-AreOptionsOf (PlayDop input output) given = AreOfPlay given None None None None false true
+AreOptionsOf (Play project input output speakers rf64) given = AreOfPlay given None None None None speakers rf64 false
+AreOptionsOf (PlayPart project input output from to speakers rf64) given = AreOfPlay given from to None None speakers rf64 false
+AreOptionsOf (PlayBetween project input output previous next) given = AreOfPlay given None None previous next false false false
+AreOptionsOf (PlayDop input output) given = AreOfPlay given None None None None false false true
 AreOptionsOf (Convert form input output speakers) given = (given.speakers ≡ speakers) × (given.dop ≡ false)
 AreOptionsOf (ConvertDop form input output) given = (given.speakers ≡ false) × (given.dop ≡ true)
 AreOptionsOf (Sum is_check files) given = given.check ≡ is_check

@@ -2,7 +2,7 @@
 use Rattle.std.specs.Prelude.{◌≡◌, ◌≢◌, ◌≤◌, ◌⊎◌, ⊤, ℕ, Bool, true, false, List, [], ◌∷◌, ◌++◌, Option, None, Some, All, codes, length, slice_index, unwrap_or, if◌then◌else◌}
 use Rattle.std.specs.List.{flat_map, list_any}
 use Rattle.words_core.specs.declared.options.OptionName.{OptionName}
-use Rattle.words_core.specs.declared.options.OptionName.TheVariants.{From, To, Previous, Next, Speakers, Dop, Check}
+use Rattle.words_core.specs.declared.options.OptionName.TheVariants.{From, To, Previous, Next, Speakers, Rf64, Dop, Check}
 use Rattle.words_core.specs.declared.options.Taken.{Taken}
 use Rattle.words_core.specs.declared.options.Taken.TheVariants.{Nothing, Place, File}
 
@@ -27,6 +27,7 @@ text_of To = codes "to"
 text_of Previous = codes "previous"
 text_of Next = codes "next"
 text_of Speakers = codes "speakers"
+text_of Rf64 = codes "rf64"
 text_of Dop = codes "dop"
 text_of Check = codes "check"
 
@@ -124,6 +125,7 @@ are_same To To = true
 are_same Previous Previous = true
 are_same Next Next = true
 are_same Speakers Speakers = true
+are_same Rf64 Rf64 = true
 are_same Dop Dop = true
 are_same Check Check = true
 are_same _ _ = false

@@ -76,6 +76,7 @@ pub record AreNone (given : Options) : Type 0 where
   pub previous : given.previous ≡ None
   pub next : given.next ≡ None
   pub speakers : given.speakers ≡ false
+  pub rf64 : given.rf64 ≡ false
   pub dop : given.dop ≡ false
   pub check : given.check ≡ false
 
@@ -90,6 +91,7 @@ IsFree _ given = ⊤
 -- an option that takes nothing was noted, and no other option changed
 abbrev pub SetsFlag : OptionName → Options → Options → Type 0
 SetsFlag option_names.Speakers old new = new ≡ record old { speakers = true }
+SetsFlag option_names.Rf64 old new = new ≡ record old { rf64 = true }
 SetsFlag option_names.Dop old new = new ≡ record old { dop = true }
 SetsFlag option_names.Check old new = new ≡ record old { check = true }
 SetsFlag _ old new = new ≡ old
@@ -129,12 +131,16 @@ HasNoPart given = (given.from ≡ None) × (given.to ≡ None)
 abbrev pub HasNoNeighbour : Options → Type 0
 HasNoNeighbour given = (given.previous ≡ None) × (given.next ≡ None)
 
--- options may be together: of places and files only one kind is there, with files no `--speakers`, and with `--dop` none
--- of them
+-- no option of a WAVE file's header is there
+abbrev pub HasPlainHeader : Options → Type 0
+HasPlainHeader given = (given.speakers ≡ false) × (given.rf64 ≡ false)
+
+-- options may be together: of places and files only one kind is there, with files none of the header, and with `--dop`
+-- none of them
 pub record AreTogether (given : Options) : Type 0 where
   pub alone : HasNoPart given ⊎ HasNoNeighbour given
-  pub unspoken : HasNoNeighbour given ⊎ (given.speakers ≡ false)
-  pub dop : given.dop ≡ true → HasNoPart given × HasNoNeighbour given × (given.speakers ≡ false)
+  pub header : HasNoNeighbour given ⊎ HasPlainHeader given
+  pub dop : given.dop ≡ true → HasNoPart given × HasNoNeighbour given × HasPlainHeader given
 
 -- what was read asks for a task of this command
 pub record ReadAsks (command : List ℕ) (read : Words) (task : Task) : Type 0 where

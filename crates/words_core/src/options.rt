@@ -2,12 +2,12 @@
 
 ghost use Rattle.std.specs.Prelude.{◌≡◌, ◌⊎◌, ◌++◌, [], All, IfNone, IfSome, MatchOption, codes, false, true};
 ghost use Rattle.words_core.specs.Lines.{IsName, IsOptionOf, IsTaken, Takes, TakesNothing, TakesValue, text_of};
-ghost use Rattle.words_core.specs.Reading.{AreNone, AreTogether, HasNoNeighbour, HasNoPart, IsFree, SetsFile, SetsFlag, SetsPlace, texts};
+ghost use Rattle.words_core.specs.Reading.{AreNone, AreTogether, HasNoNeighbour, HasNoPart, HasPlainHeader, IsFree, SetsFile, SetsFlag, SetsPlace, texts};
 
 use place_core::Place;
 
 /// The options of `play`, without their hyphens.
-const PLAY: [&str; 6] = ["from", "to", "previous", "next", "speakers", "dop"];
+const PLAY: [&str; 7] = ["from", "to", "previous", "next", "speakers", "rf64", "dop"];
 
 /// The word after which all words are names.
 pub(crate) const END: &str = "--";
@@ -25,6 +25,8 @@ pub enum OptionName {
     Next,
     /// Say which channel is which speaker's.
     Speakers,
+    /// A header with room for sizes of 64 bits.
+    Rf64,
     /// One-bit sound in PCM samples (DoP).
     Dop,
     /// Judge by lists.
@@ -55,6 +57,8 @@ pub struct Options<'a> {
     pub next: Option<&'a str>,
     /// Whether `--speakers` is there.
     pub speakers: bool,
+    /// Whether `--rf64` is there.
+    pub rf64: bool,
     /// Whether `--dop` is there.
     pub dop: bool,
     /// Whether `--check` is there.
@@ -72,6 +76,7 @@ impl<'a> Options<'a> {
             previous: None,
             next: None,
             speakers: false,
+            rf64: false,
             dop: false,
             check: false,
         }
@@ -87,26 +92,40 @@ impl<'a> Options<'a> {
             OptionName::Previous => self.previous.is_some(),
             OptionName::Next => self.next.is_some(),
             OptionName::Speakers => self.speakers,
+            OptionName::Rf64 => self.rf64,
             OptionName::Dop => self.dop,
             OptionName::Check => self.check,
         }
     }
 
-    /// Two options that can't be together, if there are such: neither a part nor loudspeakers are played between
+    /// Two options that can't be together, if there are such: neither a part nor another header is played between
     /// others, and with `--dop` nothing else is asked for.
     pub(crate) fn apart(&self) -> Option<(OptionName, OptionName)>
         ensures { IfNone result (AreTogether self.now) }
     {
-        match (self.part(), self.neighbour(), self.speakers, self.dop) {
+        match (self.part(), self.neighbour(), self.header(), self.dop) {
             (Some(part), Some(neighbour), _, _) => Some((part, neighbour)),
             (Some(part), None, _, true) => Some((OptionName::Dop, part)),
             (None, Some(neighbour), _, true) => Some((OptionName::Dop, neighbour)),
-            (None, Some(neighbour), true, false) => Some((neighbour, OptionName::Speakers)),
-            (None, None, true, true) => Some((OptionName::Dop, OptionName::Speakers)),
+            (None, Some(neighbour), Some(header), false) => Some((neighbour, header)),
+            (None, None, Some(header), true) => Some((OptionName::Dop, header)),
             (Some(_), None, _, false) => None,
-            (None, Some(_), false, false) => None,
+            (None, Some(_), None, false) => None,
             (None, None, _, false) => None,
-            (None, None, false, true) => None,
+            (None, None, None, true) => None,
+        }
+    }
+
+    // The first option that changes the header of the WAVE file.
+    fn header(&self) -> Option<OptionName>
+        ensures { IfNone result (HasPlainHeader self.now) }
+    {
+        if self.speakers {
+            Some(OptionName::Speakers)
+        } else if self.rf64 {
+            Some(OptionName::Rf64)
+        } else {
+            None
         }
     }
 
@@ -142,6 +161,7 @@ impl<'a> Options<'a> {
     {
         match option {
             OptionName::Speakers => self.speakers = true,
+            OptionName::Rf64 => self.rf64 = true,
             OptionName::Dop => self.dop = true,
             OptionName::Check => self.check = true,
             _ => {}
@@ -182,6 +202,7 @@ impl OptionName {
             OptionName::Previous => "previous",
             OptionName::Next => "next",
             OptionName::Speakers => "speakers",
+            OptionName::Rf64 => "rf64",
             OptionName::Dop => "dop",
             OptionName::Check => "check",
         }
@@ -206,7 +227,9 @@ impl OptionName {
         match self {
             OptionName::From | OptionName::To => Taken::Place,
             OptionName::Previous | OptionName::Next => Taken::File,
-            OptionName::Speakers | OptionName::Dop | OptionName::Check => Taken::Nothing,
+            OptionName::Speakers | OptionName::Rf64 | OptionName::Dop | OptionName::Check => {
+                Taken::Nothing
+            }
         }
     }
 }
@@ -251,6 +274,7 @@ pub fn named(name: &str) -> Option<OptionName>
         "previous" => Some(OptionName::Previous),
         "next" => Some(OptionName::Next),
         "speakers" => Some(OptionName::Speakers),
+        "rf64" => Some(OptionName::Rf64),
         "dop" => Some(OptionName::Dop),
         "check" => Some(OptionName::Check),
         _ => None,

@@ -4,7 +4,7 @@ use form_core::Form;
 use place_core::Place;
 
 /// What a command line asks for, with the names of the files. Those of `play` and `convert` say whether `--speakers` is
-/// there.
+/// there, and those of `play` whether `--rf64` is.
 #[derive(Clone, Copy)]
 pub enum Task<'a> {
     /// `play PROJECT IN OUT`
@@ -13,6 +13,7 @@ pub enum Task<'a> {
         input: &'a str,
         output: &'a str,
         speakers: bool,
+        rf64: bool,
     },
     /// `play --from T --to T PROJECT IN OUT`, with one of both or both
     PlayPart {
@@ -22,6 +23,7 @@ pub enum Task<'a> {
         from: Option<Place>,
         to: Option<Place>,
         speakers: bool,
+        rf64: bool,
     },
     /// `play --previous FILE --next FILE PROJECT IN OUT`, with one of both or both
     PlayBetween {

@@ -238,6 +238,7 @@ impl Words<'_> {
             previous,
             next,
             speakers,
+            rf64,
             ..
         } = self.options;
         match (from, to, previous, next) {
@@ -246,6 +247,7 @@ impl Words<'_> {
                 input,
                 output,
                 speakers,
+                rf64,
             },
             (from, to, None, None) => Task::PlayPart {
                 project,
@@ -254,6 +256,7 @@ impl Words<'_> {
                 from,
                 to,
                 speakers,
+                rf64,
             },
             (_, _, previous, next) => Task::PlayBetween {
                 project,

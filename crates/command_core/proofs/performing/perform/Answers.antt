@@ -1,8 +1,5 @@
 use Rattle.command_core.proofs.performing.perform.Goals as goal
 
-pub returns-in-Play : goal.returns-in-Play
-returns-in-Play g c = record { done = rw c.in-Play.is c.play_all.ensures; sums = tt; same = tt }
-
 pub returns-in-PlayDop : goal.returns-in-PlayDop
 returns-in-PlayDop g c = record { done = rw c.in-PlayDop.is (c.play_dop_file.result, c.played.ensures, c.play_dop_file.ensures); sums = tt; same = tt }
 

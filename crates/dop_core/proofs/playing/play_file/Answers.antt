@@ -19,15 +19,15 @@ pub returns-then-not-can_fail-clause-fault : goal.returns-then-not-can_fail-clau
 returns-then-not-can_fail-clause-fault g c =
     let left = g.R.Read.remaining (inlet_reader c.args.inlet.now) in
     let given = inlet_given c.args.inlet.now in
-    stops_playing g.W.Write.contents c.args.sink.now c.args.sink.now c.native_joins.ensures g.R.Read.remaining c.args.inlet.now given given TurnLimit (inl (not_begun left given c.args.sink.now))
+    stops_playing g.W.Write.contents c.args.sink.now c.args.sink.now c.native_joins.ensures c.native_has_size.ensures g.R.Read.remaining c.args.inlet.now given given TurnLimit (inl (not_begun left given c.args.sink.now))
 
 pub returns-in_err-outline-clause-same : goal.returns-in_err-outline-clause-same
-returns-in_err-outline-clause-same g c = stops_same g.W.Write.contents c.args.sink.now c.read_named.new.sink c.native_joins.ensures (g.R.Read.remaining (inlet_reader c.args.inlet.now)) (inlet_given c.args.inlet.now) (inlet_given c.read_named.new.inlet) (plain c.in_err-outline.field-0.0) c.in_err-outline.ensures.fault
+returns-in_err-outline-clause-same g c = stops_same g.W.Write.contents c.args.sink.now c.read_named.new.sink c.native_joins.ensures c.native_has_size.ensures (g.R.Read.remaining (inlet_reader c.args.inlet.now)) (inlet_given c.args.inlet.now) (inlet_given c.read_named.new.inlet) (plain c.in_err-outline.field-0.0) c.in_err-outline.ensures.fault
 
 pub returns-in_err-outline-clause-fault : goal.returns-in_err-outline-clause-fault
 returns-in_err-outline-clause-fault g c =
     rw (fault_is c.from_residual.result _ c.from_residual.ensures.1)
-    (stops_playing g.W.Write.contents c.args.sink.now c.read_named.new.sink c.native_joins.ensures g.R.Read.remaining c.args.inlet.now (inlet_given c.args.inlet.now) (inlet_given c.read_named.new.inlet) (plain c.in_err-outline.field-0.0) c.in_err-outline.ensures.fault)
+    (stops_playing g.W.Write.contents c.args.sink.now c.read_named.new.sink c.native_joins.ensures c.native_has_size.ensures g.R.Read.remaining c.args.inlet.now (inlet_given c.args.inlet.now) (inlet_given c.read_named.new.inlet) (plain c.in_err-outline.field-0.0) c.in_err-outline.ensures.fault)
 
 pub returns-in_err-outline-clause-named : goal.returns-in_err-outline-clause-named
 returns-in_err-outline-clause-named g c = rw (fault_is c.from_residual.result _ c.from_residual.ensures.1) c.in_err-outline.ensures.named
@@ -93,7 +93,7 @@ returns g c =
       ok = tt;
       any_reader = tt;
       failures = tt;
-      fault = end_fails held old mid o stated _ left i j (inlet_given i) (inlet_given j) f c.native_joins.ensures was.any_reader refl put.fault put.err put.failures;
+      fault = end_fails held old mid o stated _ left i j (inlet_given i) (inlet_given j) f c.native_joins.ensures c.native_has_size.ensures was.any_reader refl put.fault put.err put.failures;
       named = tt;
       exact = writing_exact f put.fault;
       read_failed = omega (arith, was.read_failed, no_reads f put.fault);

@@ -17,7 +17,7 @@ returns-then-reopens g c =
     let passed = c.open_prefix.ensures.same in
     let same = passed ∙ states.same ∙ c.read_project.ensures.same in
     let read = subst (IsReadOf (view c.args.folder.now) c.args.project.now) (sym c.deref.ensures.value) c.in_ok-text.ensures.bytes in
-    subst (λ (v : View). SpeakComesTo c.args.project.now input c.args.output.now c.args.span v (view c.speak_reported.new.folder) c.speak_reported.result) same
+    subst (λ (v : View). SpeakComesTo c.args.asked.is_wide c.args.project.now input c.args.output.now c.args.asked.span v (view c.speak_reported.new.folder) c.speak_reported.result) same
     (c.speak_reported.ensures c.args.project.now input c.in_ok-opened.opened.prefix.items (subst (λ (v : View). IsReadOf v c.args.project.now c.deref.result.now) (sym same) read)
     (record { file = states.file; file_read = subst (λ (v : View). IsReadOf v input states.file) (sym (passed ∙ states.same)) states.file_read; is_known = states.is_known })
     c.in_ok-opened.ensures.states (subst (λ (v : View). IsGiven v input (left_of g.F.In.Read.remaining c.in_ok-opened.opened)) (sym passed) c.in_ok-opened.ensures.given))
@@ -29,7 +29,7 @@ returns g c =
     let held = c.hold_file.ensures.same in
     let same = held ∙ c.read_project.ensures.same in
     let read = subst (IsReadOf (view c.args.folder.now) c.args.project.now) (sym c.deref.ensures.value) c.in_ok-text.ensures.bytes in
-    subst (λ (v : View). SpeakComesTo c.args.project.now input c.args.output.now c.args.span v (view c.speak_held.new.folder) c.speak_held.result) same
+    subst (λ (v : View). SpeakComesTo c.args.asked.is_wide c.args.project.now input c.args.output.now c.args.asked.span v (view c.speak_held.new.folder) c.speak_held.result) same
     (c.speak_held.ensures c.args.project.now input (subst (λ (v : View). IsReadOf v c.args.project.now c.deref.result.now) (sym same) read)
     (subst (λ (v : View). IsReadOf v input c.in_ok-file.file.items) (sym held) c.in_ok-file.ensures.bytes))
 
@@ -40,5 +40,5 @@ returns-in_err-reported g c =
     let mid = view c.read_project.new.folder in
     let new = view c.open_past_sound.new.folder in
     let e = err_from_is_err_and c.from_residual-in_err-reported.result c.from_residual-in_err-reported.ensures.1 in
-    subst (SpeakComesTo c.args.project.now c.args.input.now c.args.output.now c.args.span old new) (sym (e.1 ∙ ap Err e.2))
+    subst (SpeakComesTo c.args.asked.is_wide c.args.project.now c.args.input.now c.args.output.now c.args.asked.span old new) (sym (e.1 ∙ ap Err e.2))
     (unspoken c.args.output.now old new (unreported_same c.args.input.now mid new c.in_err-reported.field-0.0 c.in_err-reported.ensures ∙ c.read_project.ensures.same))

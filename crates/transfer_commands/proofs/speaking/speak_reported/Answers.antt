@@ -13,8 +13,8 @@ returns-in_err-size g c = λ project input prefix project_read reports leads giv
     let old = view c.args.folder.now in
     let opened = subst (IsGiven old input) (sym (c.in_ok-spoken.ensures.left g.R.Read.remaining)) given in
     let e = err_from_is_err_and c.from_residual-in_err-size.result c.from_residual-in_err-size.ensures.1 in
-    subst (SpeakComesTo project input c.args.asked.output.now c.args.asked.span old (view c.speak_to.new.folder)) (sym (e.1 ∙ ap Err e.2))
-    (speech_failed spoken.project.now spoken.range (with_order (reordering_order spoken.reordering) (reordering_size spoken.reordering) (reordering_groups spoken.reordering) (length spoken.head.items)) spoken.mask.items input c.args.asked.output.now old old (view c.speak_to.new.folder) refl c.in_err-size.field-0.0 (c.in_err-size.ensures input opened))
+    subst (SpeakComesTo c.args.asked.part.is_wide project input c.args.asked.output.now c.args.asked.part.span old (view c.speak_to.new.folder)) (sym (e.1 ∙ ap Err e.2))
+    (speech_failed spoken.project.now spoken.range (with_order (reordering_order spoken.reordering) (reordering_size spoken.reordering) (reordering_groups spoken.reordering) (length spoken.before.items)) input c.args.asked.output.now old old (view c.speak_to.new.folder) refl c.in_err-size.field-0.0 (c.in_err-size.ensures input opened))
 
 pub returns : goal.returns
 returns g c = λ project input prefix project_read reports leads given.
@@ -24,7 +24,7 @@ returns g c = λ project input prefix project_read reports leads given.
     let part = c.in_ok-part.part in
     let spoken = c.in_ok-spoken.spoken in
     let are : AreSpeakersOf input (view c.args.folder.now) speakers = record { reported = reported; reports = reports; mask = c.in_ok-speakers.ensures.mask; order = c.in_ok-speakers.ensures.order } in
-    let to_be = subst (λ p. IsToBeSpoken p part.start part.stop speakers c.args.opened.sound spoken) c.in_ok-part.ensures.project c.in_ok-spoken.ensures.spoken in
+    let to_be = subst (λ p. IsToBeSpoken p part.start part.stop speakers c.args.asked.part.is_wide c.args.opened.sound spoken) c.in_ok-part.ensures.project c.in_ok-spoken.ensures.spoken in
     let opened = subst (IsGiven (view c.args.folder.now) input) (sym (c.in_ok-spoken.ensures.left g.R.Read.remaining)) given in
-    speech_ends project input c.args.asked.output.now c.args.asked.project.now c.args.asked.span (view c.args.folder.now) (view c.args.folder.now) (view c.speak_to.new.folder) part.start part.stop speakers prefix c.args.opened.sound spoken c.in_ok-size.size
+    speech_ends c.args.asked.part.is_wide project input c.args.asked.output.now c.args.asked.project.now c.args.asked.part.span (view c.args.folder.now) (view c.args.folder.now) (view c.speak_to.new.folder) part.start part.stop speakers prefix c.args.opened.sound spoken c.in_ok-size.size
     project_read are (inl (reported, reports, c.in_ok-part.ensures.span)) leads to_be refl (c.in_ok-size.ensures input opened)

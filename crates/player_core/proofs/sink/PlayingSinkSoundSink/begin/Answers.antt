@@ -4,7 +4,7 @@ use Rattle.std.specs.Io.KnownBytes.{Appends}
 use Rattle.chunk_core.specs.Outlets.{AppendsPrefix, outlet_writer}
 use Rattle.dsd_bits.specs.declared.sound.Sound.{Sound}
 use Rattle.sound_core.proofs.FaultLaws.{fault_is}
-use Rattle.wave_core.specs.Sizes.{FitsRiff}
+use Rattle.wave_core.specs.Heads.{FitsIn}
 use Rattle.player_core.specs.Laws.{total_frames}
 use Rattle.player_core.specs.Parts.{frames_sound, part_bytes}
 use Rattle.player_core.specs.PartView.{IsPartFed, IsPartOf, part_due, part_start}
@@ -44,9 +44,9 @@ returns-in_err-put_header-clause-refused g c =
     let b = g.W.Write.contents (outlet_writer c.put_header.new.outlet) in
     rw (fault_is c.from_residual.result _ c.from_residual.ensures.1) (record {
       same = refl;
-      fault = opening d s p.range (omega (arith, c.frames_sound-frames.ensures.limits.least_factor)) at f (subst (λ (t : Sound). IsOpeningFault d t f) frames c.in_err-put_header.ensures.fault);
+      fault = opening d s p.range (omega (arith, c.frames_sound-frames.ensures.limits.least_factor)) at f (subst (λ (t : Sound). IsOpeningFault p.range.head d t f) frames c.in_err-put_header.ensures.fault);
       unwritten = c.in_err-put_header.ensures.unwritten;
-      prefix = λ rest long. prefix_more a b (sound_header d fs) (part_bytes d s ([] ++ rest) p.range.start (stop_of p.range (total_frames d s)) ++ pad_of d fs) (subst (λ (t : Sound). AppendsPrefix a b (sound_header d t)) frames err);
+      prefix = λ rest long. prefix_more a b (sound_header p.range.head d fs) (part_bytes d s ([] ++ rest) p.range.start (stop_of p.range (total_frames d s)) ++ pad_of d fs) (subst (λ (t : Sound). AppendsPrefix a b (sound_header p.range.head d t)) frames err);
       failures = c.in_err-put_header.ensures.failures;
     })
 
@@ -63,8 +63,8 @@ returns-in_err-player-clause-refused g c =
       same = refl;
       fault = tt;
       unwritten = λ early. absurd early;
-      prefix = λ rest long. prefix_more a b (sound_header d fs) (part_bytes d s ([] ++ rest) p.range.start (stop_of p.range (total_frames d s)) ++ pad_of d fs)
-          (whole_prefix a b (sound_header d fs) (subst (λ (t : Sound). Appends a b (sound_header d t)) frames c.in_ok-put_header.ensures.ok.written));
+      prefix = λ rest long. prefix_more a b (sound_header p.range.head d fs) (part_bytes d s ([] ++ rest) p.range.start (stop_of p.range (total_frames d s)) ++ pad_of d fs)
+          (whole_prefix a b (sound_header p.range.head d fs) (subst (λ (t : Sound). Appends a b (sound_header p.range.head d t)) frames c.in_ok-put_header.ensures.ok.written));
       failures = c.in_ok-put_header.ensures.failures;
     })
 
@@ -78,7 +78,7 @@ returns-clause-has g c =
     let frames : c.frames_sound-frames.result ≡ fs = c.frames_sound-frames.ensures.sound ∙ ap (λ n. frames_sound d s (n - p.range.start)) c.stop_in-stop.ensures in
     let a = g.W.Write.contents (outlet_writer p.outlet.now) in
     let b = g.W.Write.contents (outlet_writer c.put_header.new.outlet) in
-    let opens : OpensWave d fs a b = subst (λ (t : Sound). OpensWave d t a b) frames c.in_ok-put_header.ensures.ok in
+    let opens : OpensWave p.range.head d fs a b = subst (λ (t : Sound). OpensWave p.range.head d t a b) frames c.in_ok-put_header.ensures.ok in
     let player = c.in_ok-player.player in
     let n = part_start player in
     all_fed g.W.Write.contents p _ s [] (record {
@@ -88,14 +88,14 @@ returns-clause-has g c =
       is_sound = c.requires.fed.is_sound;
       divided = opens.divided;
       inside = at;
-      fits = subst (FitsRiff s.channels d.width) (frames_number d s (number_of p.range (total_frames d s)) (omega (arith, c.frames_sound-frames.ensures.limits.least_factor)) (omega (arith, at.0, at.1))) opens.fits;
+      fits = subst (FitsIn p.range.head s.channels d.width) (frames_number d s (number_of p.range (total_frames d s)) (omega (arith, c.frames_sound-frames.ensures.limits.least_factor)) (omega (arith, at.0, at.1))) opens.fits;
       player = player;
       player_is = c.put_in.ensures;
       is_player = c.in_ok-player.ensures.ready;
       plays = subst (λ n. IsPartOf d s p.range.start n player) c.stop_in-stop.ensures c.in_ok-player.ensures.part;
       fed = subst (IsPartFed player) (sym (drop-nil n)) c.in_ok-player.ensures.fed;
       came = refl;
-      written = subst (Appends a b) (sym (ap (λ xs. sound_header d fs ++ xs) (ap (part_due player) (drop-nil n) ∙ due_at_first player) ∙ append-nil (sound_header d fs))) opens.written;
+      written = subst (Appends a b) (sym (ap (λ xs. sound_header p.range.head d fs ++ xs) (ap (part_due player) (drop-nil n) ∙ due_at_first player) ∙ append-nil (sound_header p.range.head d fs))) opens.written;
       ready = c.requires.ready;
       failures = omega (arith, c.in_ok-put_header.ensures.failures);
     })

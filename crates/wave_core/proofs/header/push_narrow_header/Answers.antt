@@ -1,7 +1,7 @@
 use Rattle.std.proofs.Common.{arith, refl}
 use Rattle.std.proofs.lemmas.Result.{err_from_is_err_and}
 use Rattle.wave_core.proofs.FaultLaws.{memory_stated}
-use Rattle.wave_core.proofs.spec.WaveSpec.push_header.Goals as goal
+use Rattle.wave_core.proofs.header.push_narrow_header.Goals as goal
 
 pub returns-in_default : goal.returns-in_default
 returns-in_default c = record { ok = tt; fits = tt; too_large = (λ e. c.in_default.ensures.none, λ large. refl); unchanged = refl }

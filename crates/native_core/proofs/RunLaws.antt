@@ -2,7 +2,7 @@
 use Rattle.std.proofs.Common.{◌≡◌, inl, inr, ℕ, zero, suc, ◌+◌, ◌-◌, ◌*◌, ◌/◌, ◌<◌, ◌≤◌, min, List, [], ◌∷◌, ◌++◌, length, take, drop, sym, ap, ap₂, ◌∙◌, arith, length-take, zero-mul}
 use Rattle.std.specs.Int.{div_ceil}
 use Rattle.std.proofs.Math.Nat.{add-mul, div-mul-le_self, mul-le-mul_right, mul_assoc, mul_comm}
-use Rattle.std.proofs.Math.Seq.{take-add}
+use Rattle.std.proofs.Math.Seq.{take-add, take-append_seam}
 use Rattle.std.proofs.lemmas.Bool.{cases_lt}
 use Rattle.std.proofs.lemmas.List.{drop-append-le, drop_all, take-append-le}
 use Rattle.dsd_bits.specs.declared.interleaving.Interleaving.{Interleaving}
@@ -79,11 +79,19 @@ drop_both (suc n) [] ys = let all : suc n ≡ suc n - length {A = ℕ} [] = omeg
 drop_both (suc n) (x ∷ xs) ys = let less : n - length xs ≡ suc n - length (x ∷ xs) = omega arith in drop_both n xs ys ∙ ap (λ k. drop n xs ++ drop k ys) less
 
 -- what is left out is at most all
-pub drop_min : (n m : ℕ) (xs : List ℕ) → m ≡ min n (length xs) → drop m xs ≡ drop n xs
+drop_min : (n m : ℕ) (xs : List ℕ) → m ≡ min n (length xs) → drop m xs ≡ drop n xs
 drop_min n m xs is = elim (cases_lt n (length xs)) [
   | inl less ↦ let same : m ≡ n = omega (arith, is, less) in ap (λ k. drop k xs) same
   | inr more ↦ drop_all m xs (omega (arith, is, more)) ∙ sym (drop_all n xs more)
 ]
+
+-- what is appended, but for its first bytes
+pub left_out : (out made : List ℕ) (kept added cut n : ℕ) → kept ≡ length out → added ≡ length made → cut ≡ min n added → take kept (out ++ made) ++ drop (kept + cut) (out ++ made) ≡ out ++ drop n made
+left_out out made kept added cut n kept_is added_is cut_is =
+    let rest : kept + cut - length out ≡ cut = omega (arith, kept_is) in
+    let least : cut ≡ min n (length made) = cut_is ∙ ap (λ k. min n k) added_is in
+    ap₂ (λ (xs ys : List ℕ). xs ++ ys) (ap (λ k. take k (out ++ made)) kept_is ∙ take-append_seam out made)
+    (drop_both (kept + cut) out made ∙ ap₂ (λ (xs : List ℕ) (k : ℕ). xs ++ drop k made) (drop_all (kept + cut) out (omega (arith, kept_is))) rest ∙ drop_min n cut made least)
 
 -- ---- more bytes
 module _ (layout : Layout) (s : Sound) (sound : IsSound s) (start g : ℕ) (came part bytes : List ℕ) (long : length came ≡ g * group_size s + length part) (part_is : part ≡ drop (g * group_size s) came) where

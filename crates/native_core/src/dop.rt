@@ -1,6 +1,6 @@
 //! Samples of DoP 1.1.
 
-ghost use Rattle.std.specs.Prelude.{◌≡◌, ◌+◌, ◌*◌, ◌<◌, ◌≤◌, ◌++◌, ℕ, OnOk, length};
+ghost use Rattle.std.specs.Prelude.{◌≡◌, ◌+◌, ◌*◌, ◌/◌, ◌<◌, ◌≤◌, ◌++◌, [], ◌∷◌, ℕ, OnOk, length, take};
 ghost use Rattle.std.specs.List.{flat_map, range_with_len};
 ghost use Rattle.native_core.specs.Native.{dop_sample, dop_samples, marker};
 
@@ -17,33 +17,73 @@ pub(crate) fn push_dop(out: &mut Vec<u8>, bytes: &[u8], channels: usize) -> Resu
     requires whole { (frames : ℕ) × (length bytes.now ≡ 2 * (frames * channels)) }
     ensures { OnOk result (out.new.items ≡ out.old.items ++ dop_samples channels bytes.now) }
 {
-    out.reserve(bytes.len() / 2 * 3)?;
-    for frame in 0..bytes.len() / 2 / channels {
-        push_frame(out, bytes, channels, frame)?;
-    }
+    let kept = out.len();
+    let added = bytes.len() / 2 * 3;
+    out.reserve(added)?;
+    out.resize(kept + added, 0)?;
+    let (_, samples) = out.as_mut_slice().split_at_mut(kept);
+    fill(samples, bytes, channels);
     Ok(())
 }
 
-// Appends a frame: a sample of each channel.
-fn push_frame(
-    out: &mut Vec<u8>,
-    bytes: &[u8],
-    channels: usize,
-    frame: usize,
-) -> Result<(), AllocError>
+// Writes the DoP samples of interleaved bytes.
+fn fill(to: &mut [u8], bytes: &[u8], channels: usize)
     requires channels { (1 ≤ channels) × (channels ≤ 6) }
-    requires inside { 2 * (frame * channels + channels) ≤ length bytes.now }
-    ensures { OnOk result (out.new.items
-        ≡ out.old.items ++ flat_map (dop_sample channels bytes.now) (range_with_len (frame * channels) channels)) }
+    requires whole { (frames : ℕ) × (length bytes.now ≡ 2 * (frames * channels)) }
+    requires size { length to.old ≡ length bytes.now / 2 * 3 }
+    ensures { to.new ≡ dop_samples channels bytes.now }
 {
-    let marker = marker_of(frame);
-    let from = 2 * (frame * channels);
-    for c in 0..channels {
-        let high = bytes[from + c];
-        let low = bytes[from + channels + c];
-        out.extend_from_slice(&[low, high, marker])?;
+    match channels {
+        1 => fill_frames::<1>(to, bytes),
+        2 => fill_frames::<2>(to, bytes),
+        3 => fill_frames::<3>(to, bytes),
+        4 => fill_frames::<4>(to, bytes),
+        5 => fill_frames::<5>(to, bytes),
+        _ => fill_frames::<6>(to, bytes),
     }
-    Ok(())
+}
+
+// The same for a number of channels that is known at compile time: the compiler makes vectors of one and of two.
+fn fill_frames<const N: usize>(to: &mut [u8], bytes: &[u8])
+    requires number { (1 ≤ N) × (N ≤ 6) }
+    requires whole { (frames : ℕ) × (length bytes.now ≡ 2 * (frames * N)) }
+    requires size { length to.old ≡ length bytes.now / 2 * 3 }
+    ensures { to.new ≡ dop_samples N bytes.now }
+{
+    for frame in 0..bytes.len() / 2 / N {
+        put_frame::<N>(to, bytes, frame, marker_of(frame));
+    }
+}
+
+// Writes a frame with its marker after those before: a sample of each channel.
+#[inline(always)]
+fn put_frame<const N: usize>(to: &mut [u8], bytes: &[u8], frame: usize, mark: u8)
+    requires number { (1 ≤ N) × (N ≤ 6) }
+    requires inside { 2 * (frame * N + N) ≤ length bytes.now }
+    requires room { 3 * (frame * N + N) ≤ length to.old }
+    requires mark { mark ≡ marker frame }
+    ensures size { length to.new ≡ length to.old }
+    ensures written { take (3 * (frame * N + N)) to.new ≡ take (3 * (frame * N)) to.old
+        ++ flat_map (dop_sample N bytes.now) (range_with_len (frame * N) N) }
+{
+    let from = 2 * (frame * N);
+    for c in 0..N {
+        let high = bytes[from + c];
+        let low = bytes[from + N + c];
+        put_sample(to, frame * N + c, low, high, mark);
+    }
+}
+
+// Writes a sample after those before.
+#[inline(always)]
+fn put_sample(to: &mut [u8], place: usize, low: u8, high: u8, mark: u8)
+    requires room { 3 * (place + 1) ≤ length to.old }
+    ensures size { length to.new ≡ length to.old }
+    ensures written { take (3 * (place + 1)) to.new ≡ take (3 * place) to.old ++ low ∷ high ∷ mark ∷ [] }
+{
+    to[3 * place] = low;
+    to[3 * place + 1] = high;
+    to[3 * place + 2] = mark;
 }
 
 // The marker of a frame.

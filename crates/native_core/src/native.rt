@@ -28,11 +28,7 @@ pub fn push_native(
 {
     match layout {
         Layout::Bytes(order) => push_bytes(alloc, out, bytes, stretch, from, order),
-        Layout::Dop => {
-            let mut own = Vec::new(alloc);
-            push_filled(alloc, &mut own, bytes, stretch, from, 16)?;
-            push_dop(out, &own, stretch.channels)
-        }
+        Layout::Dop => push_samples(alloc, out, bytes, stretch, from),
     }
 }
 
@@ -55,6 +51,29 @@ fn push_bytes(
     let (_, added) = out.as_mut_slice().split_at_mut(kept);
     put_in_order(added, order);
     Ok(())
+}
+
+// Appends a DoP sample of each channel in turn.
+fn push_samples(
+    alloc: Global,
+    out: &mut Vec<u8>,
+    bytes: &[u8],
+    stretch: Segment,
+    from: Interleaving,
+) -> Result<(), AllocError>
+    requires size { length bytes.now ≡ sound_size from stretch.channels stretch.count }
+    requires from_whole { from ≡ Interleaving.Bytes → stretch.count % 8 ≡ 0 }
+    ensures ok { OnOk result (out.new.items
+        ≡ out.old.items ++ native_of Layout.Dop from stretch.channels stretch.count bytes.now) }
+{
+    match from {
+        Interleaving::Bytes if stretch.count % 16 == 0 => push_dop(out, bytes, stretch.channels),
+        _ => {
+            let mut own = Vec::new(alloc);
+            push_filled(alloc, &mut own, bytes, stretch, from, 16)?;
+            push_dop(out, &own, stretch.channels)
+        }
+    }
 }
 
 /// The frames of whole groups of 4096 bytes (32768 bits) a channel, and of the bytes after them, are those of all. The

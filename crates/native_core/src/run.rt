@@ -1,6 +1,6 @@
 //! The bits of a sound that are given while its bytes come, from a frame on.
 
-ghost use Rattle.std.specs.Prelude.{◌≡◌, ◌+◌, ◌-◌, ◌*◌, ◌/◌, ◌%◌, ◌<◌, ◌≤◌, false, true, if◌then◌else◌};
+ghost use Rattle.std.specs.Prelude.{◌≡◌, ◌+◌, ◌-◌, ◌*◌, ◌/◌, ◌%◌, ◌<◌, ◌≤◌, ◌++◌, false, true, drop, if◌then◌else◌, length, take};
 ghost use Rattle.dsd_bits.specs.Sounds.{IsSound, sound_size};
 ghost use Rattle.native_core.specs.Runs.{group_size};
 
@@ -90,26 +90,40 @@ impl BitRun {
         part.extend_from_slice(bytes)?;
         let count = bits_due(&sound, group, part.len(), last);
         let size = segment_size(sound.interleaving, sound.channels, count);
-        let (whole, rest) = part.split_at(size);
+        let (whole, _) = part.split_at(size);
         let stretch = Segment {
             channels: sound.channels,
             count,
         };
-        let mut own = Vec::new(alloc);
-        push_native(alloc, &mut own, whole, stretch, sound.interleaving, layout)?;
-        let (_, given) = own.split_at(skip.min(own.len()));
-        out.extend_from_slice(given)?;
+        let kept = out.len();
+        push_native(alloc, out, whole, stretch, sound.interleaving, layout)?;
+        let added = out.len() - kept;
+        drop_after(out, kept, skip.min(added));
         if last {
             return Ok(None);
         }
+        drop_after(&mut part, 0, size);
         Ok(Some(BitRun {
             layout,
             sound,
             group: group + count / GROUP_BITS,
-            part: Vec::from_slice(alloc, rest)?,
-            skip: skip.saturating_sub(own.len()),
+            part,
+            skip: skip.saturating_sub(added),
         }))
     }
+}
+
+// Drops so many bytes after a place.
+fn drop_after(held: &mut Vec<u8>, place: usize, cut: usize)
+    requires { place + cut ≤ length held.old.items }
+    ensures { held.new.items ≡ take place held.old.items ++ drop (place + cut) held.old.items }
+{
+    if cut == 0 {
+        return;
+    }
+    let left = held.len() - cut;
+    held.copy_within(place + cut.., place);
+    held.truncate(left);
 }
 
 // How many bits of each channel are given of so many bytes after a group: all that are left, or those of whole groups.

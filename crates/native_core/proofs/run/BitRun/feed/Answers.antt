@@ -1,28 +1,35 @@
-use Rattle.std.proofs.Common.{◌≡◌, ℕ, ◌+◌, ◌-◌, ◌*◌, ◌/◌, ◌<◌, ◌≤◌, List, ◌++◌, length, take, drop, ap, ap₂, ◌∙◌, arith}
+use Rattle.std.proofs.Common.{◌≡◌, ℕ, ◌+◌, ◌-◌, ◌*◌, ◌/◌, ◌<◌, ◌≤◌, List, ◌++◌, length, take, drop, refl, ap, ap₂, ◌∙◌, arith, length-append}
 use Rattle.dsd_bits.specs.Sounds.{sound_size}
 use Rattle.native_core.specs.Native.{native_of}
 use Rattle.native_core.specs.Runs.{group_size, run_fed}
 use Rattle.native_core.proofs.FeedLaws.{gives_groups, gives_last, groups_whole, last_whole, made_of}
-use Rattle.native_core.proofs.RunLaws.{drop_min}
+use Rattle.native_core.proofs.RunLaws.{left_out}
 use Rattle.native_core.proofs.run.BitRun.feed.Goals as goal
-use Rattle.native_core.proofs.run.BitRun.feed.Goals.{In_ok-extend_from_slice-2}
+use Rattle.native_core.proofs.run.BitRun.feed.Goals.{After-drop_after}
 
--- the frames that were made
-own_is : (c : In_ok-extend_from_slice-2) → c.push_native.new.out.items ≡ made_of c.args.self c.requires.ready c.args.bytes.now c.bits_due-count.result
-own_is c =
+-- what was appended before bytes were left out
+out_is : (c : After-drop_after) → c.push_native.new.out.items ≡ c.args.out.now.items ++ made_of c.args.self c.requires.ready c.args.bytes.now c.bits_due-count.result
+out_is c =
     let r = c.args.self in
     let s = r.sound in
     let b = c.bits_due-count.result in
     let items = c.deref.ensures.value ∙ c.in_ok-extend_from_slice.ensures.items in
     let whole = c.split_at.ensures.front ∙ ap₂ (λ (n : ℕ) (xs : List ℕ). take n xs) c.segment_size-size.ensures items in
-    c.in_ok-push_native.ensures.ok ∙ ap₂ (λ (xs ys : List ℕ). xs ++ native_of r.layout s.interleaving s.channels b ys) c.new-own.ensures.items whole
+    c.in_ok-push_native.ensures.ok ∙ ap (λ ys. c.args.out.now.items ++ native_of r.layout s.interleaving s.channels b ys) whole
 
--- those that are appended
-more_is : (c : In_ok-extend_from_slice-2) → c.split_at-2.result.1.now ≡ drop c.args.self.skip (made_of c.args.self c.requires.ready c.args.bytes.now c.bits_due-count.result)
-more_is c =
-    let own = c.push_native.new.out.items in
-    c.split_at-2.ensures.back ∙ ap (drop c.min.result) c.deref-2.ensures.value
-    ∙ drop_min c.args.self.skip c.min.result own (omega (arith, c.min.ensures, c.len-2.ensures, c.push_native.new.out.ok.0)) ∙ ap (drop c.args.self.skip) (own_is c)
+-- how many bytes it is
+added_is : (c : After-drop_after) → c.len-2.result - c.len-kept.result ≡ length (made_of c.args.self c.requires.ready c.args.bytes.now c.bits_due-count.result)
+added_is c =
+    let made = made_of c.args.self c.requires.ready c.args.bytes.now c.bits_due-count.result in
+    omega (arith, c.len-2.ensures, c.len-kept.ensures, c.push_native.new.out.ok.0, c.args.out.now.ok.0, ap length (out_is c), length-append c.args.out.now.items made)
+
+-- what is appended
+appended_is : (c : After-drop_after) → c.drop_after.new.held.items ≡ c.args.out.now.items ++ drop c.args.self.skip (made_of c.args.self c.requires.ready c.args.bytes.now c.bits_due-count.result)
+appended_is c =
+    let out = c.args.out.now.items in
+    let made = made_of c.args.self c.requires.ready c.args.bytes.now c.bits_due-count.result in
+    c.drop_after.ensures ∙ ap (λ xs. take c.len-kept.result xs ++ drop (c.len-kept.result + c.min.result) xs) (out_is c)
+    ∙ left_out out made c.len-kept.result (c.len-2.result - c.len-kept.result) c.min.result c.args.self.skip (omega (arith, c.len-kept.ensures, c.args.out.now.ok.0)) (added_is c) c.min.ensures
 
 pub returns-then-last : goal.returns-then-last
 returns-then-last c =
@@ -31,13 +38,12 @@ returns-then-last c =
     let bytes = c.args.bytes.now in
     let ends : run_fed r + length bytes ≡ r.sound.size = grind (arith, c.if-last.true, c.fed.ensures) in
     let bits : c.bits_due-count.result ≡ r.sound.count - r.group * 32768 = grind (arith, c.bits_due-count.ensures.value, c.if-last.true) in
-    let more = more_is (goal.at.returns-then-last c).In_ok-extend_from_slice-2 ∙ ap (λ b. drop r.skip (made_of r ready bytes b)) bits in
-    let frames = last_whole r ready bytes ends in
+    let more = drop r.skip (made_of r ready bytes (r.sound.count - r.group * 32768)) in
     record {
-      more = c.split_at-2.result.1.now;
-      appends = c.in_ok-extend_from_slice-2.ensures.items;
-      frames = (frames.0, ap length more ∙ frames.1);
-      gives = gives_last r ready bytes c.split_at-2.result.1.now ends more;
+      more = more;
+      appends = appended_is (goal.at.returns-then-last c).After-drop_after ∙ ap (λ b. c.args.out.now.items ++ drop r.skip (made_of r ready bytes b)) bits;
+      frames = last_whole r ready bytes ends;
+      gives = gives_last r ready bytes more ends refl;
     }
 
 pub returns : goal.returns
@@ -49,18 +55,18 @@ returns c =
     let k = c.len.result / group_size s in
     let inside : run_fed r + length bytes < s.size = grind (arith, c.if-last.false, c.fed.ensures, c.requires.few) in
     let bits : c.bits_due-count.result ≡ k * 32768 = grind (arith, c.bits_due-count.ensures.value, c.if-last.false) in
-    let held : c.deref.result.now ≡ r.part.items ++ bytes = c.deref.ensures.value ∙ c.in_ok-extend_from_slice.ensures.items in
-    let long : c.len.result ≡ length (r.part.items ++ bytes) = omega (arith, c.len.ensures, c.extend_from_slice.new.self.ok.0, ap length c.in_ok-extend_from_slice.ensures.items) in
+    let held : c.extend_from_slice.new.self.items ≡ r.part.items ++ bytes = c.in_ok-extend_from_slice.ensures.items in
+    let long : c.len.result ≡ length (r.part.items ++ bytes) = omega (arith, c.len.ensures, c.extend_from_slice.new.self.ok.0, ap length held) in
     let few : sound_size s.interleaving s.channels (k * 32768) ≤ length (r.part.items ++ bytes) = omega (arith, long, c.bits_due-count.ensures.held, ap (sound_size s.interleaving s.channels) bits) in
-    let more = more_is (goal.at.returns c).In_ok-extend_from_slice-2 ∙ ap (λ b. drop r.skip (made_of r ready bytes b)) bits in
-    let own = own_is (goal.at.returns c).In_ok-extend_from_slice-2 ∙ ap (made_of r ready bytes) bits in
-    let frames = groups_whole r ready bytes k few in
-    let rest : c.in_ok-from_slice.field-0.items ≡ drop (sound_size s.interleaving s.channels (k * 32768)) (r.part.items ++ bytes) =
-    c.in_ok-from_slice.ensures.items ∙ c.split_at.ensures.back ∙ ap₂ (λ (n : ℕ) (xs : List ℕ). drop n xs) (c.segment_size-size.ensures ∙ ap (sound_size s.interleaving s.channels) bits) held in
+    let used : 0 + c.segment_size-size.result ≡ sound_size s.interleaving s.channels (k * 32768) = omega (arith, c.segment_size-size.ensures, ap (sound_size s.interleaving s.channels) bits) in
+    let rest : c.drop_after-2.new.held.items ≡ drop (sound_size s.interleaving s.channels (k * 32768)) (r.part.items ++ bytes) =
+    c.drop_after-2.ensures ∙ ap₂ (λ (n : ℕ) (xs : List ℕ). drop n xs) used held in
     let group : r.group + c.bits_due-count.result / 32768 ≡ r.group + k = omega (arith, bits) in
+    let more = drop r.skip (made_of r ready bytes (k * 32768)) in
+    let added = added_is (goal.at.returns c).After-drop_after ∙ ap (λ b. length (made_of r ready bytes b)) bits in
     record {
-      more = c.split_at-2.result.1.now;
-      appends = c.in_ok-extend_from_slice-2.ensures.items;
-      frames = (frames.0, ap length more ∙ frames.1);
-      gives = gives_groups r ready bytes k few c.split_at-2.result.1.now (record { layout = r.layout; sound = s; group = r.group + c.bits_due-count.result / 32768; part = c.in_ok-from_slice.field-0; skip = c.saturating_sub.result }) inside (omega (arith, c.bits_due-count.ensures.inside, bits)) more group rest (omega (arith, c.saturating_sub.ensures, c.len-3.ensures, c.push_native.new.out.ok.0, ap length own));
+      more = more;
+      appends = appended_is (goal.at.returns c).After-drop_after ∙ ap (λ b. c.args.out.now.items ++ drop r.skip (made_of r ready bytes b)) bits;
+      frames = groups_whole r ready bytes k few;
+      gives = gives_groups r ready bytes k few more (record { layout = r.layout; sound = s; group = r.group + c.bits_due-count.result / 32768; part = c.drop_after-2.new.held; skip = c.saturating_sub.result }) inside (omega (arith, c.bits_due-count.ensures.inside, bits)) refl group rest (omega (arith, c.saturating_sub.ensures, added));
     }

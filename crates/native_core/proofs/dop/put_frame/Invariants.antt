@@ -1,0 +1,10 @@
+use Rattle.std.proofs.Common.{◌≡◌, ◌+◌, ◌*◌, ◌++◌, length, take}
+use Rattle.std.specs.List.{flat_map, range_with_len}
+use Rattle.native_core.specs.Native.{dop_sample}
+use Rattle.native_core.proofs.dop.put_frame.Given as goal
+
+abbrev pub invariant-loop-c : goal.invariant-loop-c
+invariant-loop-c g l = record {
+  size : length l.to ≡ length l.fn.to;
+  written : take (3 * (l.frame * g.row.N + l.c)) l.to ≡ take (3 * (l.frame * g.row.N)) l.fn.to ++ flat_map (dop_sample g.row.N l.bytes) (range_with_len (l.frame * g.row.N) l.c);
+}

@@ -1,7 +1,8 @@
 /* Plays files that follow each other by the library, with pushes and pulls cut at random: joined KIND OUT SEED FILE..
  *
- * KIND is msb, lsb or dop, as dsdarc.h names them. It prints the status of each call that refuses, then what is reported of
- * the recording, and ends it there. OUT gets the frames. With SEED 0 it pushes and pulls as much as it can. */
+ * KIND is msb, lsb or dop, as dsdarc.h names them, a path of a filter, or the rate and width of a ready one, as 88200/24. It
+ * prints the status of each call that refuses, then what is reported of the recording, and ends it there. OUT gets the
+ * frames, packed. With SEED 0 it pushes and pulls as much as it can; otherwise each pull has a format that it draws. */
 #include <dsdarc.h>
 #include <stdio.h>
 #include <stdlib.h>
@@ -34,16 +35,51 @@ static int refused(const char *call, dsdarc_status status) {
 }
 
 static dsdarc_status choose(dsdarc_player *player, const char *kind) {
+    unsigned rate, width;
+    dsdarc_status status;
+    unsigned char *text;
+    size_t size;
     if (!strcmp(kind, "msb")) return dsdarc_player_bits(player, DSDARC_BITS_MSB);
     if (!strcmp(kind, "lsb")) return dsdarc_player_bits(player, DSDARC_BITS_LSB);
-    return dsdarc_player_dop(player);
+    if (!strcmp(kind, "dop")) return dsdarc_player_dop(player);
+    if (sscanf(kind, "%u/%u", &rate, &width) == 2) return dsdarc_player_filter_ready(player, rate, width, 0);
+    text = whole(kind, &size);
+    status = dsdarc_player_filter(player, text, size);
+    free(text);
+    return status;
+}
+
+/* A format in which frames of this width can be pulled. */
+static dsdarc_format format_of(uint32_t width) {
+    static const dsdarc_format formats[] = {DSDARC_PACKED, DSDARC_PACKED_PLANAR, DSDARC_S32,
+                                            DSDARC_F32,    DSDARC_S32_PLANAR,    DSDARC_F32_PLANAR};
+    return state ? formats[below(width == 8 ? 2 : 6)] : DSDARC_PACKED;
+}
+
+/* Writes frames packed that were pulled in this format, where each channel had room for `wanted`. */
+static void put(const unsigned char *from, size_t wanted, size_t given, dsdarc_format format, const dsdarc_info *info,
+                FILE *out) {
+    size_t size = info->width / 8, frame, channel, at;
+    int base = format & ~DSDARC_PLANAR;
+    for (frame = 0; frame < given; frame++)
+        for (channel = 0; channel < info->channels; channel++) {
+            int32_t value;
+            float scaled;
+            at = format & DSDARC_PLANAR ? channel * wanted + frame : frame * info->channels + channel;
+            memcpy(&value, from + 4 * at, sizeof value);
+            memcpy(&scaled, from + 4 * at, sizeof scaled);
+            if (base == DSDARC_F32) value = (int32_t)(scaled * (float)(1 << (info->width - 1)));
+            if (base == DSDARC_PACKED) fwrite(from + size * at, size, 1, out);
+            else for (at = 0; at < size; at++) fputc((int)((uint32_t)value >> 8 * at & 255), out);
+        }
 }
 
 static void pull_some(dsdarc_player *player, const dsdarc_info *info, FILE *out, size_t most) {
-    static unsigned char frames[MOST * 6 * 3];
+    static uint32_t frames[MOST * 6];
+    dsdarc_format format = format_of(info->width);
     size_t given, wanted = state ? 1 + below(most) : most;
-    while (dsdarc_player_pull(player, frames, wanted, DSDARC_PACKED, &given) == DSDARC_OK && given > 0)
-        fwrite(frames, info->width / 8 * info->channels, given, out);
+    while (dsdarc_player_pull(player, frames, wanted, format, &given) == DSDARC_OK && given > 0)
+        put((const unsigned char *)frames, wanted, given, format, info, out);
 }
 
 /* Pushes a file: whether all of it was taken. */

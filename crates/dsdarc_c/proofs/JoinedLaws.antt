@@ -1,6 +1,5 @@
 -- A player of files that follow each other: what it gave, and what it goes on to.
 use Rattle.std.proofs.Common.{◌≡◌, inl, inr, ℕ, ◌+◌, ◌*◌, ◌≤◌, ◌^◌, List, [], ◌∷◌, ◌++◌, length, drop, Option, IfSome, Result, Ok, Err, IfOk, IfErr, OnOk, refl, sym, subst, ap, ◌∙◌, ◌⊎◌, arith, append_assoc, append-nil}
-use Rattle.std.proofs.lemmas.Bool.{cases_lt}
 use Rattle.std.proofs.lemmas.List.{drop_all}
 use Rattle.joined_core.specs.Givers.{ComesFirst, HasGiven, IsGiver, Way, way_of}
 use Rattle.joined_core.specs.declared.giver.Giver.{Giver}
@@ -9,9 +8,9 @@ use Rattle.dsdarc_c.specs.Bare.{IsBare, MakesNone, bare_waiting}
 use Rattle.dsd_bits.specs.declared.sound.Sound.{Sound}
 use Rattle.native_core.specs.declared.layout.Layout.{Layout}
 use Rattle.dsdarc_c.specs.BareWhole.{EndsBits, IsPrefixOfBits, PlaysBareStage, PlaysBits, bits_from}
-use Rattle.dsdarc_c.specs.Joined.{Fits, IfOwn, IsAtJoin, IsBeforeOwn, IsJoined, IsNotOpen, IsNotOwn, IsOfShape, IsOwn, IsShape, Misfits, joined_waiting, own_layout}
-use Rattle.dsdarc_c.specs.BareCalls.{RefusesChoice, TakesBare}
-use Rattle.dsdarc_c.specs.JoinedCalls.{RefusesJoined, RefusesJoinedAt, RefusesJoinedChoice, TakesJoined}
+use Rattle.dsdarc_c.specs.Joined.{IfOwn, IsAtJoin, IsBeforeOwn, IsJoined, IsNotOpen, IsNotOwn, IsOfShape, IsOwn, IsShape, Misfits, joined_waiting, own_layout}
+use Rattle.dsdarc_c.specs.BareCalls.{TakesBare}
+use Rattle.dsdarc_c.specs.JoinedCalls.{RefusesJoined, RefusesJoinedAt, RefusesJoinedBy, TakesJoined}
 use Rattle.dsdarc_c.specs.JoinedWhole.{AddsOwn, AreAllOf, AreFirstOf, AreSoundOf, EndsRecording, GaveFirst, PlaysFile, PlaysJoinStage, PlaysJoined}
 use Rattle.dsdarc_c.specs.declared.bare.Bare.{Bare}
 use Rattle.dsdarc_c.specs.declared.bare.BareStage.{BareStage}
@@ -239,19 +238,19 @@ open_pulled b s keeps is =
     omega (arith, ap length none, keeps.pulled)
 
 -- ---- a choice
-pub refused_choice : (p : Joined) (layout : Layout) (fault : PlayFault) → RefusesChoice p.bare layout fault → RefusesJoinedChoice p layout fault
-refused_choice p layout faults.FileRefused is = absurd is
-refused_choice p layout faults.RateNotDivided is = is
-refused_choice p layout faults.TooLong is = absurd is
-refused_choice p layout faults.AfterFault is = inr is
-refused_choice p layout faults.TooMuchHeld is = absurd is
-refused_choice p layout faults.NotYet is = is
-refused_choice p layout faults.PastEnd is = absurd is
-refused_choice p layout faults.NoChoice is = absurd is
-refused_choice p layout faults.Chosen is = inr is
-refused_choice p layout faults.NotJoined is = absurd is
-refused_choice p layout faults.NoSeek is = absurd is
-refused_choice p layout faults.Memory is = is
+pub refused_by : (p : Joined) (Refuses : PlayFault → Type 0) → (Refuses faults.NotJoined → ⊥) → (Refuses faults.TooLong → ⊥) → (fault : PlayFault) → Refuses fault → RefusesJoinedBy p Refuses fault
+refused_by p Refuses joined long faults.FileRefused is = is
+refused_by p Refuses joined long faults.RateNotDivided is = is
+refused_by p Refuses joined long faults.TooLong is = absurd (long is)
+refused_by p Refuses joined long faults.AfterFault is = inr is
+refused_by p Refuses joined long faults.TooMuchHeld is = is
+refused_by p Refuses joined long faults.NotYet is = is
+refused_by p Refuses joined long faults.PastEnd is = is
+refused_by p Refuses joined long faults.NoChoice is = is
+refused_by p Refuses joined long faults.Chosen is = inr is
+refused_by p Refuses joined long faults.NotJoined is = absurd (joined is)
+refused_by p Refuses joined long faults.NoSeek is = is
+refused_by p Refuses joined long faults.Memory is = is
 
 pub if_err_map : {T F : Type 0} (A B : F → Type 0) (r : Result T F) → ((fault : F) → A fault → B fault) → IfErr r A → IfErr r B
 if_err_map A B (Ok x) map is = tt

@@ -1,12 +1,15 @@
 -- What a status of a player of files that follow each other means.
-use Rattle.std.proofs.Common.{◌≡◌, ℕ, ◌+◌, ◌<◌, List, [], ◌++◌, length, Result, Ok, Err, IfOk, IfErr, MatchResult, OnOk}
+use Rattle.std.proofs.Common.{◌≡◌, ◌⊎◌, inl, inr, ℕ, ◌+◌, ◌<◌, List, [], ◌++◌, length, Some, Result, Ok, Err, IfOk, IfErr, MatchResult, OnOk}
 use Rattle.dsd_bits.specs.declared.sound.Sound.{Sound}
-use Rattle.joined_core.specs.Givers.{Way, bits_way}
+use Rattle.fir_core.specs.Decimator.{Decimator}
+use Rattle.joined_core.specs.Givers.{Way, bits_way, frames_way}
 use Rattle.native_core.specs.declared.layout.Layout.{Layout}
-use Rattle.dsdarc_c.specs.Joined.{IsGoingOn, joined_waiting}
-use Rattle.dsdarc_c.specs.JoinedCalls.{AcceptsEndAt, AcceptsNextAt, RefusesEndAt, RefusesJoined, RefusesJoinedChoice, RefusesNextAt, TakesJoined}
-use Rattle.dsdarc_c.specs.JoinedMoves.{Followed, GoesOnJoined, IsJoinChosen, JoinedEnded, JoinedPushed, JoinsFitting}
+use Rattle.dsdarc_c.specs.Joined.{IsGoingOn, joined_waiting, shape_by}
+use Rattle.dsdarc_c.specs.JoinedCalls.{AcceptsEndAt, AcceptsNextAt, RefusesEndAt, RefusesJoined, RefusesJoinedChoice, RefusesJoinedFilter, RefusesJoinedText, RefusesNextAt, TakesJoined}
+use Rattle.dsdarc_c.specs.JoinedMoves.{Followed, GoesOnJoined, IsFilteredBy, IsJoinChosen, IsJoinFiltered, JoinedEnded, JoinedPushed, JoinsFitting}
 use Rattle.dsdarc_c.specs.JoinedWhole.{AddsOwn, EndsRecording, PlaysJoined}
+use Rattle.dsdarc_c.specs.Making.{StatesFilter}
+use Rattle.dsdarc_c.specs.Statuses.{StatusMeans}
 use Rattle.dsdarc_c.specs.declared.bare.BareStage.TheVariants as stages
 use Rattle.dsdarc_c.specs.declared.fault.PlayFault.{PlayFault}
 use Rattle.dsdarc_c.specs.declared.joined.Joined.{Joined}
@@ -33,3 +36,15 @@ pub join_outcome : (p new : Joined) (layout : Layout) (r : Result Unit PlayFault
     → OnOk r (new.bare.place ≡ p.bare.place) → IfErr r (RefusesJoinedChoice p layout) → MatchResult r (λ x. IsJoinChosen p new layout) (RefusesJoinedChoice p layout)
 join_outcome p new layout (Ok x) plays place why = record { place = place; plays = plays }
 join_outcome p new layout (Err fault) plays place why = why
+
+pub filter_joined_outcome : (p new : Joined) (d : Decimator) (r : Result Unit PlayFault)
+    → ((way : Way) (before file pulled : List ℕ) → PlaysJoined way before file pulled p → OnOk r ((sound : Sound) × (p.bare.stage ≡ stages.Open sound) × PlaysJoined (frames_way d sound.rate sound.channels) [] file [] new))
+    → OnOk r (new.bare.place ≡ p.bare.place) → OnOk r ((sound : Sound) × (p.bare.stage ≡ stages.Open sound) × (new.shape ≡ Some (shape_by d sound)) × (new.count ≡ sound.count))
+    → IfErr r (RefusesJoinedFilter p d) → MatchResult r (λ x. IsFilteredBy d p new) (RefusesJoinedFilter p d)
+filter_joined_outcome p new d (Ok x) plays place shape why = record { place = place; shape = shape; plays = plays }
+filter_joined_outcome p new d (Err fault) plays place shape why = why
+
+-- the filter is the one that the text states
+pub text_outcome : (p new : Joined) (text : List ℕ) (d : Decimator) (status : ℕ) → StatesFilter text d → StatusMeans (IsFilteredBy d p new) (RefusesJoinedFilter p d) status → ((status ≡ 0) × IsJoinFiltered p new text) ⊎ RefusesJoinedText p text status
+text_outcome p new text d status states (inl done) = inl (done.0, (d, states, done.1))
+text_outcome p new text d status states (inr why) = inr (inr (d, states, why.0, why.1, why.2))

@@ -2,6 +2,7 @@
 use Rattle.std.specs.Prelude.{◌≡◌, ◌≤◌, ◌<◌, ◌+◌, ◌%◌, ◌^◌, ℕ, List, [], drop, length, Option, None, Some, IfSome, ⊤}
 use Rattle.dsd_bits.specs.declared.blocks.BitOrder.TheVariants as orders
 use Rattle.dsd_bits.specs.declared.sound.Sound.{Sound}
+use Rattle.fir_core.specs.Decimator.{Decimator}
 use Rattle.native_core.specs.declared.layout.Layout.{Layout}
 use Rattle.native_core.specs.declared.layout.Layout.TheVariants as layouts
 use Rattle.joined_core.specs.Givers.{IsGiver}
@@ -58,6 +59,10 @@ Misfits shape count _ = ⊤
 -- a frame has bits of each channel, of which there are at most 6
 abbrev pub IsShape : Shape → Type 0
 IsShape shape = (1 ≤ shape.unit) × (shape.channels ≤ 6)
+
+-- what is given of a sound by a filter
+abbrev pub shape_by : Decimator → Sound → Shape
+shape_by d s = record { rate = s.rate; channels = s.channels; unit = d.factor; width = d.width }
 
 -- what is given is known
 abbrev pub IsKnown : Option Shape → Type 0

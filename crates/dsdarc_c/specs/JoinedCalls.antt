@@ -2,11 +2,13 @@
 use Rattle.std.specs.Prelude.{◌≡◌, ◌≢◌, ◌⊎◌, ◌<◌, ◌≤◌, ◌+◌, ◌/◌, ◌%◌, ◌^◌, ℕ, List, length, Option, None, Some, ⊤}
 use Rattle.std.specs.Int.{div_ceil}
 use Rattle.dsd_bits.specs.declared.sound.Sound.{Sound}
+use Rattle.fir_core.specs.Decimator.{Decimator}
 use Rattle.joined_core.specs.Givers.{fed_of, room}
 use Rattle.joined_core.specs.declared.giver.Giver.{Giver}
 use Rattle.native_core.specs.declared.layout.Layout.{Layout}
-use Rattle.dsdarc_c.specs.BareCalls.{AcceptsBareEnd, RefusesBare, RefusesBareEnd, RefusesChoice, TakesBare}
+use Rattle.dsdarc_c.specs.BareCalls.{AcceptsBareEnd, RefusesBare, RefusesBareEnd, RefusesChoice, RefusesFilter, TakesBare}
 use Rattle.dsdarc_c.specs.Joined.{IsBeforeOwn, IsOfShape}
+use Rattle.dsdarc_c.specs.Making.{RefusesProject, StatesFilter}
 use Rattle.dsdarc_c.specs.Statuses.{status_of}
 use Rattle.dsdarc_c.specs.declared.bare.Bare.{Bare}
 use Rattle.dsdarc_c.specs.declared.bare.BareStage.{BareStage}
@@ -101,12 +103,20 @@ IsChosenJoin _ = ⊥
 
 -- a choice is refused: after another one or another refusal, as that of a player of the file alone, or because its sound
 -- can't be joined to another
+abbrev pub RefusesJoinedBy : Joined → (PlayFault → Type 0) → PlayFault → Type 0
+RefusesJoinedBy p Refuses faults.Chosen = IsChosenJoin p.stage ⊎ Refuses faults.Chosen
+RefusesJoinedBy p Refuses faults.AfterFault = (p.stage ≡ joins.Failed) ⊎ Refuses faults.AfterFault
+RefusesJoinedBy p Refuses faults.NotJoined = (s : Sound) × (p.bare.stage ≡ stages.Open s) × (s.count % 8 ≢ 0)
+RefusesJoinedBy p Refuses faults.TooLong = (s : Sound) × (p.bare.stage ≡ stages.Open s) × (2 ^ 36 ≤ s.count)
+RefusesJoinedBy p Refuses fault = Refuses fault
+
+-- the same of a layout
 abbrev pub RefusesJoinedChoice : Joined → Layout → PlayFault → Type 0
-RefusesJoinedChoice p layout faults.Chosen = IsChosenJoin p.stage ⊎ RefusesChoice p.bare layout faults.Chosen
-RefusesJoinedChoice p layout faults.AfterFault = (p.stage ≡ joins.Failed) ⊎ RefusesChoice p.bare layout faults.AfterFault
-RefusesJoinedChoice p layout faults.NotJoined = (s : Sound) × (p.bare.stage ≡ stages.Open s) × (s.count % 8 ≢ 0)
-RefusesJoinedChoice p layout faults.TooLong = (s : Sound) × (p.bare.stage ≡ stages.Open s) × (2 ^ 36 ≤ s.count)
-RefusesJoinedChoice p layout fault = RefusesChoice p.bare layout fault
+RefusesJoinedChoice p layout fault = RefusesJoinedBy p (RefusesChoice p.bare layout) fault
+
+-- the same of a filter
+abbrev pub RefusesJoinedFilter : Joined → Decimator → PlayFault → Type 0
+RefusesJoinedFilter p d fault = RefusesJoinedBy p (RefusesFilter p.bare d) fault
 
 -- these fields describe what is given of this many bits of each channel: the number of frames, the rate of the files and
 -- that of the frames, the channels, and the bits of a sample
@@ -130,3 +140,8 @@ RefusesJoinedInfo p _ = ⊥
 -- a layout isn't chosen: this is the status that says why
 abbrev pub RefusesJoinedLayout : Joined → Layout → ℕ → Type 0
 RefusesJoinedLayout p layout status = (fault : PlayFault) × (status ≡ status_of fault) × RefusesJoinedChoice p layout fault
+
+-- the filter of a project text isn't chosen: this is the status that says why, of the text or of its filter
+abbrev pub RefusesJoinedText : Joined → List ℕ → ℕ → Type 0
+RefusesJoinedText p text status =
+    RefusesProject text status ⊎ ((d : Decimator) × StatesFilter text d × (fault : PlayFault) × (status ≡ status_of fault) × RefusesJoinedFilter p d fault)

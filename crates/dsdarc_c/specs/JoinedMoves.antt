@@ -1,11 +1,13 @@
 -- What each call of a player of files that follow each other does: the player before it and after it, and what is returned.
-use Rattle.std.specs.Prelude.{◌≡◌, ◌+◌, ◌<◌, ◌++◌, ℕ, List, [], drop, length, min, take}
+use Rattle.std.specs.Prelude.{◌≡◌, ◌+◌, ◌<◌, ◌++◌, ℕ, List, [], Some, drop, length, min, take}
 use Rattle.dsd_bits.specs.declared.sound.Sound.{Sound}
-use Rattle.joined_core.specs.Givers.{Way, bits_way}
+use Rattle.fir_core.specs.Decimator.{Decimator}
+use Rattle.joined_core.specs.Givers.{Way, bits_way, frames_way}
 use Rattle.native_core.specs.declared.layout.Layout.{Layout}
-use Rattle.dsdarc_c.specs.Joined.{IfOwn, IsBeforeOwn, IsGoingOn, IsOfShape, joined_waiting}
+use Rattle.dsdarc_c.specs.Joined.{IfOwn, IsBeforeOwn, IsGoingOn, IsOfShape, joined_waiting, shape_by}
 use Rattle.dsdarc_c.specs.JoinedCalls.{AcceptsEndAt, AcceptsNextAt, TakesJoined}
 use Rattle.dsdarc_c.specs.JoinedWhole.{AddsOwn, EndsRecording, GaveFirst, PlaysJoined}
+use Rattle.dsdarc_c.specs.Making.{StatesFilter}
 use Rattle.dsdarc_c.specs.Whole.{HasAt}
 use Rattle.dsdarc_c.specs.declared.bare.BareStage.TheVariants as stages
 use Rattle.dsdarc_c.specs.declared.joined.Joined.{Joined}
@@ -60,3 +62,15 @@ pub record IsJoinChosen (old new : Joined) (layout : Layout) : Type 0 where
   pub place : new.bare.place ≡ old.bare.place
   pub plays : (way : Way) (before file pulled : List ℕ) → PlaysJoined way before file pulled old
       → (sound : Sound) × (old.bare.stage ≡ stages.Open sound) × PlaysJoined (bits_way layout sound.channels) [] file [] new
+
+-- a filter was chosen: the frames of the recording are given by it, from the first one on; what is reported of them is by
+-- it as well
+pub record IsFilteredBy (d : Decimator) (old new : Joined) : Type 0 where
+  pub place : new.bare.place ≡ old.bare.place
+  pub shape : (sound : Sound) × (old.bare.stage ≡ stages.Open sound) × (new.shape ≡ Some (shape_by d sound)) × (new.count ≡ sound.count)
+  pub plays : (way : Way) (before file pulled : List ℕ) → PlaysJoined way before file pulled old
+      → (sound : Sound) × (old.bare.stage ≡ stages.Open sound) × PlaysJoined (frames_way d sound.rate sound.channels) [] file [] new
+
+-- the filter that the project text states was chosen
+abbrev pub IsJoinFiltered : Joined → Joined → List ℕ → Type 0
+IsJoinFiltered old new text = (d : Decimator) × StatesFilter text d × IsFilteredBy d old new

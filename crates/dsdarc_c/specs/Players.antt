@@ -5,6 +5,7 @@ use Rattle.native_core.specs.declared.layout.Layout.{Layout}
 use Rattle.dsdarc_c.specs.Bare.{bare_waiting}
 use Rattle.dsdarc_c.specs.BareMoves.{IsFiltered}
 use Rattle.dsdarc_c.specs.Joined.{joined_waiting}
+use Rattle.dsdarc_c.specs.JoinedMoves.{IsJoinFiltered}
 use Rattle.dsdarc_c.specs.Numbers.{AreSamplesIn, AreWholeSamples, first_samples}
 use Rattle.dsdarc_c.specs.Whole.{WaitsWhole, waiting}
 use Rattle.dsdarc_c.specs.declared.bare.Bare.{Bare}
@@ -65,6 +66,12 @@ abbrev pub HasFilterOf : Player → Bare → List ℕ → Type 0
 HasFilterOf (players.Frames p) old text = IsFiltered old text p
 HasFilterOf (players.Bits p) old text = ⊥
 HasFilterOf (players.Joined p) old text = ⊥
+
+-- the player gives frames of the recording by the filter that the project text states, and goes on with the files of the
+-- one before
+abbrev pub IsJoinedByFilter : Player → Joined → List ℕ → Type 0
+IsJoinedByFilter (players.Joined p) old text = IsJoinFiltered old p text
+IsJoinedByFilter _ old text = ⊥
 
 -- n numbers were given, as many as fit of those that wait whole: the samples that the first of the waiting bytes hold; if
 -- whole frames wait and fit, the samples of whole frames

@@ -3,10 +3,11 @@
 ghost use Rattle.std.specs.Prelude.{◌≡◌, ◌⊎◌, ◌<◌, ◌^◌, [], Some, List, ℕ, IfErr, IfOk, OnOk};
 ghost use Rattle.dsd_bits.specs.Sounds.{IsSound};
 ghost use Rattle.dsd_bits.specs.declared.sound.Sound.{Sound};
-ghost use Rattle.joined_core.specs.Givers.{HasGiven, IsGiver, Way, bits_way, way_of};
+ghost use Rattle.fir_core.specs.Decimator.{Decimator};
+ghost use Rattle.joined_core.specs.Givers.{HasGiven, IsGiver, Way, bits_way, frames_way, way_of};
 ghost use Rattle.native_core.specs.declared.layout.Layout.{Layout};
-ghost use Rattle.dsdarc_c.specs.Joined.{IsJoined, IsShape};
-ghost use Rattle.dsdarc_c.specs.JoinedCalls.{RefusesJoinedChoice, RefusesJoinedInfo, ReportsJoined};
+ghost use Rattle.dsdarc_c.specs.Joined.{IsJoined, IsShape, shape_by};
+ghost use Rattle.dsdarc_c.specs.JoinedCalls.{RefusesJoinedChoice, RefusesJoinedFilter, RefusesJoinedInfo, ReportsJoined};
 ghost use Rattle.dsdarc_c.specs.JoinedWhole.{PlaysJoined};
 
 use crate::bare::BareStage;
@@ -16,7 +17,8 @@ use crate::info::{Info, width_of};
 use crate::joined::{JoinStage, Joined, Shape};
 use crate::joined_taking::{MOST_BITS, give};
 use dsd_bits::{BitOrder, Sound};
-use joined_core::{BitGiver, Giver};
+use fir_core::Taps;
+use joined_core::{BitGiver, FrameGiver, Giver};
 use native_core::Layout;
 use std::alloc::Global;
 
@@ -62,12 +64,50 @@ pub(crate) fn choose_joined(alloc: Global, p: &mut Joined, layout: Layout) -> Re
     )
 }
 
+/// Gives frames of the recording by this filter.
+///
+/// Refusals: as those of `choose_joined`, but `RateNotDivided` if the filter doesn't divide the sound's rate.
+pub(crate) fn filter_joined(alloc: Global, p: &mut Joined, taps: Taps) -> Result<(), PlayFault>
+    requires { IsJoined p.old }
+    ensures keeps { IsJoined p.new }
+    // From the first frame on it gives the recording that begins with this file.
+    ensures plays { (way : Way) (before file pulled : List ℕ) → PlaysJoined way before file pulled p.old
+        → OnOk result ((sound : Sound) × (p.old.bare.stage ≡ BareStage.Open sound)
+        × PlaysJoined (frames_way taps sound.rate sound.channels) [] file [] p.new) }
+    ensures place { OnOk result (p.new.bare.place ≡ p.old.bare.place) }
+    ensures shape { OnOk result ((sound : Sound) × (p.old.bare.stage ≡ BareStage.Open sound)
+        × (p.new.shape ≡ Some (shape_by taps sound)) × (p.new.count ≡ sound.count)) }
+    ensures refused { IfErr result (RefusesJoinedFilter p.old taps) }
+    // But for memory, a refusal changes nothing.
+    ensures same { IfErr result (λ fault. (fault ≡ PlayFault.Memory) ⊎ (p.new ≡ p.old)) }
+{
+    let sound = first_sound(p)?;
+    if !taps.rate_fits(sound.rate) {
+        return Err(PlayFault::RateNotDivided);
+    }
+    if sound.count % 8 != 0 {
+        return Err(PlayFault::NotJoined);
+    }
+    if sound.count >= MOST_BITS {
+        return Err(PlayFault::TooLong);
+    }
+    let shape = Shape {
+        rate: sound.rate,
+        channels: sound.channels,
+        unit: taps.factor(),
+        width: taps.width(),
+    };
+    let giver = FrameGiver::new(alloc, taps, sound.rate, sound.channels)?;
+    start(alloc, p, sound, shape, Giver::Frames(giver))
+}
+
 // The sound of the first file, before the choice.
 fn first_sound(p: &Joined) -> Result<Sound, PlayFault>
     requires { IsJoined p.now }
     ensures open { IfOk result (λ sound. (p.now.stage ≡ JoinStage.Choosing) × (p.now.bare.stage ≡ BareStage.Open sound)) }
     ensures is_sound { IfOk result IsSound }
     ensures refused { IfErr result (λ fault. (layout : Layout) → RefusesJoinedChoice p.now layout fault) }
+    ensures refused_filter { IfErr result (λ fault. (d : Decimator) → RefusesJoinedFilter p.now d fault) }
 {
     match &p.stage {
         JoinStage::Choosing => open_sound(&p.bare),

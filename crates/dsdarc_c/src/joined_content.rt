@@ -4,13 +4,14 @@ use crate::bare::BareStage;
 use crate::fault::PlayFault;
 use crate::info::{Info, copy_from};
 use crate::joined::Joined;
-use crate::joined_choosing::{choose_joined, joined_info};
+use crate::joined_choosing::{choose_joined, filter_joined, joined_info};
 use crate::joined_ending::{end_joined, next_file};
 use crate::joined_pulling::pull_joined;
 use crate::joined_taking::push_joined;
-use crate::status::{status_of_outcome, status_with};
+use crate::status::{NO_DECIMATION, status_of_outcome, status_of_project, status_with};
 use dsd_bits::Sound;
 use native_core::Layout;
+use project_core::Project;
 use std::alloc::Global;
 use std::marker::Model;
 
@@ -32,13 +33,13 @@ impl Model for JoinedPlayer {
 }
 
 impl JoinedPlayer {
-    ghost use Rattle.std.specs.Prelude.{◌≡◌, [], IfSome, List, ℕ};
+    ghost use Rattle.std.specs.Prelude.{◌≡◌, ◌⊎◌, [], IfSome, List, ℕ};
     ghost use Rattle.dsd_bits.specs.Sounds.{IsSound};
     ghost use Rattle.joined_core.specs.Givers.{Way};
     ghost use Rattle.native_core.specs.declared.layout.Layout.{Layout};
     ghost use Rattle.dsdarc_c.specs.BareReporting.{AreCopied};
-    ghost use Rattle.dsdarc_c.specs.JoinedCalls.{RefusesEndAt, RefusesJoined, RefusesJoinedChoice, RefusesJoinedInfo, RefusesNextAt, ReportsJoined};
-    ghost use Rattle.dsdarc_c.specs.JoinedMoves.{Followed, IsJoinChosen, JoinedEnded, JoinedPulled, JoinedPushed};
+    ghost use Rattle.dsdarc_c.specs.JoinedCalls.{RefusesEndAt, RefusesJoined, RefusesJoinedChoice, RefusesJoinedInfo, RefusesJoinedText, RefusesNextAt, ReportsJoined};
+    ghost use Rattle.dsdarc_c.specs.JoinedMoves.{Followed, IsJoinChosen, IsJoinFiltered, JoinedEnded, JoinedPulled, JoinedPushed};
     ghost use Rattle.dsdarc_c.specs.JoinedWhole.{PlaysJoined};
     ghost use Rattle.dsdarc_c.specs.Players.{kept_of};
     ghost use Rattle.dsdarc_c.specs.Statuses.{StatusMeans};
@@ -106,6 +107,23 @@ impl JoinedPlayer {
     {
         let chosen = choose_joined(alloc, &mut self.joined, layout);
         status_of_outcome(chosen)
+    }
+
+    /// Gives frames by the filter of a project text.
+    pub(crate) fn filter(&mut self, alloc: Global, project: &[u8]) -> u32
+        // 0 says that they are given so; any other status says why not.
+        ensures { ((result ≡ 0) × IsJoinFiltered self.old self.new project.now) ⊎ RefusesJoinedText self.old project.now result }
+    {
+        match project_core::read(alloc, project) {
+            Ok(Project { decimate, .. }) => match decimate {
+                Some(taps) => {
+                    let filtered = filter_joined(alloc, &mut self.joined, taps);
+                    status_of_outcome(filtered)
+                }
+                None => NO_DECIMATION,
+            },
+            Err(fault) => status_of_project(fault),
+        }
     }
 
     /// The sound of the file, once it is known.

@@ -12,7 +12,7 @@ ghost use Rattle.dsdarc_c.specs.BareCalls.{AcceptsBareEnd, GoesToBits, RefusesBa
 ghost use Rattle.dsdarc_c.specs.BareMoves.{RefusesFiltered, RefusesLayout};
 ghost use Rattle.dsdarc_c.specs.BareReporting.{AreCopied, RefusesBitsInfo, RefusesStated, ReportsBits, ReportsStated, layout_of};
 ghost use Rattle.dsdarc_c.specs.Ending.{AcceptsEnd, RefusesEnd};
-ghost use Rattle.dsdarc_c.specs.JoinedCalls.{AcceptsEndAt, AcceptsNextAt, RefusesEndAt, RefusesJoined, RefusesJoinedInfo, RefusesJoinedLayout, RefusesNextAt, ReportsJoined, TakesJoined};
+ghost use Rattle.dsdarc_c.specs.JoinedCalls.{AcceptsEndAt, AcceptsNextAt, RefusesEndAt, RefusesJoined, RefusesJoinedInfo, RefusesJoinedLayout, RefusesJoinedText, RefusesNextAt, ReportsJoined, TakesJoined};
 ghost use Rattle.dsdarc_c.specs.Making.{IsStatusOfProject};
 ghost use Rattle.dsdarc_c.specs.Players.{ByKind, GivesNumbers, kept_of, stated_of, waits_of};
 ghost use Rattle.dsdarc_c.specs.Pushing.{AreWholeFrames};
@@ -198,7 +198,8 @@ pub extern "C" fn dsdarc_c_seek(alloc: Global, handle: Handle, frame: u64, offse
 #[unsafe(no_mangle)]
 pub extern "C" fn dsdarc_c_filter(alloc: Global, handle: Handle, project: &[u8]) -> u32
     // A player that has its choice refuses it by 23; another one says by 0 that it was made, and else why it isn't.
-    ensures { ByKind handle.value (λ p. result ≡ 23) (λ p. (result ≡ 0) ⊎ RefusesFiltered p project.now result) (λ p. result ≡ 25) }
+    ensures { ByKind handle.value (λ p. result ≡ 23) (λ p. (result ≡ 0) ⊎ RefusesFiltered p project.now result)
+        (λ p. (result ≡ 0) ⊎ RefusesJoinedText p project.now result) }
 {
     let player = player_of(handle);
     player.filter(alloc, project)

@@ -30,8 +30,8 @@ impl Player {
     ghost use Rattle.dsdarc_c.specs.BareMoves.{RefusesFiltered};
     ghost use Rattle.dsdarc_c.specs.BareReporting.{AreCopied, RefusesBitsInfo, RefusesStated, ReportsBits, ReportsStated};
     ghost use Rattle.dsdarc_c.specs.Ending.{AcceptsEnd, RefusesEnd};
-    ghost use Rattle.dsdarc_c.specs.JoinedCalls.{AcceptsEndAt, AcceptsNextAt, RefusesEndAt, RefusesJoined, RefusesJoinedChoice, RefusesJoinedInfo, RefusesNextAt, ReportsJoined, TakesJoined};
-    ghost use Rattle.dsdarc_c.specs.Players.{ByKind, GivesNumbers, HasFilterOf, IsLaidOut, kept_of, stated_of, waits_of};
+    ghost use Rattle.dsdarc_c.specs.JoinedCalls.{AcceptsEndAt, AcceptsNextAt, RefusesEndAt, RefusesJoined, RefusesJoinedChoice, RefusesJoinedInfo, RefusesJoinedText, RefusesNextAt, ReportsJoined, TakesJoined};
+    ghost use Rattle.dsdarc_c.specs.Players.{ByKind, GivesNumbers, HasFilterOf, IsJoinedByFilter, IsLaidOut, kept_of, stated_of, waits_of};
     ghost use Rattle.dsdarc_c.specs.Pushing.{AreWholeFrames};
     ghost use Rattle.dsdarc_c.specs.Reporting.{RefusesInfo, ReportsSound};
     ghost use Rattle.dsdarc_c.specs.Seeking.{GoesTo, RefusesSeek};
@@ -138,7 +138,8 @@ impl Player {
     /// Gives frames of the sound that comes next by the filter of a project text.
     pub(crate) fn filter(&mut self, alloc: Global, project: &[u8]) -> u32
         ensures { ByKind self.old (λ p. result ≡ 23)
-            (λ p. ((result ≡ 0) × HasFilterOf self.new p project.now) ⊎ RefusesFiltered p project.now result) (λ p. result ≡ 25) }
+            (λ p. ((result ≡ 0) × HasFilterOf self.new p project.now) ⊎ RefusesFiltered p project.now result)
+            (λ p. ((result ≡ 0) × IsJoinedByFilter self.new p project.now) ⊎ RefusesJoinedText p project.now result) }
     {
         match self {
             Player::Frames(_) => status_of(PlayFault::Chosen),
@@ -149,7 +150,7 @@ impl Player {
                 }
                 Err(status) => status,
             },
-            Player::Joined(_) => status_of(PlayFault::NotJoined),
+            Player::Joined(player) => player.filter(alloc, project),
         }
     }
 

@@ -1,5 +1,5 @@
 -- Bits that are given group by group of a recording whose end isn't known.
-use Rattle.std.proofs.Common.{◌≡◌, inl, inr, ℕ, ◌+◌, ◌-◌, ◌*◌, ◌/◌, ◌<◌, ◌≤◌, List, [], ◌++◌, length, take, drop, Result, Ok, Err, OnOk, sym, refl, ap, ap₂, ◌∙◌, arith, length-append, length-take, length-drop, zero-mul}
+use Rattle.std.proofs.Common.{◌≡◌, inl, inr, ℕ, ◌+◌, ◌-◌, ◌*◌, ◌/◌, ◌≤◌, List, [], ◌++◌, length, take, drop, Result, Ok, Err, OnOk, sym, refl, ap, ap₂, ◌∙◌, arith, length-append, length-take, length-drop, zero-mul}
 use Rattle.std.proofs.Math.Nat.{add-mul, mul-le-mul_right, mul_assoc, mul_comm}
 use Rattle.std.proofs.Math.Seq.{take-add}
 use Rattle.std.proofs.lemmas.Bool.{cases_lt}

@@ -1,2 +1,4 @@
 pub mod BitLaws
+pub mod FrameNumbers
+pub mod FrameLaws
 pub mod GiverLaws

@@ -1,7 +1,9 @@
 -- What is given of a recording that comes as a byte of each channel in turn, however it is given.
 use Rattle.std.specs.Prelude.{◌≡◌, ◌<◌, ℕ, ◌+◌, ◌*◌, ◌^◌, List, ◌++◌, length}
+use Rattle.fir_core.specs.Decimator.{Decimator}
 use Rattle.native_core.specs.declared.layout.Layout.{Layout}
 use Rattle.joined_core.specs.Bits.{HasGivenBits, IsBitGiver, joined_bits}
+use Rattle.joined_core.specs.Frames.{HasGivenFrames, IsFrameGiver, joined_frames}
 use Rattle.joined_core.specs.declared.giver.Giver.{Giver}
 use Rattle.joined_core.specs.declared.giver.Giver.TheVariants as givers
 
@@ -14,13 +16,19 @@ pub record Way : Type 0 where
 abbrev pub bits_way : Layout → ℕ → Way
 bits_way layout n = record { frames = joined_bits layout n; channels = n }
 
+-- the frames of n channels at this rate, in hertz, by a filter
+abbrev pub frames_way : Decimator → ℕ → ℕ → Way
+frames_way d rate n = record { frames = joined_frames d rate n; channels = n }
+
 -- how this gives them
 abbrev pub way_of : Giver → Way
 way_of (givers.Bits g) = bits_way g.layout g.channels
+way_of (givers.Frames g) = frames_way g.taps g.sound.rate g.sound.channels
 
 -- how many bytes came
 abbrev pub fed_of : Giver → ℕ
 fed_of (givers.Bits g) = g.fed
+fed_of (givers.Frames g) = g.fed
 
 -- a recording has fewer bytes
 abbrev pub room : Giver → ℕ
@@ -29,10 +37,12 @@ room g = 2 ^ 33 * (way_of g).channels
 -- what holds of each that gives frames
 abbrev pub IsGiver : Giver → Type 0
 IsGiver (givers.Bits g) = IsBitGiver g
+IsGiver (givers.Frames g) = IsFrameGiver g
 
 -- after these bytes, the bytes of these frames were given
 abbrev pub HasGiven : List ℕ → List ℕ → Giver → Type 0
 HasGiven bytes given (givers.Bits g) = HasGivenBits bytes given g
+HasGiven bytes given (givers.Frames g) = HasGivenFrames bytes given g
 
 -- these bytes come first among those of the frames of each recording of whole bytes that begins with these
 abbrev pub ComesFirst : Way → List ℕ → List ℕ → Type 0

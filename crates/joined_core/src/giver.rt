@@ -5,6 +5,7 @@ ghost use Rattle.joined_core.specs.Givers as Givers;
 ghost use Rattle.joined_core.specs.Givers.{Finishes, IsGiver, Takes, fed_of};
 
 use crate::bits::BitGiver;
+use crate::frames::FrameGiver;
 use std::alloc::{AllocError, Global};
 
 /// What gives the frames of a recording, however they are given.
@@ -12,6 +13,8 @@ use std::alloc::{AllocError, Global};
 pub enum Giver {
     /// It gives the bits themselves.
     Bits(BitGiver),
+    /// It gives frames by a filter.
+    Frames(FrameGiver),
 }
 
 impl Giver {
@@ -23,6 +26,7 @@ impl Giver {
     {
         match self {
             Giver::Bits(giver) => Ok(Giver::Bits(giver.take(alloc, bytes, out)?)),
+            Giver::Frames(giver) => Ok(Giver::Frames(giver.take(alloc, bytes, out)?)),
         }
     }
 
@@ -33,6 +37,7 @@ impl Giver {
     {
         match self {
             Giver::Bits(giver) => giver.finish(alloc, out)?,
+            Giver::Frames(giver) => giver.finish(alloc, out)?,
         }
         Ok(())
     }
@@ -43,6 +48,7 @@ impl Giver {
     {
         match self {
             Giver::Bits(giver) => giver.fed,
+            Giver::Frames(giver) => giver.fed,
         }
     }
 
@@ -53,6 +59,7 @@ impl Giver {
     {
         match self {
             Giver::Bits(giver) => MOST_BYTES * giver.channels,
+            Giver::Frames(giver) => MOST_BYTES * giver.sound.channels,
         }
     }
 }

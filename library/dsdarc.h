@@ -125,19 +125,20 @@ DSDARC_API dsdarc_status dsdarc_player_new(const void *project, size_t size, dsd
  * that, dsdarc_player_describe reports what the file holds. A player that was made with a filter has its choice. */
 DSDARC_API dsdarc_status dsdarc_player_new_empty(dsdarc_player **player);
 
-/* Makes a player of files that follow each other, such as the tracks of an album. It gives the bits of the recording that
- * they make one after the other: nothing is put between them, and DoP markers go on alternating.
+/* Makes a player of files that follow each other, such as the tracks of an album. It gives the recording that they make
+ * one after the other: nothing is put between them, a filter reads on from one into the next, and DoP markers go on
+ * alternating.
  *
  *     dsdarc_player_new_joined(&player);
  *     for each file: if it isn't the first, dsdarc_player_next(player);
  *                    push its bytes, and pull what is due
  *     dsdarc_player_end(player), and pull the last frames
  *
- * How the bits are given is chosen once, where the sound of the first file starts (DSDARC_NO_CHOICE): by
- * dsdarc_player_bits or dsdarc_player_dop. dsdarc_player_filter and dsdarc_player_filter_ready return DSDARC_NOT_JOINED.
- * What was pulled is always a prefix of the frames of the joined recording: of the bits of the first file, then those of
- * the second one, and so on. The last frames of a file come with bits of the next one, and after the last file once
- * dsdarc_player_end was called.
+ * How it is given is chosen once, where the sound of the first file starts (DSDARC_NO_CHOICE), by one of the four calls
+ * after dsdarc_player_next. What was pulled is always a prefix of the frames of the joined recording: of the bits of the
+ * first file, then those of the second one, and so on. By a filter they are the frames that `dsdarc play` writes of that
+ * recording. The last frames of a file come with bits of the next one, and after the last file once dsdarc_player_end was
+ * called. Of the sound it holds what the filter still reads, also of the file before.
  *
  * Files are joined if they have the same rate and channels and each ends on a whole byte. Where the sound of one starts
  * that can't be joined, dsdarc_player_push returns DSDARC_NOT_JOINED; for the first one the choice does. Nothing has
@@ -272,6 +273,31 @@ DSDARC_API dsdarc_status dsdarc_filter_rates(const void *index, size_t size, con
  * the loudspeakers, or has them in another order than the bits. Channels that are only numbered (C000, C001) get the
  * usual mask for that many channels. DSDARC_NOT_YET is returned if the bytes don't contain the channels. */
 DSDARC_API dsdarc_status dsdarc_channel_mask(const void *header, size_t size, uint32_t *mask);
+
+/* What is there of a file, as dsdarc_mend_header finds it. */
+typedef struct dsdarc_mended {
+    uint64_t start;   /* the byte of the file at which its sound starts */
+    uint64_t stop;    /* the byte after the last one of its sound that is there */
+    uint64_t fill;    /* how many bytes of zeros are pushed after it; 0 for DSDIFF */
+    uint64_t bits;    /* how many bits of each channel are there */
+    uint64_t stated;  /* how many bits of each channel the header stated; 0 if it stated none that there can be */
+    uint32_t changed; /* 1 if the header was changed, and so the file is damaged; otherwise 0 */
+} dsdarc_mended;
+
+/* Has the header of a file that was cut off, or that states wrong sizes, state what is there. `header` has the first
+ * `size` bytes of the file, at least up to where its sound starts, and `file` is how many the whole file has.
+ * DSDARC_NOT_YET is returned if `size` is too small. Only numbers in the header change, so each byte keeps its place.
+ *
+ *     push the bytes before mended.start from `header`, those from there to mended.stop from the file, and mended.fill
+ *     bytes of zeros; or if the header wasn't changed, all bytes of the file
+ *     pull all frames; if mended.changed or dsdarc_player_end(player) != DSDARC_OK, the file is damaged after them
+ *
+ * All frames of the bits that are there are given so, the last ones as if silence followed. A header that states what is
+ * there is unchanged. The call reads no byte after the header: where the size of the sound of a DSDIFF file is wrong, the
+ * chunks after it are played as sound. DSDARC_FILE_REFUSED says that no bit is there, or that no sound is found. Whatever
+ * else is wrong with a header, a push refuses. `room` is sizeof(dsdarc_mended). After any status but DSDARC_OK neither
+ * the header nor *mended has changed. */
+DSDARC_API dsdarc_status dsdarc_mend_header(void *header, size_t size, uint64_t file, dsdarc_mended *mended, size_t room);
 
 /* The name of a status, such as "FileRefused"; "Unknown" for any other number. It is never freed. */
 DSDARC_API const char *dsdarc_status_text(dsdarc_status status);

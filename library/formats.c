@@ -1,5 +1,5 @@
 /* The pulls of dsdarc.h: frames in the formats that the caller asks for. The proved crate gives packed frames, and those of
- * a filter also as numbers of 32 bits. The others are made of these here, a few frames at a time. */
+ * one file by a filter also as numbers of 32 bits. The others are made of these here, a few frames at a time. */
 #include "inside.h"
 
 #include <string.h>
@@ -17,13 +17,14 @@ static int32_t number_at(const uint8_t *at, size_t size) {
     return (int32_t)(value / (INT64_C(1) << (size == 3 ? 8 : 16)));
 }
 
-/* Takes samples as numbers: those of a filter are given as numbers, and those of DoP are packed. */
+/* Takes samples as numbers: those of one file by a filter are given as numbers, and those of DoP and of files that are
+ * joined are packed. */
 static size_t take_numbers(handle player, int32_t *out, size_t count, size_t size) {
     uint8_t packed[3 * SAMPLES];
     size_t given = dsdarc_c_pull_numbers(player, out, count), k;
-    if (given > 0 || size != 3) return given;
-    given = dsdarc_c_pull(player, packed, 3 * count) / 3;
-    for (k = 0; k < given; k++) out[k] = number_at(packed + 3 * k, 3);
+    if (given > 0) return given;
+    given = dsdarc_c_pull(player, packed, size * count) / size;
+    for (k = 0; k < given; k++) out[k] = number_at(packed + size * k, size);
     return given;
 }
 

@@ -95,7 +95,7 @@ def shifted(samples: bytes) -> bytes:
 
 
 def try_album(folder: str) -> None:
-    """Over ALSA, files that follow each other give the device the bits of one file."""
+    """Over ALSA, files that follow each other give the device the bits or the frames of one file."""
     files, whole = album(folder)
     out, player, page = (os.path.join(folder, it) for it in ("client.pcm", "dsdarcplay", "alsadop"))
     compiled("clients/alsadop.c", os.path.join(BUILT, "libdsdarc.a"), "-lasound", "-o", page)
@@ -109,6 +109,15 @@ def try_album(folder: str) -> None:
             frames = [bits[at : at + 4 * align] for at in range(0, len(bits), 4 * align)]
             bits = b"".join(frame[channel::align] for frame in frames for channel in range(align))
         demand(status == 0 and get(out) == bits, f"dsdarcplay: other bits of files: {kind}, {status}, {said}")
+    name, wave = os.path.join(folder, "album.dff"), os.path.join(folder, "album.wav")
+    with open(name, "wb") as file:
+        file.write(whole)
+    filter = os.path.join(ROOT, "filters", "dsd64-to-88200-24.toml")
+    run(PROGRAM, "play", filter, name, wave)
+    for kind in (filter, "88200/24"):
+        status, said = run(player, "-D", "raw", kind, *files)
+        is_right = status == 0 and get(out) == frames_of(get(wave))[0]
+        demand(is_right, f"dsdarcplay: other frames of files: {kind}, {status}, {said}")
     other = os.path.join(folder, "other.dff")
     with open(other, "wb") as file:
         file.write(dsdiff(2_822_400, 1, bytes(5000)))

@@ -1,11 +1,13 @@
 """Tries damaged files that the Python package plays as far as they are there: their frames are those of the file that
-`tools/mend` makes of them, and then what is damaged is told."""
+`tools/mend` makes of them, and then what is damaged is told. What plays them in C by `dsdarc_mend_header` gives the same
+frames, and says the same."""
 import os
 import random
 import subprocess
 from typing import TYPE_CHECKING, Any
 
-from tests.helpers.trials import ROOT, demand
+from tests.helpers.trials import ROOT, demand, get
+from tests.helpers.trials import said as run
 from tests.helpers.whole_files import BLOCK, Whole, places_of, whole_dsdiff, whole_dsf, with_size
 from tests.library.calls import put
 from tests.library.playing import PROGRAM
@@ -93,12 +95,46 @@ def try_one(folder: str, what: str, data: bytes) -> str:
     return "damaged"
 
 
-def try_damaged(folder: str, files: int) -> None:
-    """So many files of each form, broken in every way."""
-    chance, ends = random.Random(6), dict[str, int]()
+def packed(frames: "ndarray") -> bytes:
+    """Frames of 24 bits as they are in a WAVE file."""
+    numbers = frames.astype("<i4").tobytes()
+    return b"".join(numbers[at : at + 3] for at in range(0, len(numbers), 4))
+
+
+def try_in_c(folder: str, what: str, command: str) -> None:
+    """The same broken file, played in C by the lines of docs/LIBRARY.md."""
+    name, out = os.path.join(folder, "broken"), os.path.join(folder, "damaged.pcm")
+    frames, why = played(tolerantly, name)
+    status, said = run(command, READY, name, out)
+    if frames is None or len(frames) == 0:
+        demand(status == 0 and said and get(out) == b"", f"C: {what}: {status} {said!r}, and not refused")
+        return
+    demand(status == 0 and get(out) == packed(frames), f"C: {what}: other frames than in Python: {said!r} {why!r}")
+    line = f"damaged after frame {len(frames)}\n" if why is not None else ""
+    demand(said.partition("\n")[0] == line.rstrip("\n"), f"C: {what}: said {said!r}, and not {line!r}")
+
+
+def try_damaged(folder: str, command: str, files: int) -> None:
+    """So many files of each form, broken in every way. What reads the header alone finds no chunks after a sound whose size
+    is wrong."""
+    chance, ends, in_c = random.Random(6), dict[str, int](), 0
     for _ in range(files):
         for it in (whole_dsdiff(chance), whole_dsf(chance)):
+            has_more = not it.is_dsf and len(it.data) > it.start + it.size + 1
             for what, data in broken(it, chance):
                 end = try_one(folder, what, data)
                 ends[end] = ends.get(end, 0) + 1
-    print(f"Python: damaged files: {', '.join(f'{count} {end}' for end, count in sorted(ends.items()))}", flush=True)
+                if not has_more or what != "the sound's size":
+                    try_in_c(folder, what, command)
+                    in_c += 1
+    said = ", ".join(f"{count} {end}" for end, count in sorted(ends.items()))
+    print(f"Python: damaged files: {said}; {in_c} of them in C, too", flush=True)
+
+
+def try_lines() -> None:
+    """docs/LIBRARY.md has the lines that are tried."""
+    lines = get(os.path.join(ROOT, "docs", "LIBRARY.md")).decode()
+    tried = get(os.path.join(ROOT, "tests", "library", "damaged.c")).decode()
+    begin, end = tried.index("static dsdarc_status give("), tried.index("int main(")
+    wanted = "".join(f"    {it}\n" if it else "\n" for it in tried[begin:end].rstrip().split("\n"))
+    demand(wanted in lines, "docs/LIBRARY.md: other lines for a damaged file than tests/library/damaged.c")

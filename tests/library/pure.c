@@ -131,6 +131,87 @@ static void try_channels(void) {
     IS(dsdarc_channel_mask(NULL, 0, &mask) == DSDARC_NOT_YET && dsdarc_channel_mask("", SIZE_MAX, &mask) == DSDARC_SIZE);
 }
 
+static void put(unsigned char *at, uint64_t number, int step) {
+    for (int k = 0; k < 8; k++, number >>= 8) at[step > 0 ? k : 7 - k] = (unsigned char)number;
+}
+
+/* The head of a DSDIFF file of two channels that states so many bytes of sound; it has 94 bytes. */
+static void form_of(unsigned char *at, uint64_t form, uint64_t sound) {
+    memcpy(at, "FRM8\0\0\0\0\0\0\0\0DSD FVER\0\0\0\0\0\0\0\4\1\5\0\0PROP\0\0\0\0\0\0\0\x2aSND ", 48);
+    memcpy(at + 48, "FS  \0\0\0\0\0\0\0\4\0\x2b\x11\0CHNL\0\0\0\0\0\0\0\12\0\2SLFTSRGT", 38);
+    memcpy(at + 86, "DSD \0\0\0\0\0\0\0", 12);
+    put(at + 4, form, -1), put(at + 90, sound, -1);
+}
+
+/* The same of a DSF file of two channels and so many bits, which has 92 bytes. */
+static void blocks_of(unsigned char *at, uint64_t bits, uint64_t data, uint64_t tag) {
+    memset(at, 0, 92);
+    memcpy(at, "DSD \x1c", 5), memcpy(at + 28, "fmt \x34", 5), memcpy(at + 80, "data", 4);
+    at[40] = 1, at[48] = at[52] = 2, at[60] = 1, at[73] = 16;
+    memcpy(at + 56, "\0\x11\x2b\0", 4);
+    put(at + 20, tag, 1), put(at + 64, bits, 1), put(at + 84, data, 1);
+}
+
+/* Mends a header, of which only `size` bytes are given: whether the status is this one, and what is there is this. A header
+ * that isn't changed is as it was. */
+static int mends(const unsigned char *header, size_t size, uint64_t file, dsdarc_status status, dsdarc_mended wanted) {
+    unsigned char *own = copy(header, size);
+    dsdarc_mended it = {77, 0, 0, 0, 0, 0};
+    int is = dsdarc_mend_header(own, size, file, &it, sizeof it) == status;
+    if (status != DSDARC_OK) is = is && it.start == 77;
+    else is = is && memcmp(&it, &wanted, sizeof it - sizeof it.changed) == 0 && it.changed == wanted.changed;
+    is = is && (memcmp(own, header, size) != 0) == (status == DSDARC_OK && wanted.changed);
+    /* What was mended states what is there. */
+    if (is && it.changed)
+        is = dsdarc_mend_header(own, size, it.stop + it.fill, &it, sizeof it) == DSDARC_OK && !it.changed && it.bits == wanted.bits;
+    free(own);
+    return is;
+}
+
+static void try_mending(void) {
+    enum { START = 98, FORM = 86 };
+    unsigned char at[200];
+    const dsdarc_mended none = {0, 0, 0, 0, 0, 0};
+    dsdarc_mended it;
+    form_of(at, FORM + 20, 20);
+    IS(mends(at, START, START + 20, DSDARC_OK, (dsdarc_mended){START, START + 20, 0, 80, 80, 0}));
+    IS(mends(at, START, START + 15, DSDARC_OK, (dsdarc_mended){START, START + 14, 0, 56, 80, 1}));
+    IS(mends(at, START, START + 30, DSDARC_OK, (dsdarc_mended){START, START + 20, 0, 80, 80, 0}));
+    IS(mends(at, START, START + 1, DSDARC_FILE_REFUSED, none) && mends(at, START - 1, START + 20, DSDARC_NOT_YET, none));
+    IS(mends(at, START - 1, START - 1, DSDARC_FILE_REFUSED, none) && mends(at, 9, 10, DSDARC_NOT_YET, none));
+    form_of(at, FORM + 20, 0), memset(at + START, 0x69, 20);
+    IS(mends(at, START + 12, START + 20, DSDARC_OK, (dsdarc_mended){START, START + 20, 0, 80, 0, 1}));
+    IS(mends(at, START + 11, START + 20, DSDARC_NOT_YET, none));
+    form_of(at, FORM + 20, 0), memcpy(at + START, "MANF\0\0\0\0\0\0\0\10", 12);
+    IS(mends(at, START + 20, START + 20, DSDARC_OK, (dsdarc_mended){START, START, 0, 0, 0, 0}));
+    form_of(at, UINT64_MAX, UINT64_MAX);
+    IS(mends(at, START, START + 20, DSDARC_OK, (dsdarc_mended){START, START + 20, 0, 80, 0, 1}));
+    form_of(at, FORM, 0);
+    IS(mends(at, START, START, DSDARC_OK, (dsdarc_mended){START, START, 0, 0, 0, 0}));
+    form_of(at, FORM + 60, 20);
+    IS(mends(at, START, START + 20, DSDARC_OK, (dsdarc_mended){START, START + 20, 0, 80, 80, 1}));
+    blocks_of(at, 9 * 8, 12 + 8192, 0);
+    IS(mends(at, 92, 92 + 8192, DSDARC_OK, (dsdarc_mended){92, 92 + 8192, 0, 72, 72, 0}));
+    IS(mends(at, 92, 92 + 4096 + 9, DSDARC_OK, (dsdarc_mended){92, 92 + 4096 + 9, 4096 - 9, 72, 72, 1}));
+    IS(mends(at, 92, 92 + 4096 + 5, DSDARC_OK, (dsdarc_mended){92, 92 + 4096 + 5, 4096 - 5, 40, 72, 1}));
+    IS(mends(at, 92, 92 + 4096, DSDARC_FILE_REFUSED, none) && mends(at, 91, 92 + 4096, DSDARC_NOT_YET, none));
+    blocks_of(at, 9 * 8, 12 + 8192, 92 + 8192);
+    IS(mends(at, 92, 92 + 8192 + 30, DSDARC_OK, (dsdarc_mended){92, 92 + 8192, 0, 72, 72, 0}));
+    blocks_of(at, 9 * 8, 12 + 4096 + 9, 92 + 4096 + 9);
+    IS(mends(at, 92, 92 + 9000, DSDARC_OK, (dsdarc_mended){92, 92 + 4096 + 9, 4096 - 9, 72, 72, 1}));
+    blocks_of(at, 0, 0, 92 + 4096 + 9);
+    IS(mends(at, 92, 92 + 9000, DSDARC_OK, (dsdarc_mended){92, 92 + 4096 + 9, 4096 - 9, 72, 0, 1}));
+    blocks_of(at, 9 * 8, 12 + 8192, 100);
+    IS(mends(at, 92, 92 + 8192, DSDARC_OK, (dsdarc_mended){92, 92 + 8192, 0, 72, 72, 1}));
+    IS(dsdarc_mend_header(NULL, 1, 1, &it, sizeof it) == DSDARC_NULL && dsdarc_mend_header(at, 0, 0, NULL, 0) == DSDARC_NULL);
+    IS(dsdarc_mend_header(at, 92, 91, &it, sizeof it) == DSDARC_SIZE);
+    IS(dsdarc_mend_header(at, SIZE_MAX, UINT64_MAX, &it, sizeof it) == DSDARC_SIZE);
+    IS(dsdarc_mend_header(at, 92, UINT64_MAX, &it, sizeof it) == DSDARC_TOO_LONG);
+    IS(dsdarc_mend_header(NULL, 0, 1, &it, sizeof it) == DSDARC_NOT_YET);
+    IS(dsdarc_mend_header(NULL, 0, 0, &it, sizeof it) == DSDARC_FILE_REFUSED);
+    IS(mends((const unsigned char *)"RIFF\0\0\0\0WAVEfmt ", 16, 99, DSDARC_FILE_REFUSED, none));
+}
+
 static uint64_t state = 0x9E3779B97F4A7C15u;
 
 static size_t below(size_t n) {
@@ -155,9 +236,33 @@ static void try_random(void) {
     }
 }
 
+/* Headers of which some bytes are changed: what is mended is in the file, and states what is there. */
+static void try_random_headers(void) {
+    static const uint64_t sizes[] = {0, 1, 12, 41, 92, 4096, 8192, 1 << 20, UINT64_C(1) << 36, UINT64_MAX, UINT64_MAX - 11};
+    for (int turn = 0; turn < 200000; turn++) {
+        unsigned char at[98], *own;
+        uint64_t file = below(3) ? below(40000) : sizes[below(9)], size = below(4) ? sizeof at : below(sizeof at + 1);
+        dsdarc_mended it, again;
+        if (below(2)) form_of(at, sizes[below(11)], sizes[below(11)]);
+        else blocks_of(at, sizes[below(11)], sizes[below(11)], sizes[below(11)]);
+        while (below(2)) put(at + below(sizeof at - 7), sizes[below(11)], below(2) ? 1 : -1);
+        while (below(3) == 0) at[below(sizeof at)] = (unsigned char)below(256);
+        if (size > file) size = file;
+        own = copy(at, size);
+        if (dsdarc_mend_header(own, size, file, &it, sizeof it) == DSDARC_OK) {
+            IS(it.start <= it.stop && it.start <= size && it.stop <= file && it.fill < 6 * 4096 && it.bits <= UINT64_C(1) << 36);
+            IS(!it.changed || dsdarc_mend_header(own, size, it.stop + it.fill, &again, sizeof again) == DSDARC_OK);
+            IS(!it.changed || (!again.changed && again.bits == it.bits && again.start == it.start));
+        }
+        free(own);
+    }
+}
+
 int main(void) {
     try_index();
     try_channels();
+    try_mending();
     try_random();
+    try_random_headers();
     return failed;
 }

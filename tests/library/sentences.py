@@ -10,7 +10,7 @@ from tests.library.playing import BUILT, PROGRAM, compiled
 
 SOURCES = [
     os.path.join(ROOT, "library", f"{it}.c")
-    for it in ("dsdarc", "formats", "describing", "ready", "filters", "channels")
+    for it in ("dsdarc", "formats", "describing", "ready", "filters", "channels", "mending")
 ]
 ARCHIVE = os.path.join(BUILT, "libdsdarc.a")
 

@@ -17,7 +17,7 @@
 # ready filter that plays IN to it. Of 88200/24,96000/24 this is the first that exists; with --plus6 it is the one that
 # is 6 dB louder. --plus6 and --explain may then be anywhere after `play`. IN is read first, so it must not be a pipe.
 #
-# `sum -r` and `info --json` are done by scripts in the folders beside docs/, which run the program.
+# `sum -r`, `info --json` and `convert --tag` are done by scripts in the folders beside docs/, which run the program.
 # shellcheck shell=sh
 
 print_usage() {
@@ -111,7 +111,9 @@ plays_by_wish() {
             program\ *) play_before='' && continue ;;
             --from\ * | --to\ * | --previous\ * | --next\ *) play_before='' && continue ;;
             " --from" | " --to" | " --previous" | " --next") play_before="$play_argument" && continue ;;
-            " --from="* | " --to="* | " --previous="* | " --next="* | " --speakers" | " --dop") continue ;;
+            " --from="* | " --to="* | " --previous="* | " --next="* | " --speakers" | " --rf64" | " --dop")
+                continue
+                ;;
             " --") play_before=names && continue ;;
             " --plus6") play_louder=yes play_drops="$play_drops$play_place " && continue ;;
             " --explain") play_explains=--explain play_drops="$play_drops$play_place " && continue ;;
@@ -231,10 +233,11 @@ script_for() {
         case "$script_command $script_word" in
             *" --") break ;;
             program\ --explain) ;;
-            program\ sum | program\ info) script_command="$script_word" ;;
+            program\ sum | program\ info | program\ convert) script_command="$script_word" ;;
             program\ *) break ;;
             "sum -r") script_found=workflows/sum_folder ;;
             "info --json") script_found=tools/info_json ;;
+            "convert --tag") script_found=workflows/convert_tag ;;
             *) script_command="${script_command:-program}" ;;
         esac
     done
@@ -267,7 +270,7 @@ run_child() {
     for child_name; do
         case "$child_before:$child_name" in
             --from:* | --to:* | --previous:* | --next:* | *:--from | *:--to | *:--previous | *:--next) ;;
-            *:--from=* | *:--to=* | *:--previous=* | *:--next=* | *:--speakers | *:--dop) ;;
+            *:--from=* | *:--to=* | *:--previous=* | *:--next=* | *:--speakers | *:--rf64 | *:--dop) ;;
             *) child_first="$child_second" child_second="$child_name" ;;
         esac
         child_before="$child_name"

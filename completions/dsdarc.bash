@@ -84,7 +84,7 @@ _dsdarc() {
             width=2
             case "$command ${COMP_WORDS[next]}" in
                 "play --from" | "play --to" | "play --previous" | "play --next") ;;
-                "play --plus6" | *" --speakers") width=1 ;;
+                "play --plus6" | "play --rf64" | "convert --tag" | *" --speakers") width=1 ;;
                 *" --dop") width=1 dop=yes ;;
                 *) break ;;
             esac
@@ -102,7 +102,8 @@ _dsdarc() {
         case "$cur" in
             --*)
                 compopt +o filenames +o default 2>/dev/null
-                if [ "$command" = play ]; then _dsdarc_words --from --to --previous --next --plus6; fi
+                if [ "$command" = play ]; then _dsdarc_words --from --to --previous --next --rf64 --plus6; fi
+                if [ "$command" = convert ]; then _dsdarc_words --tag; fi
                 _dsdarc_words --speakers --dop
                 return
                 ;;

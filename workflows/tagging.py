@@ -1,7 +1,7 @@
-"""Hands the ID3 tag of a DSF, DSDIFF or WAVE file on to another one, by mutagen; the sound stays as it is.
+"""Hands the ID3 tag of a DSF, DSDIFF or WAVE file on to another one; the sound stays as it is.
 
 A DSF file has its tag at its end, a DSDIFF file in a chunk `ID3 `, a WAVE file in a chunk `id3 `. The tag is handed on as
-its bytes. It has to be one that mutagen reads, before and after. Whether a file has one is seen without mutagen."""
+its bytes, which are read again. If mutagen is installed, it has to read the same of the tag before and after."""
 import hashlib
 import io
 import os
@@ -13,8 +13,14 @@ from typing import Any, BinaryIO
 from dsdarc_scripts import channels
 from dsdarc_scripts.outputs import Refused
 
-# How chunks are laid out, by the first bytes of a file: ID and size, where they begin, and the tag's.
-FORMS = {b"FRM8": (struct.Struct(">4sQ"), 16, (b"ID3 ",)), b"RIFF": (struct.Struct("<4sI"), 12, (b"id3 ", b"ID3 "))}
+# How chunks are laid out, by the first bytes of a file: ID and size, where they begin, and the tag's; programs look for
+# none in an RF64 file.
+FORMS = {
+    b"FRM8": (struct.Struct(">4sQ"), 16, (b"ID3 ",)),
+    b"RIFF": (struct.Struct("<4sI"), 12, (b"id3 ", b"ID3 ")),
+    b"RF64": (struct.Struct("<4sI"), 12, ()),
+}
+WAVES = (b"RIFF", b"RF64")
 PIECE = 1 << 20
 # A WAVE file has no more bytes after its first 8 than this.
 MOST_WAVE = 2**32 - 1
@@ -45,19 +51,30 @@ def has_mutagen() -> bool:
 
 def broken() -> tuple[type[Exception], ...]:
     """What mutagen raises for a broken file or tag."""
+    more = AssertionError, AttributeError, LookupError, MemoryError, OverflowError, TypeError, ValueError, struct.error
+    if not has_mutagen():
+        return more
     from mutagen import MutagenError
 
-    more = AssertionError, AttributeError, LookupError, MemoryError, OverflowError, TypeError, ValueError, struct.error
     return MutagenError, *more
 
 
 def chunks(file: BinaryIO, form: bytes) -> Iterator[tuple[bytes, int, int]]:
-    """ID, first byte and size of each chunk of a DSDIFF or WAVE file."""
+    """ID, first byte and size of each chunk of a DSDIFF or WAVE file. What follows a DSDIFF form isn't of the file. In an
+    RF64 file (EBU Tech 3306) the size of the samples is in the first chunk."""
     head, at, _ = FORMS[form]
     stop = os.fstat(file.fileno()).st_size
+    samples_size = MOST_WAVE
+    if form == b"FRM8":
+        file.seek(0)
+        stop = min(stop, head.size + head.unpack(channels.take(file, head.size))[1])
     while at + head.size <= stop:
         file.seek(at)
         name, size = head.unpack(channels.take(file, head.size))
+        if name == b"ds64":
+            samples_size = struct.unpack("<8xQ", channels.take(file, 16))[0]
+        if form == b"RF64" and name == b"data" and size == MOST_WAVE:
+            size = samples_size
         yield name, at + head.size, size
         at += head.size + size + size % 2
 
@@ -88,7 +105,7 @@ def tag_of(name: str) -> bytes:
 def sound_range(file: BinaryIO) -> tuple[int, int]:
     """The first byte of a file's sound, and the one after it."""
     form = form_of(file)
-    if form == b"RIFF":
+    if form in WAVES:
         for chunk, at, size in chunks(file, form):
             if chunk == b"data":
                 return at, at + size
@@ -154,65 +171,105 @@ def remove_all(name: str) -> None:
         remove(name)
 
 
+def insert(file: BinaryIO, at: int, data: bytes) -> None:
+    """Inserts bytes into a file, before those from a place on."""
+    stop = file.seek(0, os.SEEK_END)
+    while stop > at:
+        first = max(stop - PIECE, at)
+        file.seek(first)
+        moved = channels.take(file, stop - first)
+        file.seek(first + len(data))
+        file.write(moved)
+        stop = first
+    file.seek(at)
+    file.write(data)
+
+
+def add_chunk(file: BinaryIO, form: bytes, tag: bytes) -> None:
+    """Adds a tag to a DSDIFF or WAVE file, after its last chunk, whose pad may be missing; before what follows the form."""
+    head, end, names = FORMS[form]
+    size = file.seek(0, os.SEEK_END)
+    file.seek(0)
+    stated = head.size + head.unpack(channels.take(file, head.size))[1]
+    for _, at, length in chunks(file, form):
+        if end in (stated, stated + 1):
+            break
+        end = at + length + length % 2
+    if end > size + 1:
+        raise Untagged("its last chunk isn't whole")
+    place = min(end, size)
+    data = bytes(end - place) + head.pack(names[0], len(tag)) + tag + bytes(len(tag) % 2)
+    stop = place + len(data)
+    if form == b"RIFF" and stop > MOST_WAVE:
+        raise Untagged("a WAVE file has no room for it below 4 GiB")
+    insert(file, place, data)
+    file.seek(0)
+    file.write(head.pack(form, stop - head.size))
+
+
 def write(name: str, tag: bytes) -> None:
     """Writes a tag into a file that has none, in its place."""
-    from mutagen._riff import RiffFile
-    from mutagen.dsdiff import DSDIFFFile
-    from mutagen.dsf import DSFFile
-
     with open(name, "r+b") as file:
         form = form_of(file)
-        end = file.seek(0, os.SEEK_END)
         if form == b"DSD ":
+            end = file.seek(0, os.SEEK_END)
             file.write(tag)
-            file.seek(0)
-            head: Any = DSFFile(file).dsd_chunk
-            head.offset_metdata_chunk, head.total_size = end, end + len(tag)
-            head.write()
-        elif form == b"FRM8":
-            file.seek(4)
-            if struct.unpack(">Q", channels.take(file, 8))[0] + 12 == end + 1:
-                # The last pad, which may be missing.
-                file.seek(end)
-                file.write(b"\0")
-            DSDIFFFile(file).insert_chunk("ID3", tag)
+            file.seek(12)
+            file.write(struct.pack("<QQ", end + len(tag), end))
+        elif form in FORMS and FORMS[form][2]:
+            add_chunk(file, form, tag)
         else:
-            if end + len(tag) + 16 > MOST_WAVE:
-                raise Untagged("a WAVE file has no room for it below 4 GiB")
-            RiffFile(file).insert_chunk("id3", tag)
+            raise Untagged("it has no place for a tag")
         file.flush()
         os.fsync(file.fileno())
 
 
-def put(name: str, tag: bytes, is_compared: bool = False) -> None:
-    """Puts a tag into a file that no one else reads yet, in the place of the one that it has. Its sound has to be the
-    same before and after, unless that is compared elsewhere, and mutagen has to read the tag back. Where this fails
-    the file isn't to be used."""
-    said, before = read(tag), None if is_compared else sound_sum(name)
+def heard(tag: bytes) -> tuple[list[str] | None, str]:
+    """What the bytes of a tag say, or None where mutagen doesn't read them, or isn't installed; and what is wrong with
+    them, or nothing."""
+    if not has_mutagen():
+        return None, "" if tag.startswith(b"ID3") else "its tag is no ID3 tag"
     try:
-        remove_all(name)
+        return read(tag), ""
+    except Untagged as why:
+        return None, str(why)
+
+
+def put(name: str, tag: bytes, is_compared: bool = False, takes_any: bool = False) -> None:
+    """Puts a tag into a file that no one else reads yet, in the place of the one that it has. Its sound has to be the
+    same before and after, unless that is compared elsewhere. What is no ID3 tag is refused, unless `takes_any`. Where this
+    fails the file isn't to be used."""
+    said, why = heard(tag)
+    if why and not takes_any:
+        raise Untagged(why)
+    before = None if is_compared else sound_sum(name)
+    try:
+        if tag_of(name):
+            remove_all(name)
         write(name, tag)
-        back = read_back(name)
+        back = None if said is None else read_back(name)
     except broken() as error:
-        raise Untagged(f"mutagen can't write the tag: {str(error) or type(error).__name__}") from None
+        raise Untagged(f"the tag can't be written: {str(error) or type(error).__name__}") from None
     if not is_compared and sound_sum(name) != before:
         raise Untagged("its sound would be another")
     if back != said or tag_of(name) != tag:
         raise Untagged("the tag is read back as another one")
 
 
-def hand_on(source: str, name: str, is_compared: bool = False) -> str | None:
+def hand_on(source: str, name: str, is_compared: bool = False, takes_any: bool = False) -> str | None:
     """Gives a file that was just made the tag of its source, where it has none. Returns nothing where there is none to
     hand on, else whether it was, or why not; then the file is as it was."""
-    tag = tag_of(source)
+    return give(tag_of(source), name, is_compared, takes_any)
+
+
+def give(tag: bytes, name: str, is_compared: bool = False, takes_any: bool = False) -> str | None:
+    """The same of the bytes of a tag."""
     if not tag or tag_of(name):
         return None
-    if not has_mutagen():
-        return NOT_INSTALLED
     with open(name, "rb") as file:
         head, size = file.read(28), os.path.getsize(name)
     try:
-        put(name, tag, is_compared)
+        put(name, tag, is_compared, takes_any)
     except Refused as why:
         with open(name, "r+b") as file:
             file.write(head)

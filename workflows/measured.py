@@ -48,9 +48,10 @@ class Wave:
 def wave_of(file: BinaryIO) -> Wave:
     """What a WAVE file holds whose samples are 16 or 24 bits of PCM."""
     form = data = None
-    if tagging.form_of(file) != b"RIFF":
+    kind = tagging.form_of(file)
+    if kind not in tagging.WAVES:
         raise Refused("it is no WAVE file")
-    for name, at, size in tagging.chunks(file, b"RIFF"):
+    for name, at, size in tagging.chunks(file, kind):
         if name == b"fmt ":
             file.seek(at)
             form = file.read(size)

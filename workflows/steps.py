@@ -120,7 +120,7 @@ def convert(key: str) -> None:
         must(entry, lambda: room.copied_size(source), "convert", looked["form"], part, back)
         kept = kept_of.keep_all_but_sound(source, front)
         # Before the bits are compared, so that they are those of the file with its tag.
-        tag = tagging.hand_on(source, part, is_compared=True)
+        tag = tagging.hand_on(source, part, is_compared=True, takes_any=True)
         rate, sums = compare(entry, source, looked["sha256"], part, back, kept)
         made = {result("converted", entry, f".{ENDINGS[form]}"): part}
         made |= {result("kept", entry, ending): file for ending, file in kept.items()}

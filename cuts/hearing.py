@@ -1,10 +1,9 @@
 """What of a one-bit signal is heard: all below 20 kHz. Full scale is stored ones alone; levels are in dB to it."""
 import math
 from functools import lru_cache
-from typing import TYPE_CHECKING
+from typing import TYPE_CHECKING, Any
 
 import numpy as np
-from scipy import fft, special
 
 if TYPE_CHECKING:
     from cuts.takes import Signals
@@ -14,13 +13,29 @@ if TYPE_CHECKING:
 COSINES = (0.35875, 0.48829, 0.14128, 0.01168)  # of the window of Blackman and Harris
 
 
+@lru_cache
+def fft() -> Any:
+    """scipy's spectra. They are loaded when they are first needed, as that takes longer than to open a take."""
+    from scipy import fft as found
+
+    return found
+
+
+@lru_cache
+def special() -> Any:
+    """scipy's functions, which are loaded so, too."""
+    from scipy import special as found
+
+    return found
+
+
 def kaiser_lowpass(turn: float, width: float, down: int) -> np.ndarray:
     """Taps of linear phase, an odd number, with the sum 1, by Kaiser's window: what they pass ends at a turn, and falls
     around it in a width, both relative to half the rate. What they stop is more than 50 dB down."""
     number = int(np.ceil((down - 7.95) / 2.285 / (np.pi * width) + 1)) | 1
     shape, half = 0.1102 * (down - 8.7), (number - 1) / 2.0
     places = np.arange(0, number)
-    window = special.i0(shape * np.sqrt(1 - ((places - half) / half) ** 2.0)) / special.i0(shape)
+    window = special().i0(shape * np.sqrt(1 - ((places - half) / half) ** 2.0)) / special().i0(shape)
     taps = turn * np.sinc(turn * (places - 0.5 * (number - 1))) * window
     return taps / np.sum(taps)
 
@@ -38,11 +53,11 @@ def block_for(length: int, count: int) -> int:
     """The size of the spectra by which a row of some length is convolved fastest with so many taps."""
     over = count - 1
     if 1 < count < length / 2:
-        best = -over * special.lambertw(-1 / (2 * math.e * over), k=-1).real
-        size = fft.next_fast_len(math.ceil(best))
+        best = -over * special().lambertw(-1 / (2 * math.e * over), k=-1).real
+        size = fft().next_fast_len(math.ceil(best))
         if size < length:
             return size
-    return fft.next_fast_len(length + over, True)
+    return fft().next_fast_len(length + over, True)
 
 
 def convolved(rows: np.ndarray, taps: np.ndarray) -> np.ndarray:
@@ -52,8 +67,8 @@ def convolved(rows: np.ndarray, taps: np.ndarray) -> np.ndarray:
     step, over = size - count + 1, count - 1
     pieces = -(-length // step)
     padded = np.pad(rows, [(0, 0)] * (rows.ndim - 1) + [(0, pieces * step - length)])
-    parts = fft.rfft(padded.reshape(*rows.shape[:-1], pieces, step), size, axis=-1) * fft.rfft(taps, size)
-    made = fft.irfft(parts, size, axis=-1)
+    parts = fft().rfft(padded.reshape(*rows.shape[:-1], pieces, step), size, axis=-1) * fft().rfft(taps, size)
+    made = fft().irfft(parts, size, axis=-1)
     found = made[..., :step].copy()
     found[..., 1:, :over] += made[..., :-1, step:]
     last = made[..., -1:, step:].reshape(*rows.shape[:-1], -1)
@@ -95,18 +110,18 @@ class Hearing:
     @lru_cache(maxsize=8)
     def spectrum(self, size: int) -> np.ndarray:
         """That of the low-pass, for that many places."""
-        return fft.rfft(np.roll(np.pad(self.taps, (0, size - len(self.taps))), -self.half)).real
+        return fft().rfft(np.roll(np.pad(self.taps, (0, size - len(self.taps))), -self.half)).real
 
     @lru_cache(maxsize=8)
     def weighting(self, size: int) -> np.ndarray:
         """The A-weighting of spectra of so many places."""
-        return weighting(fft.rfftfreq(size, 1 / self.rate))
+        return weighting(fft().rfftfreq(size, 1 / self.rate))
 
     def click(self, error: np.ndarray, wider: int = 0) -> np.ndarray:
         """What is heard of an error, no more than the reach of the low-pass and `wider` places away from its middle."""
         # Not by the library: an error is no sequence of bits, and every place is wanted.
         size = len(error)
-        heard = fft.irfft(fft.rfft(error) * self.spectrum(size), size)
+        heard = fft().irfft(fft().rfft(error) * self.spectrum(size), size)
         reach = min(self.half + wider, size // 2)
         heard[: size // 2 - reach] = 0
         heard[size // 2 + reach :] = 0
@@ -119,7 +134,7 @@ class Hearing:
     def levels(self, error: np.ndarray, wider: int = 0) -> tuple[float, float]:
         """Peak and A-weighted energy of the click of an error, in dB."""
         heard = self.click(error, wider)
-        power = (np.abs(fft.rfft(heard)) * self.weighting(len(heard))) ** 2
+        power = (np.abs(fft().rfft(heard)) * self.weighting(len(heard))) ** 2
         energy = (2 * power.sum() - power[0] - power[-1]) / len(heard)
         return decibels(np.abs(heard).max()), decibels(np.sqrt(energy / (CLICK * self.rate / 2)))
 
@@ -169,7 +184,7 @@ def powers(take: "Signals") -> np.ndarray:
         first = number * max(take.bits - 2 * size, 0) // max(count - 1, 1)
         signs = take.signs(first, first + 2 * size)
         for start in (0, size // 2, size):
-            spectrum = fft.rfft(signs[:, start : start + size] * window, axis=1)
+            spectrum = fft().rfft(signs[:, start : start + size] * window, axis=1)
             found += spectrum.real**2 + spectrum.imag**2
     return found / (3 * count * np.sum(window**2))
 

@@ -2,21 +2,23 @@
 
 Files are known to the page by numbers alone. A take or a mix is opened only below the folders that were named, also
 through links."""
+import contextlib
 import os
 import threading
 import time
 from collections.abc import Callable
 from concurrent.futures import ThreadPoolExecutor
-from dataclasses import dataclass
+from dataclasses import asdict, dataclass
 from typing import Any
 
-from cuts import hearing, takes
+from cuts import takes
 from cuts.albums import MOST_TITLE
+from cuts.list_mixes import LIMIT
 from cuts.takes import Take
-from desk import mixes, sound
+from desk import cache, mixes, sound
 from desk.journal import Journal
-from desk.making import Maker
-from desk.mixes import Clip, Clips, Document, Limits
+from desk.making import MOST_MOVE, Maker, Wanted
+from desk.mixes import Clip, Clips, Document, Head, Limits
 from desk.peaks import Peaks
 from desk.sound import Source
 from dsdarc_scripts.explained import shown_name
@@ -57,23 +59,34 @@ class Asked:
 
 
 class Desk:
-    """The desk. `say` is told what the page should know, from any thread."""
+    """The desk. Each of `hearers` is told what the page should know, from any thread."""
 
-    def __init__(self, asked: Asked, say: Callable[[dict[str, Any]], None]) -> None:
-        self.say, self.lock = say, threading.RLock()
+    def __init__(self, asked: Asked) -> None:
+        self.hearers, self.lock, self.head_lock = (
+            list[Callable[[dict[str, Any]], None]](),
+            threading.RLock(),
+            threading.Lock(),
+        )
         self.top, self.name = os.path.split(os.path.abspath(asked.mix))
         self.folders = Folders([self.top, *(os.path.dirname(os.path.abspath(it)) for it in asked.files)])
         self.path = self.folders.demand(os.path.abspath(asked.mix), "the mix")
         self.takes, self.sources = list[Take](), list[Source]()
         self.peaks = dict[str, Peaks]()
+        self.known: Head | None = None
+        self.unkept: bytes | None = None  # the text, if it isn't remembered yet what is read of it
         self.pool = ThreadPoolExecutor(2, "peaks")
-        self.maker = Maker(os.path.join(self.top, self.name), say)
+        self.maker = Maker(os.path.join(self.top, self.name), self.say)
         self.master: Source | None = None
+        self.predicted_of: Clips | None = None  # the clips of which it was predicted what their cuts leave
         self.outside: str | None = None
         self.notes = list[str]()
         self.lost = set[int]()
         self.open(asked)
         self.open_master()
+
+    def say(self, news: dict[str, Any]) -> None:
+        for it in self.hearers:
+            it(news)
 
     # Opening.
 
@@ -81,26 +94,66 @@ class Desk:
         """Opens the text with its takes, and the journal."""
         data = None if asked.is_new else mixes.read_bytes(self.path)
         self.stamp, self.sum = mixes.stamp_of(self.path), None if data is None else mixes.sum_of(data)
-        mix = None if data is None else self.mix_of(data)
-        names = [] if mix is None else mix.takes
+        kept = None if data is None or asked.files else self.kept_of(self.sum)
+        mix = None if data is None or kept else self.mix_of(data)
+        names = kept["takes"] if kept else [] if mix is None else mix.takes
         known = {os.path.realpath(os.path.join(self.top, it)) for it in names}
         more = [it for it in asked.files if os.path.realpath(it) not in known]
         self.take_in([*names, *dict.fromkeys(os.path.relpath(os.path.abspath(it), self.top) for it in more)])
-        added = self.takes[len(names) :]
-        # Which decoder a new clip of each take gets.
-        if mix is None or data is None:
-            text, self.numbers = mixes.new_text(self.name, added)
-        else:
-            text, numbers = data.decode("utf-8-sig"), [self.usual(mix, it) for it in range(len(names))]
-            if added:
-                text, more_numbers = mixes.with_takes(text, mix, added)
-                numbers += more_numbers
-            self.numbers = numbers
-        self.read_text(text, None if mix is None else mix)
+        self.limits = Limits([it.bits for it in self.takes], self.takes[0].count, self.head)
+        text = "" if data is None else data.decode("utf-8-sig")
+        if data is None or kept is None or not self.recall(text, kept):
+            self.read_text(text, mix if data is None else mix or self.mix_of(data))
+            self.unkept = data if len(names) == len(self.takes) else None
         self.journal = Journal(self.path, self.sum, self.document.base, self.limits)
         if self.journal.saved_clips != self.document.base or self.journal.history.steps:
-            self.document.is_now(text, self.journal.saved_clips)
+            self.document.is_now(self.document.text, self.journal.saved_clips)
         self.say_opened()
+
+    @staticmethod
+    def kept_name(sum_now: str | None) -> str:
+        return f"{(sum_now or '')[:32]}.mix"
+
+    def kept_of(self, sum_now: str | None) -> dict[str, Any] | None:
+        """What is remembered of a text."""
+        found = cache.recalled(self.kept_name(sum_now)) or {}
+        names = found.get("takes")
+        return found if isinstance(names, list) and names and all(isinstance(it, str) for it in names) else None
+
+    def recall(self, text: str, kept: dict[str, Any]) -> bool:
+        """Takes what was read of this text before; whether that still fits the takes."""
+        try:
+            self.known = Head(**kept["head"])
+            clips = {number: mixes.clip_from(it, self.limits) for number, it in enumerate(kept["clips"])}
+        except (Refused, KeyError, TypeError, AttributeError, IndexError):
+            return False
+        self.document = Document(self.name, text, clips, [it.name for it in self.takes], self.takes[0].rate)
+        return True
+
+    def remember(self, data: bytes) -> None:
+        """Keeps what is read of a text, so that it is opened at once."""
+        with contextlib.suppress(Refused):
+            mix, text = self.mix_of(data), data.decode("utf-8-sig")
+            clips = mixes.clips_in(mix, text, shown_name(self.name), self.takes[0].count)
+            head = mixes.head_of(mix, [mixes.usual(mix, it) for it in range(len(mix.takes))])
+            rows = [clips[it].to_json() for it in sorted(clips)]
+            kept = {"takes": mix.takes, "head": asdict(head), "clips": rows}
+            cache.remember(self.kept_name(mixes.sum_of(data)), kept)
+
+    def warm(self) -> None:
+        """Gets ready what the first change needs, and remembers what was read."""
+        self.head()
+        data, self.unkept = self.unkept, None
+        if data is not None:
+            self.remember(data)
+
+    def head(self) -> Head:
+        """What the text says besides its clips. That of a new text is made when it is first needed: it takes longer than
+        to open takes."""
+        with self.head_lock:
+            if self.known is None:
+                self.document.text, self.known = mixes.new_text(self.name, self.takes)
+            return self.known
 
     def mix_of(self, data: bytes) -> Mix:
         try:
@@ -108,12 +161,6 @@ class Desk:
         except MixFault as error:
             why = str(error).removeprefix("Mix ")
             raise Refused(f"{shown_name(self.name)}: {why}: it is no mix as docs/NULL_TEST.md says") from None
-
-    @staticmethod
-    def usual(mix: Mix, take: int) -> int:
-        """The decoder that most clips of a take have."""
-        found = [it.decoder for it in mix.clips if it.take == take] or [it.decoder for it in mix.clips]
-        return max(set(found), key=lambda it: (found.count(it), -it))
 
     def take_in(self, names: list[str]) -> None:
         """Opens takes, which are of one kind."""
@@ -138,8 +185,8 @@ class Desk:
             self.takes.append(take)
 
     def read_text(self, text: str, mix: Mix | None) -> None:
-        """Takes the clips of a text."""
-        clips = Clips()
+        """Takes the clips of a text, and adds the takes to it that it doesn't name."""
+        clips, head = Clips(), None
         if mix is not None:
             takes_of = [self.takes[it] for it in range(len(mix.takes))]
             for number, it in enumerate(mix.clips):
@@ -150,11 +197,11 @@ class Desk:
                 if it.gains is not None and len(it.gains) != self.takes[0].count:
                     raise Refused(f"{shown_name(self.name)}: clip {number} has gains of other channels than the takes")
             clips = mixes.clips_in(mix, text, shown_name(self.name), self.takes[0].count)
-        found = mixes.head_in(text)
+            head = mixes.head_of(mix, [mixes.usual(mix, it) for it in range(len(mix.takes))])
+            if len(mix.takes) < len(self.takes):
+                text, head = mixes.with_takes(text, mix, self.takes[len(mix.takes) :])
         self.document = Document(self.name, text, clips, [it.name for it in self.takes], self.takes[0].rate)
-        self.limit, self.full = found.limit, found.full
-        self.limits = Limits([it.bits for it in self.takes], len(found.totals), self.takes[0].count)
-        self.totals = found.totals
+        self.known = head
 
     def say_opened(self) -> None:
         count = self.journal.taken_up
@@ -192,10 +239,7 @@ class Desk:
     def progress(self) -> list[dict[str, Any]]:
         """How far the peaks of each source are, for a page that comes."""
         with self.lock:
-            return [
-                {"peaks": {"source": name, "done": it.done, "of": it.source.frames, "why": it.why}}
-                for name, it in self.peaks.items()
-            ]
+            return [{"peaks": it.news(name)} for name, it in self.peaks.items()]
 
     def make_peaks(self, name: str, peaks: Peaks) -> None:
         last = 0.0
@@ -205,7 +249,7 @@ class Desk:
             now = time.monotonic()
             if now - last > LATER or peaks.is_ready or peaks.why:
                 last = now
-                self.say({"peaks": {"source": name, "done": peaks.done, "of": peaks.source.frames, "why": peaks.why}})
+                self.say({"peaks": peaks.news(name)})
 
         peaks.make(step)
 
@@ -238,9 +282,10 @@ class Desk:
                 "outside": self.outside,
                 "taken_up": self.journal.taken_up,
                 "notes": self.notes,
-                "limit": round(hearing.decibels(self.limit / self.full), 2) if self.limit else None,
+                "limit": LIMIT if self.known is None else self.known.limit,
                 "make": {key: it for key, it in self.maker.state.items() if key != "lines"},
                 "made": self.made(),
+                "predicted": self.predicted(),
                 "lost": sorted(self.lost),
             }
 
@@ -251,8 +296,8 @@ class Desk:
         for number, (take, source) in enumerate(zip(self.takes, self.sources)):
             peaks = self.peaks_of(f"take-{number}")
             marks = [{"bit": it.bits, "title": it.title} for it in source.sound.marks if 0 <= it.bits <= take.bits]
-            row = {"name": take.name, "bits": take.bits, "frames": source.frames, "decoder": self.numbers[number]}
-            rows.append(row | {"marks": marks, "done": peaks.done})
+            row = {"name": take.name, "bits": take.bits, "frames": source.frames}
+            rows.append(row | {"marks": marks, "done": peaks.done, "peak": peaks.loudest()})
         names = list(first.sound.channels.names) or [str(it) for it in range(first.count)]
         about = {"rate": first.source_rate, "frame_rate": first.rate, "factor": first.factor, "width": first.width}
         return about | {"channels": names, "takes": rows, "most_title": MOST_TITLE}
@@ -298,6 +343,7 @@ class Desk:
         """Writes the text. A file that another program changed is kept under another name, if it is to be written over."""
         with self.lock:
             self.demand_number(number)
+            self.head()
             self.look_outside()
             if self.outside is not None and not over:
                 raise Outdated
@@ -312,6 +358,7 @@ class Desk:
             if self.clips != self.document.base:
                 self.document.is_now(data.decode(), self.clips)
             self.journal.saved(self.sum)
+            self.pool.submit(self.remember, data)
 
     def look_outside(self) -> bool:
         """Looks whether another program changed the text; whether there is news."""
@@ -372,6 +419,25 @@ class Desk:
 
     # The master.
 
+    def wanted(self, move: object, predicts: bool) -> Wanted:
+        """What a master is made of, or what is predicted of one. Cuts may move by so many us."""
+        with self.lock:
+            self.head()
+            if not predicts and not self.is_saved:
+                raise Refused("save the mix first")
+            if type(move) is not int or not 0 <= move <= MOST_MOVE:
+                raise Refused(f"cuts move by 0 to {MOST_MOVE // 1000} ms")
+            text = self.document.text_of(self.clips) if predicts else self.document.text
+            if not self.maker.state["running"]:
+                self.predicted_of = dict(self.clips) if predicts else None
+            return Wanted(text.encode(), max(it.stop for it in self.clips.values()), move)
+
+    def predicted(self) -> dict[str, Any] | None:
+        """What the cuts of the mix as it is will leave, if that was predicted."""
+        if self.maker.state["running"] or self.predicted_of != self.clips:
+            return None
+        return self.maker.predicted
+
     def made(self) -> dict[str, Any] | None:
         """What came of the last making, and whether it is of the text as it is."""
         found = self.maker.result()
@@ -403,7 +469,7 @@ class Desk:
         if name == "mix":
             with self.lock:
                 clips = dict(self.clips)
-            return sound.mixed(self.sources, clips, self.totals, first, count)
+            return sound.mixed(self.sources, clips, self.head().totals, first, count)
         source = self.source(name)
         return source.numbers(first, count) * 2.0 ** (1 - source.width)
 

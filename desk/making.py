@@ -1,7 +1,10 @@
 """Makes the master of a mix: render, edit, check, null test, one after the other, and what came of each cut.
 
 All files are in a folder beside the mix: of `album.mix.toml` in `album.made`. `made.json` there has what came of it, with
-the sum of the mix text, and is written last: where it isn't there, or has another sum, the files are of another mix."""
+the sum of the mix text, and is written last: where it isn't there, or has another sum, the files are of another mix.
+
+To predict what cuts will leave, `render` runs alone, in a folder that goes afterwards: it says what the null test will
+find at the bits that it makes."""
 import asyncio
 import contextlib
 import json
@@ -9,6 +12,7 @@ import os
 import re
 import signal
 import sys
+import tempfile
 from collections.abc import Callable
 from dataclasses import dataclass, field
 from typing import Any
@@ -19,6 +23,7 @@ from dsdarc_scripts.explained import shown_name
 
 FOLDER = ".made"
 DONE = "made.json"
+MOVED = ".moved.mix.toml"  # the mix whose cuts moved
 STEPS = ("render", "edit", "check", "nulltest")
 SAYS = {
     "render": "new bits where the mix changes",
@@ -27,10 +32,14 @@ SAYS = {
     "nulltest": "whether it sounds like the mix",
 }
 MOST_LINES = 20_000
+MOST_MOVE = 100_000  # us that a cut may move
 # What the file of what came of it has.
 KEYS = {"sum", "endings", "sizes", "master", "share", "residual", "accepted", "checked", "cuts", "new"}
 NEW = re.compile(r"new bits from (\S+) to (\S+) \(bits (\d+) to (\d+)\): ([^;]*)(.*)")
 OF_CHANNEL = re.compile(r"channel (\d+) residual (-?[\d.]+|-inf) dB")
+MOVE = re.compile(
+    r"channel (\d+): the (\w+) from \S+ to \S+ \(bits (\d+) to (\d+)\) comes ([\d.]+) us (earlier|later); .*"
+)
 STRETCH = re.compile(r"channel (\d+) first (\d+) last (\d+) residual (\d+) dBFS (-?[\d.]+|-inf) place (\d+)")
 SHARE = re.compile(r"([\d.]+) % of the master's bits are its takes' own")
 ACCEPTED = re.compile(r"accepted residual (\d+) dBFS (-?[\d.]+|-inf)")
@@ -51,11 +60,21 @@ def level_of(text: str) -> float | None:
     return None if text == "-inf" else float(text)
 
 
+@dataclass(frozen=True)
+class Wanted:
+    """What is to be made: the text of a mix, how many places it has, and by how much cuts may move (us)."""
+
+    data: bytes
+    places: int
+    move: int
+
+
 @dataclass
 class Result:
-    """What came of it: new bits, stretches that the null test judged, and what was accepted."""
+    """What came of it: new bits, cuts that moved, stretches that the null test judged, and what was accepted."""
 
     new: list[dict[str, Any]] = field(default_factory=list)
+    moves: list[dict[str, Any]] = field(default_factory=list)
     stretches: list[dict[str, Any]] = field(default_factory=list)
     share: float | None = None
     residual: float | None = None
@@ -67,6 +86,10 @@ class Result:
         if it := NEW.fullmatch(line):
             rows = {channel: level_of(level) for channel, level in OF_CHANNEL.findall(it[6])}
             self.new.append({"first": int(it[3]), "stop": int(it[4]), "why": it[5], "expected": rows})
+        elif it := MOVE.fullmatch(line):
+            away = float(it[5]) * (1 if it[6] == "later" else -1)
+            row = {"channel": int(it[1]), "what": it[2], "first": int(it[3]), "stop": int(it[4]), "us": away}
+            self.moves.append(row)
         elif it := STRETCH.fullmatch(line):
             row = {"channel": int(it[1]), "first": int(it[2]), "last": int(it[3])}
             self.stretches.append(row | {"db": level_of(it[5]), "place": int(it[6])})
@@ -100,6 +123,14 @@ class Result:
                     cut["new"] = [min(low, it["first"]), max(high, it["stop"])]
         return found
 
+    def expected(self) -> list[dict[str, Any]]:
+        """The same before there is a master: what each stretch of new bits will leave."""
+        rows = []
+        for it in self.new:
+            row = {"first": it["first"], "last": it["stop"] - 1, "db": it["expected"], "why": it["why"]}
+            rows.append(row | {"new": [it["first"], it["stop"]]})
+        return rows
+
 
 class Maker:
     """Makes masters of the mix of a path. `say` is told of each step and line."""
@@ -112,6 +143,7 @@ class Maker:
         self.child: asyncio.subprocess.Process | None = None
         self.task: asyncio.Task[None] | None = None
         self.is_stopped = False
+        self.predicted: dict[str, Any] | None = None
         self.state: dict[str, Any] = {"running": False}
 
     def file(self, ending: str) -> str:
@@ -131,11 +163,12 @@ class Maker:
         except (OSError, ValueError, KeyError, TypeError):
             return None
 
-    def start(self, data: bytes, places: int) -> None:
-        """Begins to make a master of a text that was saved."""
+    def start(self, wanted: Wanted, predicts: bool) -> None:
+        """Begins to make a master, or to predict what its cuts will leave."""
         self.is_stopped = False
-        self.state = {"running": True, "step": STEPS[0], "part": 0.0, "lines": [], "why": None}
-        self.task = asyncio.get_running_loop().create_task(self.make(data, places))
+        self.state = {"running": True, "step": STEPS[0], "part": 0.0, "lines": [], "why": None, "predicts": predicts}
+        call = self.predict(wanted) if predicts else self.make(wanted)
+        self.task = asyncio.get_running_loop().create_task(call)
 
     async def stop(self) -> None:
         """Ends what runs, and waits until it has ended."""
@@ -159,40 +192,71 @@ class Maker:
             self.state["lines"].append(text)
             self.say({"line": text})
 
-    async def make(self, data: bytes, places: int) -> None:
+    async def predict(self, wanted: Wanted) -> None:
+        """Makes the new bits alone, and notes what they leave."""
+        result, why, self.predicted = Result(), None, None
+        try:
+            with tempfile.TemporaryDirectory(prefix="dsdarc-desk-") as folder:
+                paths = {it: os.path.join(folder, f"it{it}") for it in (".mix.toml", ".toml", ".new.dff", MOVED)}
+                with open(paths[".mix.toml"], "xb") as file:
+                    file.write(wanted.data)
+                status, last = await self.run([*self.render(paths, wanted.move), "--keep-going"], result, wanted.places)
+            if self.is_stopped:
+                why = "stopped"
+            elif status and not (status == 1 and result.share is not None):
+                why = f"render: {last or f'it ended with status {status}'}"
+            else:
+                found = {"cuts": result.expected(), "share": result.share, "moves": result.moves}
+                self.predicted = found | {"move": wanted.move}
+        except OSError as error:
+            why = f"{shown_name(str(error.filename))}: {error.strerror}"
+        except asyncio.CancelledError:
+            why = "stopped"
+        self.told(running=False, why=why, done=why is None)
+
+    async def make(self, wanted: Wanted) -> None:
         """Runs all steps, and notes what came of them."""
-        result, form = Result(), "dsdiff" if places % 8 == 0 else "dsf"
+        result, form = Result(), "dsdiff" if wanted.places % 8 == 0 else "dsf"
         master = ".dff" if form == "dsdiff" else ".dsf"
         try:
             os.makedirs(self.folder, exist_ok=True)
             with contextlib.suppress(FileNotFoundError):
                 os.remove(os.path.join(self.folder, DONE))
             mix = self.file(".mix.toml")
-            mixes.write_bytes(mix, data)
-            why = await self.run_all(result, form, master, places)
+            mixes.write_bytes(mix, wanted.data)
+            with contextlib.suppress(FileNotFoundError):
+                os.remove(self.file(MOVED))
+            why = await self.run_all(result, self.commands(form, master, wanted.move), wanted.places)
             if why is None:
-                self.keep(result, data, form, master)
+                self.keep(result, wanted, form, master)
         except OSError as error:
             why = f"{shown_name(str(error.filename or self.folder))}: {error.strerror}"
         except asyncio.CancelledError:
             why = "stopped"
         self.told(running=False, why=why, done=why is None)
 
-    def commands(self, form: str, master: str) -> list[list[str]]:
-        """The command of each step."""
+    @staticmethod
+    def render(paths: dict[str, str], move: int) -> list[str]:
+        """The command that makes new bits; if cuts may move, by so many us, also the mix that has them where they are."""
         script = os.path.join(program.ROOT, "cuts", "render")
-        mix, project, cert = (self.named(it) for it in (".mix.toml", ".toml", ".cert"))
-        made, run = self.named(master), [program.PROGRAM, "--explain"]
+        found = [sys.executable, script, paths[".mix.toml"], "-o", paths[".toml"], "--take", paths[".new.dff"]]
+        return [*found, "--move", f"{move}us", "--mix", paths[MOVED]] if move else found
+
+    def commands(self, form: str, master: str, move: int) -> list[list[str]]:
+        """The command of each step."""
+        paths = {it: self.named(it) for it in (".mix.toml", ".toml", ".cert", ".new.dff", MOVED, master)}
+        made, run = paths[master], [program.PROGRAM, "--explain"]
+        project, cert, judged = paths[".toml"], paths[".cert"], paths[MOVED if move else ".mix.toml"]
         return [
-            [sys.executable, script, mix, "-o", project, "--take", self.named(".new.dff")],
+            self.render(paths, move),
             [*run, "edit", form, project, made, cert],
             [*run, "check", project, made, cert],
-            [*run, "nulltest", mix, made],
+            [*run, "nulltest", judged, made],
         ]
 
-    async def run_all(self, result: Result, form: str, master: str, places: int) -> str | None:
+    async def run_all(self, result: Result, commands: list[list[str]], places: int) -> str | None:
         """Runs the steps; why one failed."""
-        for step, command in zip(STEPS, self.commands(form, master)):
+        for step, command in zip(STEPS, commands):
             if self.is_stopped:
                 return "stopped"
             self.told(step=step, part=0.0)
@@ -234,15 +298,15 @@ class Maker:
         begins = [number for number, it in enumerate(said) if it.startswith("fault: ")]
         return status, "\n".join(said[begins[-1] :] if begins else said[-1:])
 
-    def keep(self, result: Result, data: bytes, form: str, master: str) -> None:
+    def keep(self, result: Result, wanted: Wanted, form: str, master: str) -> None:
         """Writes what came of it, and the report."""
         report = "\n".join(self.state["lines"]) + "\n"
         mixes.write_bytes(self.file(".report.txt"), report.encode())
         endings = [master, ".cert", ".mix.toml", ".report.txt", ".toml"]
-        endings += [".new.dff"] if os.path.exists(self.file(".new.dff")) else []
+        endings += [it for it in (".new.dff", MOVED) if os.path.exists(self.file(it))]
         sizes = {it: os.path.getsize(self.file(it)) for it in endings}
         found: dict[str, Any] = {
-            "sum": mixes.sum_of(data),
+            "sum": mixes.sum_of(wanted.data),
             "form": form,
             "endings": endings,
             "sizes": sizes,
@@ -250,4 +314,5 @@ class Maker:
         }
         found |= {"share": result.share, "residual": result.residual, "accepted": result.is_accepted}
         found |= {"checked": result.is_checked, "cuts": result.cuts(), "new": result.new}
+        found |= {"move": wanted.move, "moves": result.moves}
         mixes.write_bytes(os.path.join(self.folder, DONE), json.dumps(found).encode())

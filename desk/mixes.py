@@ -11,8 +11,8 @@ import os
 import re
 import secrets
 import stat
-import tomllib
-from dataclasses import dataclass, replace
+from collections.abc import Callable
+from dataclasses import dataclass
 from typing import Any
 
 import tomlkit
@@ -21,6 +21,7 @@ from tomlkit.exceptions import TOMLKitError
 from cuts import mix_texts, mixes
 from cuts.albums import MOST_TITLE, quoted
 from cuts.clips import WHOLE, Clip as Made, Decoder
+from cuts.hearing import decibels
 from cuts.list_mixes import LIMIT
 from cuts.mix_texts import CLIP, TABLE, said
 from cuts.takes import Take
@@ -35,13 +36,11 @@ from tools.null_testing.mixes import MOST_OVERLAPPING, MOST_PLACES, Mix, MixFaul
 MOST_CLIPS = mixes.MOST_CLIPS
 MOST_TEXT = 1 << 27  # bytes of a mix text
 SHAPE = re.compile(r"\s*#\s*shape\s*=\s*(.*)")
-Gains = tuple[tuple[tuple[int, int], ...], ...]
 
 
 @dataclass(frozen=True)
 class Clip:
-    """A clip: bits of a take from `start` on at places of the mix from `at` on. It has a shape, or a list of gains for
-    each channel, which the desk keeps as they are."""
+    """A clip: bits of a take from `start` on at places of the mix from `at` on, and how loud it is there."""
 
     take: int
     decoder: int
@@ -49,8 +48,7 @@ class Clip:
     at: int
     length: int
     title: str | None = None
-    shape: Shape | None = None
-    gains: Gains | None = None
+    shape: Shape = Shape()
 
     @property
     def stop(self) -> int:
@@ -58,19 +56,18 @@ class Clip:
 
     def points(self, channel: int) -> list[tuple[int, int]]:
         """The points of the gain of a channel; none if it is 1."""
-        if self.shape is not None:
-            return self.shape.points(self.length)
-        assert self.gains is not None
-        return list(self.gains[channel])
+        return self.shape.points(self.length, channel)
+
+    @property
+    def rows(self) -> list[list[tuple[int, int]]]:
+        """The points of all channels, or of each."""
+        return [self.points(it) for it in range(len(self.shape.lines))]
 
     def to_json(self) -> dict[str, Any]:
         found: dict[str, Any] = {
             key: getattr(self, key) for key in ("take", "decoder", "start", "at", "length", "title")
         }
-        if self.shape is not None:
-            return found | self.shape.to_json()
-        assert self.gains is not None
-        return found | {"gains": [[list(point) for point in row] for row in self.gains]}
+        return found | self.shape.to_json()
 
 
 Clips = dict[int, Clip]
@@ -82,20 +79,31 @@ def ordered(clips: Clips) -> list[int]:
 
 
 @dataclass(frozen=True)
+class Head:
+    """What a text says besides its clips: the limit in dB, if there is one, by how much each decoder makes a steady sound
+    louder (0 if it gives what is above others), and which of them a new clip of each take has."""
+
+    limit: float | None
+    totals: list[float]
+    numbers: list[int]
+
+
+@dataclass(frozen=True)
 class Limits:
-    """What the clips of a mix may name: how many bits each take has, the number of decoders and that of channels."""
+    """What the clips of a mix may name: how many bits each take has, the number of channels, and decoders."""
 
     bits: list[int]
-    decoders: int
     channels: int
+    head: Callable[[], Head]
 
 
 def clip_from(value: object, limits: Limits) -> Clip:
-    """A clip as the page sends it."""
+    """A clip as the page sends it. Without a decoder it has the usual one of its take."""
     if not isinstance(value, dict):
         raise Refused("a clip has a take, its place and its length")
-    take = whole(value.get("take"), 0, len(limits.bits) - 1, "take")
-    decoder = whole(value.get("decoder"), 0, limits.decoders - 1, "decoder")
+    take, head = whole(value.get("take"), 0, len(limits.bits) - 1, "take"), limits.head()
+    decoder = value.get("decoder")
+    decoder = head.numbers[take] if decoder is None else whole(decoder, 0, len(head.totals) - 1, "decoder")
     start = whole(value.get("start"), 0, max(limits.bits[take] - 1, 0), "start")
     length = whole(value.get("length"), 1, max(limits.bits[take] - start, 1), "length")
     if start + length > limits.bits[take]:
@@ -107,13 +115,7 @@ def clip_from(value: object, limits: Limits) -> Clip:
             raise Refused(f"a title has at most {MOST_TITLE} bytes")
         if any(not it.isprintable() for it in title):
             raise Refused("a title is one line of letters")
-    clip = Clip(take, decoder, start, at, length, title or None)
-    if "gains" not in value:
-        return replace(clip, shape=shapes.from_json(value, length))
-    rows = value["gains"]
-    if not isinstance(rows, list) or len(rows) != limits.channels:
-        raise Refused(f"gains has a list for each of {limits.channels} channels")
-    return replace(clip, gains=tuple(shapes.points_from(it, "gains") for it in rows))
+    return Clip(take, decoder, start, at, length, title or None, shapes.from_json(value, length, limits.channels))
 
 
 def demand_together(clips: Clips) -> None:
@@ -128,9 +130,9 @@ def demand_together(clips: Clips) -> None:
 
 def plain(clip: Clip) -> read_mixes.Clip:
     """The clip as the null test reads it."""
-    one = clip.points(0) if clip.gains is None else []
-    rows = None if clip.gains is None else [list(it) for it in clip.gains]
-    return read_mixes.Clip(clip.take, clip.decoder, clip.start, clip.at, clip.length, one, rows)
+    rows = clip.rows
+    one, each = (rows[0], None) if len(rows) == 1 else ([], rows)
+    return read_mixes.Clip(clip.take, clip.decoder, clip.start, clip.at, clip.length, one, each)
 
 
 # Reading.
@@ -156,12 +158,11 @@ def clips_in(mix: Mix, text: str, name: str, channels: int) -> Clips:
     comments = shape_comments(text)
     found = Clips()
     for number, (it, note) in enumerate(zip(mix.clips, notes)):
-        clip = Clip(it.take, it.decoder, it.start, it.at, it.length, note.title)
         rows = [it.points(channel) for channel in range(channels)]
         if it.gains is None or all(row == rows[0] for row in rows):
-            found[number] = replace(clip, shape=shapes.shape_of(rows[0], it.length, comments.get(number)))
-        else:
-            found[number] = replace(clip, gains=tuple(tuple(row) for row in rows))
+            rows = rows[:1]
+        shape = shapes.shape_of(rows, it.length, comments.get(number))
+        found[number] = Clip(it.take, it.decoder, it.start, it.at, it.length, note.title, shape)
     return found
 
 
@@ -202,15 +203,11 @@ def clip_block(clip: Clip, names: list[str], rate: int) -> str:
     text = f"\n# {where}\n[[mix.clip]]\n"
     if clip.title is not None:
         text += f"# title = {quoted(clip.title)}\n"
-    if clip.shape is not None and not clip.shape.is_flat and (clip.shape.rise or clip.shape.fall):
-        text += f"# shape = {quoted(clip.shape.text())}\n"
+    if (comment := clip.shape.comment(clip.length)) is not None:
+        text += f"# shape = {quoted(comment)}\n"
     for key in ("take", "decoder", "start", "at", "length"):
         text += f"{key} = {getattr(clip, key)}\n"
-    if clip.gains is not None:
-        return text + mixes.gains_of([list(it) for it in clip.gains])
-    assert clip.shape is not None
-    points = clip.shape.points(clip.length)
-    return text + mixes.gains_of([points])
+    return text + mixes.gains_of(clip.rows)
 
 
 class Document:
@@ -296,20 +293,17 @@ def is_same_clip(one: read_mixes.Clip, other: read_mixes.Clip) -> bool:
     return all(getattr(one, it) == getattr(other, it) for it in keys) and full[0] == full[1]
 
 
-@dataclass(frozen=True)
-class Head:
-    """What a text says besides its clips."""
-
-    limit: int
-    full: int
-    totals: list[float]  # by how much each decoder makes a steady sound louder; 0 where it gives what is above others
+def head_of(mix: Mix, numbers: list[int]) -> Head:
+    """That of a mix."""
+    totals = [sum(it) / mix.unit for it in mix.decoders]
+    limit = decibels(mix.limit / (2 * mix.unit * sum(mix.audible)))
+    return Head(round(limit, 2) if mix.limit else None, totals, numbers)
 
 
-def head_in(text: str) -> Head:
-    """That of a text that holds a mix, but perhaps has no clips yet."""
-    table = tomllib.loads(text)["mix"]
-    totals = [sum(it["taps"]) / table["unit"] for it in table["decoder"]]
-    return Head(table["limit"], 2 * table["unit"] * sum(table["audible"]), totals)
+def usual(mix: Mix, take: int) -> int:
+    """The decoder that most clips of a take have."""
+    found = [it.decoder for it in mix.clips if it.take == take] or [it.decoder for it in mix.clips]
+    return max(set(found), key=lambda it: (found.count(it), -it))
 
 
 # A text for new takes.
@@ -320,17 +314,19 @@ def decoder_of(take: Take) -> Decoder:
     return WHOLE, max(take.bands, key=lambda it: it[1])
 
 
-def new_text(name: str, takes: list[Take]) -> tuple[str, list[int]]:
-    """The text of a mix of these takes that has no clips yet, and which decoder each take has."""
+def new_text(name: str, takes: list[Take]) -> tuple[str, Head]:
+    """The text of a mix of these takes that has no clips yet, and its head."""
     rows = [Made(number, decoder_of(it), 0, 0, 8, []) for number, it in enumerate(takes)]
     mix = mixes.Mix(takes[0].rate, rows, {number: it.name for number, it in enumerate(takes)})
     head = mixes.head_of("A mix that was made at the desk", LIMIT, name)
-    return mixes.mix_text(mix, head, LIMIT, []), [mix.decoders.index(it.decoder) for it in rows]
+    totals = [float(mix.taps[it].sum() / mix.unit) for it in mix.decoders]
+    found = Head(LIMIT, totals, [mix.decoders.index(it.decoder) for it in rows])
+    return mixes.mix_text(mix, head, LIMIT, []), found
 
 
-def with_takes(text: str, mix: Mix, takes: list[Take]) -> tuple[str, list[int]]:
-    """The text with more takes and the decoders that they need, and which decoder each of these takes has."""
-    document, numbers, known = tomlkit.parse(text), list[int](), [*mix.decoders]
+def with_takes(text: str, mix: Mix, takes: list[Take]) -> tuple[str, Head]:
+    """The text with more takes and the decoders that they need, and its head."""
+    document, numbers, known = tomlkit.parse(text), [usual(mix, it) for it in range(len(mix.takes))], [*mix.decoders]
     table: Any = document["mix"]
     for take in takes:
         table["takes"].append(take.name)
@@ -343,10 +339,9 @@ def with_takes(text: str, mix: Mix, takes: list[Take]) -> tuple[str, list[int]]:
         numbers.append(known.index(taps))
     made = tomlkit.dumps(document)
     try:
-        read_mix(made.encode())
+        return made, head_of(read_mix(made.encode()), numbers)
     except MixFault as error:
         raise Refused(f"with {len(takes)} more takes the mix would be none: {error}") from None
-    return made, numbers
 
 
 # Files.

@@ -9,9 +9,11 @@ import os
 import threading
 from collections.abc import Callable
 from concurrent.futures import ThreadPoolExecutor
+from typing import Any
 
 import numpy as np
 
+from desk import cache
 from desk.sound import Source
 from dsdarc_scripts.outputs import Refused
 
@@ -22,14 +24,7 @@ FINE = (1, 8, 32, 128)  # frames of a column that are made when they are asked f
 READ = 128 * BLOCK  # frames that are played at a time
 PART = 8 * READ  # frames of a part that one player plays
 MOST_PLAYERS = 4  # side by side
-KEPT = 200  # files in the cache, at most
 MAGIC = b"dsdarc peaks 1\n\0"
-
-
-def cache_folder() -> str:
-    """Where the user's caches are."""
-    top = os.environ.get("XDG_CACHE_HOME") or os.path.join(os.path.expanduser("~"), ".cache")
-    return os.path.join(top, "dsdarc", "desk")
 
 
 def key_of(source: Source) -> str:
@@ -102,11 +97,22 @@ class Peaks:
     def is_ready(self) -> bool:
         return self.done >= self.source.frames
 
+    def loudest(self) -> int | None:
+        """The greatest peak, in 16 bits, of what was played; nothing before anything was."""
+        levels = self.levels
+        if not levels or not self.done or not levels[-1].size:
+            return None
+        return max(-int(levels[-1].min()), int(levels[-1].max()))
+
+    def news(self, name: str) -> dict[str, Any]:
+        """What pages are told: how many frames were played, the greatest peak of them, and why there are no more."""
+        return {"source": name, "done": self.done, "of": self.source.frames, "peak": self.loudest(), "why": self.why}
+
     def shape(self, level: int) -> tuple[int, int, int]:
         return self.sizes[level], self.source.count, 2
 
     def path(self) -> str:
-        return os.path.join(cache_folder(), f"{key_of(self.source)}.peaks")
+        return os.path.join(cache.folder(), f"{key_of(self.source)}.peaks")
 
     def load(self) -> None:
         """Takes what the cache has of the file, if it is whole."""
@@ -169,20 +175,7 @@ class Peaks:
 
     def keep(self) -> None:
         """Writes the peaks to the cache."""
-        path = self.path()
-        os.makedirs(os.path.dirname(path), mode=0o700, exist_ok=True)
-        part = f"{path}.{os.getpid()}"
-        try:
-            with open(part, "xb") as file:
-                file.write(MAGIC)
-                for it in self.levels:
-                    file.write(it.astype("<i2").tobytes())
-            os.replace(part, path)
-        except BaseException:
-            with contextlib.suppress(OSError):
-                os.remove(part)
-            raise
-        forget(os.path.dirname(path))
+        cache.written(os.path.basename(self.path()), [MAGIC, *(it.astype("<i2").tobytes() for it in self.levels)])
 
     def tile(self, block: int, index: int) -> tuple[bytes, bool]:
         """The columns of a tile, each of that many frames, and whether they stay as they are."""
@@ -207,12 +200,3 @@ class Peaks:
         while more > 1 and len(rows):
             rows, more = coarser(rows), more // STEP
         return rows.astype("<i2").tobytes(), self.is_ready or (index + 1) * COLUMNS * block <= self.done
-
-
-def forget(folder: str) -> None:
-    """Removes the peaks from the cache that weren't used for longest, if there are many."""
-    with contextlib.suppress(OSError):
-        files = [it for it in os.scandir(folder) if it.name.endswith(".peaks")]
-        files.sort(key=lambda it: it.stat().st_mtime)
-        for it in files[: max(len(files) - KEPT, 0)]:
-            os.remove(it.path)

@@ -8,6 +8,7 @@ import contextlib
 import json
 import os
 import secrets
+import socket
 import sys
 from collections.abc import Awaitable, Callable
 from typing import Any
@@ -29,6 +30,7 @@ MOST_BODY = 1 << 23  # bytes
 MOST_WAITING = 4096  # news that a page hasn't taken yet
 LOOK = 1.0  # seconds between two looks at the files
 LIVE = 20.0  # seconds between two signs of life
+WARM = 1.0  # seconds after which the page is shown
 HEADERS = {
     "Content-Security-Policy": "default-src 'self'; object-src 'none'; base-uri 'none'; form-action 'none'; "
     "frame-ancestors 'none'",
@@ -63,12 +65,11 @@ def refused(why: str, status: int = 400) -> web.Response:
 class Server:
     """The desk, as a browser sees it."""
 
-    def __init__(self) -> None:
-        self.token = secrets.token_urlsafe(24)
+    def __init__(self, desk: Desk, token: str) -> None:
+        self.desk, self.token = desk, token
         self.hosts = set[str]()
         self.queues = set[asyncio.Queue[bytes | None]]()
         self.loop: asyncio.AbstractEventLoop | None = None
-        self.desk: Desk | None = None
         self.is_ending = False
 
     # News for all pages.
@@ -86,7 +87,7 @@ class Server:
 
     async def watch(self) -> None:
         """Looks at the files now and then, and at what is made."""
-        desk, was_running = self.opened(), False
+        desk, was_running = self.desk, False
         while True:
             await asyncio.sleep(LOOK)
             try:
@@ -103,10 +104,6 @@ class Server:
                 self.say({"changed": desk.journal.history.number})
 
     # Who is answered.
-
-    def opened(self) -> Desk:
-        assert self.desk is not None
-        return self.desk
 
     def why_refused(self, request: web.Request) -> str | None:
         """Why a request isn't answered."""
@@ -167,10 +164,10 @@ class Server:
             return web.Response(body=file.read(), content_type=KINDS[ending], charset="utf-8")
 
     async def state(self, _: web.Request) -> web.Response:
-        return answer(await asyncio.to_thread(self.opened().state))
+        return answer(await asyncio.to_thread(self.desk.state))
 
     async def about(self, _: web.Request) -> web.Response:
-        return answer(await asyncio.to_thread(self.opened().about))
+        return answer(await asyncio.to_thread(self.desk.about))
 
     async def body(self, request: web.Request) -> dict[str, Any]:
         """What a page sends."""
@@ -186,28 +183,28 @@ class Server:
 
     async def changed(self, call: Callable[..., Any], *arguments: object) -> web.Response:
         """Does something, and answers with what is there now. Other pages are told."""
-        desk = self.opened()
+        desk = self.desk
         await asyncio.to_thread(call, *arguments)
         state = await asyncio.to_thread(desk.state)
         self.put(json.dumps({"changed": state["number"]}).encode() + b"\n")
         return answer(state)
 
     async def operations(self, request: web.Request) -> web.Response:
-        return await self.changed(self.opened().change, await self.body(request))
+        return await self.changed(self.desk.change, await self.body(request))
 
     async def save(self, request: web.Request) -> web.Response:
         it = await self.body(request)
-        return await self.changed(self.opened().save, it.get("number"), it.get("over") is True)
+        return await self.changed(self.desk.save, it.get("number"), it.get("over") is True)
 
     async def drop(self, request: web.Request) -> web.Response:
-        return await self.changed(self.opened().drop_taken_up, (await self.body(request)).get("number"))
+        return await self.changed(self.desk.drop_taken_up, (await self.body(request)).get("number"))
 
     async def other(self, request: web.Request) -> web.Response:
-        return await self.changed(self.opened().take_other, (await self.body(request)).get("number"))
+        return await self.changed(self.desk.take_other, (await self.body(request)).get("number"))
 
     async def tile(self, request: web.Request) -> web.Response:
         """Columns of a wave: for each, and each channel, the least and the greatest, in 16 bits."""
-        desk, name = self.opened(), request.query.get("source", "")
+        desk, name = self.desk, request.query.get("source", "")
         block, index = whole(request, "block", 1, 1 << 40), whole(request, "index", 0, 1 << 40)
         peaks = await asyncio.to_thread(desk.peaks_of, name)
         data, is_whole = await asyncio.to_thread(peaks.tile, block, index)
@@ -216,7 +213,7 @@ class Server:
 
     async def frames(self, request: web.Request) -> web.Response:
         """Frames of a source as the bytes that `dsdarc play` writes; those of the mix as numbers of 32 bits, floating."""
-        desk, name = self.opened(), request.query.get("source", "")
+        desk, name = self.desk, request.query.get("source", "")
         first, count = whole(request, "from", 0, 1 << 40), whole(request, "count", 1, MOST_FRAMES)
         if name == "mix":
             rows = await asyncio.to_thread(desk.numbers_of, name, first, count)
@@ -227,7 +224,7 @@ class Server:
         return web.Response(body=data, headers={"X-Format": form}, content_type="application/octet-stream")
 
     async def levels(self, request: web.Request) -> web.Response:
-        desk, name = self.opened(), request.query.get("source", "")
+        desk, name = self.desk, request.query.get("source", "")
         first, count = whole(request, "from", 0, 1 << 40), whole(request, "count", 1, MOST_SELECTED)
         if name != "mix":
             desk.source(name)
@@ -236,23 +233,28 @@ class Server:
             await asyncio.to_thread(sound.measured, lambda *it: desk.numbers_of(name, *it), rate, first, count)
         )
 
-    async def make(self, _: web.Request) -> web.Response:
+    async def make(self, request: web.Request) -> web.Response:
         """Begins to make a master of the text that was saved."""
-        desk = self.opened()
+        return await self.begun(request, False)
+
+    async def predict(self, request: web.Request) -> web.Response:
+        """Begins to predict what the cuts of the mix will leave, saved or not."""
+        return await self.begun(request, True)
+
+    async def begun(self, request: web.Request, predicts: bool) -> web.Response:
+        desk, move = self.desk, (await self.body(request)).get("move", 0)
+        wanted = await asyncio.to_thread(desk.wanted, move, predicts)
         if desk.maker.state["running"]:
             raise Refused("a master is being made")
-        if not desk.is_saved:
-            raise Refused("save the mix first")
-        data = desk.document.text.encode()
-        desk.maker.start(data, max(it.stop for it in desk.clips.values()))
+        desk.maker.start(wanted, predicts)
         return answer({"running": True})
 
     async def stop(self, _: web.Request) -> web.Response:
-        await self.opened().maker.stop()
+        await self.desk.maker.stop()
         return answer({"running": False})
 
     async def lines(self, _: web.Request) -> web.Response:
-        return answer({"lines": self.opened().maker.state.get("lines", [])})
+        return answer({"lines": self.desk.maker.state.get("lines", [])})
 
     async def events(self, request: web.Request) -> web.StreamResponse:
         """What happens, a line for each thing, until the page goes. It is no call, so it has no header of its own: its
@@ -262,10 +264,11 @@ class Server:
         response = web.WebSocketResponse(heartbeat=LIVE, max_msg_size=1 << 10)
         await response.prepare(request)
         queue: asyncio.Queue[bytes | None] = asyncio.Queue()
-        for it in self.opened().progress():
+        for it in self.desk.progress():
             queue.put_nowait(json.dumps(it).encode())
         self.queues.add(queue)
         hearing = asyncio.create_task(self.hear(response, queue))
+        warming = asyncio.create_task(self.warm())
         try:
             while (line := await queue.get()) is not None:
                 await response.send_str(line.decode())
@@ -274,8 +277,15 @@ class Server:
         finally:
             self.queues.discard(queue)
             hearing.cancel()
+            warming.cancel()
             await response.close()
         return response
+
+    async def warm(self) -> None:
+        """Gets ready what is needed later, once the page is shown."""
+        await asyncio.sleep(WARM)
+        with contextlib.suppress(OSError, Refused):
+            await asyncio.to_thread(self.desk.warm)
 
     @staticmethod
     async def hear(response: web.WebSocketResponse, queue: asyncio.Queue[bytes | None]) -> None:
@@ -286,7 +296,7 @@ class Server:
 
     async def file(self, request: web.Request) -> web.StreamResponse:
         """A file of the master that was made."""
-        desk, ending = self.opened(), request.match_info["ending"]
+        desk, ending = self.desk, request.match_info["ending"]
         found = await asyncio.to_thread(desk.maker.result)
         if found is None or f".{ending}" not in found["endings"]:
             return refused("there is no such file", 404)
@@ -317,22 +327,21 @@ class Server:
             "/api/drop": self.drop,
             "/api/other": self.other,
             "/api/make": self.make,
+            "/api/predict": self.predict,
             "/api/stop": self.stop,
         }.items():
             made.router.add_post(f"{top}{path}", post)
         return made
 
-    async def begin(self, open_desk: Callable[[Callable[[dict[str, Any]], None]], Desk], port: int) -> web.AppRunner:
-        """Opens the desk, and listens."""
+    async def begin(self, listening: socket.socket) -> web.AppRunner:
+        """Answers those who come to a socket."""
         self.loop = asyncio.get_running_loop()
-        self.desk = await asyncio.to_thread(open_desk, self.say)
+        self.desk.hearers.append(self.say)
+        number = listening.getsockname()[1]
+        self.hosts = {f"127.0.0.1:{number}", f"localhost:{number}"}
         runner = web.AppRunner(self.application(), access_log=None, handle_signals=False)
         await runner.setup()
-        site = web.TCPSite(runner, "127.0.0.1", port, shutdown_timeout=1.0)
-        await site.start()
-        number = runner.addresses[0][1]
-        self.hosts = {f"127.0.0.1:{number}", f"localhost:{number}"}
-        self.address = f"http://127.0.0.1:{number}/{self.token}/"
+        await web.SockSite(runner, listening, shutdown_timeout=1.0).start()
         return runner
 
     async def end(self, runner: web.AppRunner) -> None:
@@ -340,7 +349,7 @@ class Server:
         self.is_ending = True
         for queue in self.queues:
             queue.put_nowait(None)
-        desk = self.opened()
+        desk = self.desk
         await desk.maker.stop()
         await runner.cleanup()
         await asyncio.to_thread(desk.close)

@@ -103,8 +103,8 @@ class Heard:
 
 @lru_cache(maxsize=4096)
 def heard(clip: Clip, count: int) -> Heard:
-    one = clip.points(0)
-    return Heard(clip, [one if clip.gains is None else clip.points(it) for it in range(count)])
+    rows = clip.rows
+    return Heard(clip, rows if len(rows) == count else rows * count)
 
 
 def mixed(sources: list[Source], clips: Clips, totals: list[float], first: int, count: int) -> np.ndarray:

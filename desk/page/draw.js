@@ -1,8 +1,8 @@
 // The lanes, drawn of what the model holds. Each lane is drawn only when something in it changed.
 import { model, ordered, shown } from "./model.js";
-import { envelope, isFlat } from "./shapes.js";
-import { blockFor, COLUMNS, tile } from "./tiles.js";
-import { clock, decibels, FULL } from "./times.js";
+import { envelope, isLevel, lineOf, linesOf } from "./shapes.js";
+import { clock, decibels, FULL, grouped } from "./times.js";
+import { picture, ratio, settled, sized, wave } from "./waves.js";
 
 export const RULER = 42; // pixels
 export const HEAD = 18; // of a clip: its name
@@ -10,6 +10,7 @@ const TAKE_HEAD = 18;
 const TAKE_HEIGHT = 62; // of a channel
 export const LOUDEST = 6; // dB at the top of a line of gains
 export const QUIETEST = -42;
+const MOST_HANDLES = 200; // of a line that are drawn
 
 const color = {};
 export function learnColors() {
@@ -28,83 +29,23 @@ export const takeColor = number => `hsl(${(205 + number * 67) % 360} ${color.dar
 const waveColor = number => `hsl(${(205 + number * 67) % 360} ${color.dark ? "75% 76%" : "70% 28%"})`;
 
 function begun(canvas) {
-  const ratio = devicePixelRatio || 1;
   const { clientWidth: width, clientHeight: height } = canvas;
-  if (canvas.width !== Math.round(width * ratio) || canvas.height !== Math.round(height * ratio)) {
-    canvas.width = Math.round(width * ratio);
-    canvas.height = Math.round(height * ratio);
-  }
+  sized(canvas, width, height);
   const to = canvas.getContext("2d");
-  to.setTransform(ratio, 0, 0, ratio, 0, 0);
+  to.setTransform(ratio(), 0, 0, ratio(), 0, 0);
   to.clearRect(0, 0, width, height);
   to.font = "12px system-ui, sans-serif";
   to.textBaseline = "middle";
   return { to, width, height };
 }
 
-// A wave from pixel x0 to x1. `bitAt` says the bit of the source at a pixel, and `gain` what it is times there.
-function wave(to, source, frames, channel, x0, x1, bitAt, per, middle, half, gain, paint) {
-  const { factor } = model.about;
-  const count = model.about.channels.length;
-  const step = per / factor;
-  const block = blockFor(step);
-  to.fillStyle = to.strokeStyle = paint;
-  let number = -1;
-  let found = null;
-  // Where the least of a column is in `found`, and the greatest after it; -1 where it isn't there.
-  const at = column => {
-    const index = Math.floor(column / COLUMNS);
-    if (index !== number) {
-      number = index;
-      found = tile(source, block, index);
-    }
-    const place = ((column % COLUMNS) * count + channel) * 2;
-    return found && place + 1 < found.length ? place : -1;
-  };
-  if (step < 1) return samples(to, frames, column => (at(column) < 0 ? null : found[at(column)]), x0, x1, bitAt, per, middle, half, gain);
-  for (let x = Math.max(0, Math.floor(x0)); x < x1; x++) {
-    const first = bitAt(x) / factor;
-    if (first + step <= 0 || first >= frames) continue;
-    const low = Math.max(Math.floor(first / block), 0);
-    const high = Math.max(Math.ceil((first + step) / block) - 1, low);
-    let least = 32767, most = -32768;
-    for (let column = low; column <= high; column++) {
-      const place = at(column);
-      if (place < 0) continue;
-      if (found[place] < least) least = found[place];
-      if (found[place + 1] > most) most = found[place + 1];
-    }
-    if (least > most) continue;
-    const times = ((gain ? gain(x) : 1) * half * model.tall) / 32768;
-    const top = Math.max(-half, Math.min(-most * times, -least * times, half));
-    const bottom = Math.min(half, Math.max(-most * times, -least * times, -half));
-    to.fillRect(x, middle + top, 1, Math.max(bottom - top, 1));
-  }
-}
-
-// Single samples, joined by lines.
-function samples(to, frames, at, x0, x1, bitAt, per, middle, half, gain) {
-  const { factor } = model.about;
-  const first = Math.max(Math.floor(bitAt(x0) / factor), 0);
-  const last = Math.min(Math.ceil(bitAt(x1) / factor), frames - 1);
-  to.beginPath();
-  let isOn = false;
-  const dots = [];
-  for (let frame = first; frame <= last; frame++) {
-    const it = at(frame);
-    const x = x0 + (frame * factor - bitAt(x0)) / per;
-    if (it === null) {
-      isOn = false;
-      continue;
-    }
-    const y = middle - Math.max(-half, Math.min((it * (gain ? gain(x) : 1) * half * model.tall) / 32768, half));
-    if (isOn) to.lineTo(x, y);
-    else to.moveTo(x, y);
-    isOn = true;
-    if (factor / per > 5 && x >= x0 && x <= x1) dots.push([x, y]);
-  }
-  to.stroke();
-  for (const [x, y] of dots) to.fillRect(x - 1.5, y - 1.5, 3, 3);
+// Begins a lane with its kept picture, over which the rest is drawn.
+function begunWith(canvas, view, paint) {
+  const { width, height } = begun(canvas);
+  const found = picture(canvas, view, (to, ...span) => paint(to, width, height, span));
+  const to = canvas.getContext("2d");
+  if (found.width && found.height) to.drawImage(found, 0, 0, width, height);
+  return { to, width, height };
 }
 
 const STEPS = [1, 2, 5];
@@ -130,7 +71,7 @@ function ruler(to, width, view, top = 0) {
     to.fillStyle = color.ink;
     to.fillText(clock(bit, rate, Math.max(digits, step < 1 ? 3 : 0)), x + 4, top + 10);
     to.fillStyle = color.soft;
-    to.fillText(Math.round(bit).toLocaleString("en"), x + 4, top + 25);
+    to.fillText(grouped(Math.round(bit)), x + 4, top + 25);
   }
 }
 
@@ -155,58 +96,80 @@ export function mixPlan(height, clips = shown()) {
   return { row: found, size, top: number => RULER + 3 + found.get(number) * size };
 }
 
-// Where a gain is drawn between the top and the bottom of a clip.
-export const gainY = (gain, top, height) => {
+// Where the line of levels of a clip is drawn, or that of one of its channels.
+export function gainBox(it, channel, top, size) {
+  const height = size - 4 - HEAD;
+  if (!it.gains) return { top: top + HEAD, height: height - 8 };
+  const each = height / it.gains.length;
+  return { top: top + HEAD + channel * each + 3, height: Math.max(each - 6, 1) };
+}
+export const channelAt = (it, y, top, size) => (it.gains ? Math.max(0, Math.min(Math.floor(((y - top - HEAD) * it.gains.length) / (size - 4 - HEAD)), it.gains.length - 1)) : 0);
+export const gainY = (gain, box) => {
   const db = Math.max(QUIETEST, Math.min(decibels(Math.abs(gain)), LOUDEST));
-  return top + HEAD + ((LOUDEST - db) / (LOUDEST - QUIETEST)) * (height - HEAD - 8);
+  return box.top + ((LOUDEST - db) / (LOUDEST - QUIETEST)) * box.height;
 };
-export const gainOfY = (y, top, height) => {
-  const part = (y - top - HEAD) / (height - HEAD - 8);
-  return 10 ** ((LOUDEST - Math.max(0, Math.min(part, 1)) * (LOUDEST - QUIETEST)) / 20);
+export const gainOfY = (y, box) => {
+  const part = Math.max(0, Math.min((y - box.top) / box.height, 1));
+  return 10 ** ((LOUDEST - part * (LOUDEST - QUIETEST)) / 20);
 };
 
-function drawClip(to, width, view, it, number, top, size) {
+// What a clip is times at a pixel of a channel; nothing if that is 1 all over.
+function gainOf(it, channel, x0, per) {
+  const line = lineOf(it, channel);
+  if (!it.in && !it.out && isLevel(line) && line[0][1] === FULL) return null;
+  return x => envelope(it, (x - x0) * per, channel);
+}
+
+function paintClip(to, span, view, it, number, top, size) {
   const x0 = (it.at - view.from) / view.per;
   const x1 = (it.at + it.length - view.from) / view.per;
-  if (x1 < -1 || x0 > width + 1) return;
+  if (x1 < span[0] - 8 || x0 > span[1] + 8) return;
   const take = model.about.takes[it.take];
   const isSelected = model.selected.has(number);
   to.fillStyle = takeColor(it.take);
   to.fillRect(x0, top, Math.max(x1 - x0, 1), size - 4);
   const count = model.about.channels.length;
   const half = (size - 4 - HEAD) / count / 2;
-  const from = Math.max(x0, 0);
-  const to_ = Math.min(x1, width);
-  const bitAt = x => it.start + (x - x0) * view.per;
   for (let channel = 0; channel < count; channel++) {
-    const middle = top + HEAD + half * (2 * channel + 1);
-    const gain = x => envelope(it, (x - x0) * view.per, channel);
-    wave(to, `take-${it.take}`, take.frames, channel, from, to_, bitAt, view.per, middle, half - 1, gain, waveColor(it.take));
+    const row = { source: `take-${it.take}`, frames: take.frames, channel, from: it.start - it.at + view.from, x0, x1 };
+    wave(to, { ...row, middle: top + HEAD + half * (2 * channel + 1), half: half - 1, gain: gainOf(it, channel, x0, view.per), paint: waveColor(it.take) }, view, span);
   }
-  to.strokeStyle = color.gain;
-  to.lineWidth = 1.5;
-  to.beginPath();
-  for (let x = from; x <= to_; x += 2) {
-    const y = gainY(envelope(it, (x - x0) * view.per), top, size - 4);
-    if (x === from) to.moveTo(x, y);
-    else to.lineTo(x, y);
-  }
-  to.stroke();
-  to.lineWidth = 1;
+  linesOf(it).forEach((_, channel) => {
+    to.lineWidth = it.gains && isSelected && channel === model.channel ? 2.5 : 1.5;
+    gainLine(to, span, it, channel, gainBox(it, channel, top, size), view);
+  });
   to.strokeStyle = isSelected ? color.main : color.line;
   to.lineWidth = isSelected ? 3 : 1;
   to.strokeRect(x0 + 0.5, top + 0.5, Math.max(x1 - x0 - 1, 1), size - 5);
   to.lineWidth = 1;
+  if (isSelected) handles(to, view, it, x0, x1, top, size);
+  if (it.title) mark(to, x0, top, color.main);
+}
+
+function gainLine(to, span, it, channel, box, view) {
+  const x0 = (it.at - view.from) / view.per;
+  const gain = gainOf(it, channel, x0, view.per) ?? (() => 1);
+  const [first, last] = [Math.max(x0, span[0] - 4), Math.min(x0 + it.length / view.per, span[1] + 4)];
+  to.strokeStyle = color.gain;
+  to.beginPath();
+  for (let x = first; x < last; x += isLevel(lineOf(it, channel)) && !it.in && !it.out ? Math.max(last - first, 1) : 2) to.lineTo(x, gainY(gain(x), box));
+  to.lineTo(last, gainY(gain(last), box));
+  to.stroke();
+}
+
+// The name of a clip, which stays in sight.
+function nameClip(to, width, view, it, top) {
+  const x0 = (it.at - view.from) / view.per;
+  const [from, end] = [Math.max(x0, 0), Math.min(x0 + it.length / view.per, width)];
+  if (end - from < 20) return;
   to.save();
   to.beginPath();
-  to.rect(from, top, Math.max(to_ - from, 0), HEAD);
+  to.rect(from, top, end - from, HEAD);
   to.clip();
   to.fillStyle = color.ink;
-  const name = it.title ? `${it.title} · ${take.name}` : take.name;
-  to.fillText(name, from + 16, top + HEAD / 2 + 1);
+  const { name } = model.about.takes[it.take];
+  to.fillText(it.title ? `${it.title} · ${name}` : name, from + 16, top + HEAD / 2 + 1);
   to.restore();
-  if (isSelected && !it.gains) handles(to, view, it, x0, x1, top, size);
-  if (it.title) mark(to, x0, top, color.main);
 }
 
 function handles(to, view, it, x0, x1, top, size) {
@@ -216,10 +179,12 @@ function handles(to, view, it, x0, x1, top, size) {
     to.arc(x, top + 5, 5, 0, 7);
     to.fill();
   }
-  if (isFlat(it.line) && it.line.length === 1) return;
-  if (it.line.length > 200) return;
   to.fillStyle = color.gain;
-  for (const [place, gain] of it.line) to.fillRect(x0 + place / view.per - 4, gainY(gain / FULL, top, size - 4) - 4, 8, 8);
+  linesOf(it).forEach((line, channel) => {
+    if (isLevel(line) || line.length > MOST_HANDLES) return;
+    const box = gainBox(it, channel, top, size);
+    for (const [place, gain] of line) to.fillRect(x0 + place / view.per - 4, gainY(gain / FULL, box) - 4, 8, 8);
+  });
 }
 
 function mark(to, x, top, paint) {
@@ -248,16 +213,18 @@ function marksOf(to, view, it, top) {
 }
 
 export function drawMix(canvas) {
-  const { to, width, height } = begun(canvas);
-  const view = model.views.mix;
+  const view = settled(model.views.mix);
   const clips = shown();
-  const plan = mixPlan(height, clips);
-  ruler(to, width, view);
-  for (const [number, it] of clips) if (it) {
-    drawClip(to, width, view, it, number, plan.top(number), plan.size);
-    marksOf(to, view, it, plan.top(number));
-  }
-  made(to, width, view, RULER - 9);
+  const plan = mixPlan(canvas.clientHeight, clips);
+  const { to, width, height } = begunWith(canvas, view, (on, across, _, span) => {
+    ruler(on, across, view);
+    for (const [number, it] of clips) if (it) {
+      paintClip(on, span, view, it, number, plan.top(number), plan.size);
+      marksOf(on, view, it, plan.top(number));
+    }
+    made(on, across, view, RULER - 9);
+  });
+  for (const [number, it] of clips) if (it) nameClip(to, width, view, it, plan.top(number));
   if (model.range?.lane === "mix") {
     to.fillStyle = color.select;
     to.fillRect((model.range.from - view.from) / view.per, 0, (model.range.to - model.range.from) / view.per, height);
@@ -275,45 +242,46 @@ export function drawMix(canvas) {
     to.fillText("The mix is empty. Drag a part of a take here.", width / 2, (height + RULER) / 2);
     to.textAlign = "left";
   }
-  if (model.cursor.lane === "mix") vertical(to, (model.cursor.bit - view.from) / view.per, height, color.cursor);
+  vertical(to, (model.place - view.from) / view.per, height, model.cursor.lane === "mix" ? color.cursor : color.line);
   if (model.playing?.lane === "mix") vertical(to, (model.playing.bit - view.from) / view.per, height, color.main);
 }
 
-// New bits, and what each cut leaves, of a master that is of this mix.
+// New bits, and what each cut leaves, of a master that is of this mix; or, in thinner lines, what was predicted.
 function made(to, width, view, top) {
-  const found = model.state.made;
-  if (!found?.is_current) return;
+  const isMade = model.state.made?.is_current;
+  const found = isMade ? model.state.made : model.state.predicted;
+  if (!found) return;
   to.fillStyle = color.new;
-  for (const it of found.new) to.fillRect((it.first - view.from) / view.per, top + 5, Math.max((it.stop - it.first) / view.per, 1), 3);
+  for (const it of isMade ? found.new : []) to.fillRect((it.first - view.from) / view.per, top + 5, Math.max((it.stop - it.first) / view.per, 1), 3);
   for (const it of found.cuts) {
     to.fillStyle = residualColor(loudest(it));
-    to.fillRect((it.first - view.from) / view.per, top, Math.max((it.last - it.first) / view.per, 3), 4);
+    to.fillRect((it.first - view.from) / view.per, top, Math.max((it.last - it.first) / view.per, 3), isMade ? 4 : 2);
   }
 }
 
 export const loudest = cut => Object.values(cut.db).reduce((most, it) => (it !== null && (most === null || it > most) ? it : most), null);
 
 export function drawOverview(canvas) {
-  const { to, width, height } = begun(canvas);
-  const whole = Math.max(model.length, 1);
-  const view = { from: 0, per: whole / width };
-  const count = model.about.channels.length;
-  for (const number of ordered()) {
-    const it = shown().get(number);
-    if (!it) continue;
-    const x0 = it.at / view.per;
-    const x1 = (it.at + it.length) / view.per;
-    to.fillStyle = takeColor(it.take);
-    to.globalAlpha = 0.7;
-    to.fillRect(x0, 8, Math.max(x1 - x0, 1), height - 8);
-    to.globalAlpha = 1;
-    for (let channel = 0; channel < Math.min(count, 2); channel++) {
-      const half = (height - 8) / Math.min(count, 2) / 2;
-      wave(to, `take-${it.take}`, model.about.takes[it.take].frames, channel, x0, x1, x => it.start + (x - x0) * view.per, view.per, 8 + half * (2 * channel + 1), half, x => envelope(it, (x - x0) * view.per, channel), waveColor(it.take));
+  const view = { from: 0, per: Math.max(model.length, 1) / Math.max(canvas.clientWidth, 1) };
+  const count = Math.min(model.about.channels.length, 2);
+  const { to, width, height } = begunWith(canvas, view, (on, across, down, span) => {
+    const half = (down - 8) / count / 2;
+    for (const number of ordered()) {
+      const it = shown().get(number);
+      if (!it) continue;
+      const [x0, x1] = [it.at / view.per, (it.at + it.length) / view.per];
+      on.fillStyle = takeColor(it.take);
+      on.globalAlpha = 0.7;
+      on.fillRect(x0, 8, Math.max(x1 - x0, 1), down - 8);
+      on.globalAlpha = 1;
+      for (let channel = 0; channel < count; channel++) {
+        const row = { source: `take-${it.take}`, frames: model.about.takes[it.take].frames, channel, from: it.start - it.at, x0, x1 };
+        wave(on, { ...row, middle: 8 + half * (2 * channel + 1), half, gain: gainOf(it, channel, x0, view.per), paint: waveColor(it.take) }, view, span);
+      }
+      if (it.title) mark(on, x0, 0, color.main);
     }
-    if (it.title) mark(to, x0, 0, color.main);
-  }
-  made(to, width, view, 0);
+    made(on, across, view, 0);
+  });
   const seen = model.views.mix;
   to.strokeStyle = color.main;
   to.lineWidth = 2;
@@ -327,32 +295,18 @@ export const takesHeight = () => RULER + model.about.takes.length * takeHeight()
 export const takeHeight = () => TAKE_HEAD + TAKE_HEIGHT * Math.min(model.about.channels.length, 6) * (model.about.channels.length > 2 ? 0.6 : 0.75);
 
 export function drawTakes(canvas) {
-  const { to, width } = begun(canvas);
-  const view = model.views.takes;
-  ruler(to, width, view);
-  const count = model.about.channels.length;
+  const view = settled(model.views.takes);
   const size = takeHeight();
-  model.about.takes.forEach((take, number) => {
+  const { takes } = model.about;
+  const { to } = begunWith(canvas, view, (on, across, _, span) => {
+    ruler(on, across, view);
+    takes.forEach((take, number) => paintTake(on, span, view, take, number));
+  });
+  takes.forEach((take, number) => {
     const top = RULER + number * size;
-    const x0 = -view.from / view.per;
-    const x1 = (take.bits - view.from) / view.per;
-    to.fillStyle = takeColor(number);
-    to.fillRect(x0, top + 1, x1 - x0, size - 3);
-    const half = (size - TAKE_HEAD - 4) / count / 2;
-    for (let channel = 0; channel < count; channel++) {
-      wave(to, `take-${number}`, take.frames, channel, Math.max(x0, 0), Math.min(x1, width), x => view.from + x * view.per, view.per, top + TAKE_HEAD + half * (2 * channel + 1), half - 1, null, waveColor(number));
-    }
     to.fillStyle = color.ink;
     const more = model.state.lost.includes(number) ? " — the file is gone" : take.done < take.frames ? ` — ${Math.floor((100 * take.done) / take.frames)} % read` : "";
-    to.fillText(`${number + 1}  ${take.name}${more}`, Math.max(x0, 0) + 6, top + TAKE_HEAD / 2 + 1);
-    for (const it of take.marks) {
-      const x = (it.bit - view.from) / view.per;
-      mark(to, x, top + 1, color.gain);
-      if (it.title) {
-        to.fillStyle = color.ink;
-        to.fillText(it.title, x + 12, top + TAKE_HEAD / 2 + 1 + 14);
-      }
-    }
+    to.fillText(`${number + 1}  ${take.name}${more}`, Math.max(-view.from / view.per, 0) + 6, top + TAKE_HEAD / 2 + 1);
     const lane = `take-${number}`;
     if (model.range?.lane === lane) {
       to.fillStyle = color.select;
@@ -363,15 +317,30 @@ export function drawTakes(canvas) {
   });
 }
 
-// How many times as high waves may be drawn, by the greatest peak of all takes: a power of 2.
+function paintTake(to, span, view, take, number) {
+  const count = model.about.channels.length;
+  const size = takeHeight();
+  const top = RULER + number * size;
+  const [x0, x1] = [-view.from / view.per, (take.bits - view.from) / view.per];
+  to.fillStyle = takeColor(number);
+  to.fillRect(x0, top + 1, x1 - x0, size - 3);
+  const half = (size - TAKE_HEAD - 4) / count / 2;
+  for (let channel = 0; channel < count; channel++) {
+    const row = { source: `take-${number}`, frames: take.frames, channel, from: view.from, x0, x1 };
+    wave(to, { ...row, middle: top + TAKE_HEAD + half * (2 * channel + 1), half: half - 1, gain: null, paint: waveColor(number) }, view, span);
+  }
+  for (const it of take.marks) {
+    const x = (it.bit - view.from) / view.per;
+    mark(to, x, top + 1, color.gain);
+    to.fillStyle = color.ink;
+    if (it.title) to.fillText(it.title, x + 12, top + TAKE_HEAD / 2 + 1 + 14);
+  }
+}
+
+// How many times as high waves may be drawn, by the greatest peak of all takes that is known: a power of 2.
 export function fittingHeight() {
-  const rows = model.about.takes.flatMap((it, number) => {
-    const per = (it.frames / 1024) * 1.01;
-    const found = tile(`take-${number}`, blockFor(Math.max(per, 512)), 0);
-    return found ? [...found] : [];
-  });
-  const most = rows.reduce((sum, it) => Math.max(sum, Math.abs(it)), 0);
-  return most ? Math.max(1, Math.min(2 ** Math.floor(Math.log2(31000 / most)), 64)) : null;
+  const most = Math.max(0, ...model.about.takes.map(it => it.peak ?? 0));
+  return most ? Math.max(1, Math.min(2 ** Math.floor(Math.log2(31000 / most)), 64)) : 1;
 }
 
 export function drawSpectrum(canvas, found) {

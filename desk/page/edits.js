@@ -1,6 +1,6 @@
 // What can be done to clips. Each is one step, which can be undone.
 import { change, clip, model, newNumber, ordered, say, select, setCursor, setRange, takeOf } from "./model.js";
-import { gainAt, isFlat, part } from "./shapes.js";
+import { gainAt, isFlat, isLevel, lineOf, linesOf, part, withEach, withLine, withLines } from "./shapes.js";
 import { clock, FULL } from "./times.js";
 
 export const MOST = 2 ** 36;
@@ -8,10 +8,9 @@ const one = it => (it === 1 ? "1 clip" : `${it} clips`);
 const refuse = why => say(why, true);
 const near = (clips, bit) => clips.filter(it => clip(it).at <= bit && bit < clip(it).at + clip(it).length);
 
-// A clip of a part of a take.
+// A clip of a part of a take. The server knows which decoder it has.
 export function madeOf(take, start, length, at) {
-  const decoder = model.about.takes[take].decoder;
-  return { take, decoder, start, at, length, title: null, line: [[0, FULL]], in: null, out: null };
+  return { take, decoder: null, start, at, length, title: null, line: [[0, FULL]], in: null, out: null };
 }
 
 // The part of a take that is selected, or all of it.
@@ -53,8 +52,7 @@ export function trimmed(it, side, by) {
     const step = Math.max(-it.start, -it.at, Math.min(by, it.length - 1));
     if (step >= 0) return part(it, step, it.length - step, { in: true, out: true, moved: "in" });
     const longer = { ...it, start: it.start + step, at: it.at + step, length: it.length - step };
-    const later = points => (isFlat(points) ? points : points.map(([place, gain]) => [place - step, gain]));
-    return it.gains ? { ...longer, gains: it.gains.map(later) } : { ...longer, line: later(it.line) };
+    return withLines(longer, line => (isFlat(line) ? line : line.map(([place, gain]) => [place - step, gain])));
   }
   const bits = model.about.takes[it.take].bits;
   const length = Math.max(1, Math.min(it.length + by, bits - it.start));
@@ -62,9 +60,9 @@ export function trimmed(it, side, by) {
 }
 
 export function split() {
-  const bit = model.cursor.bit;
+  const bit = model.place;
   const found = near([...(model.selected.size ? model.selected : model.clips.keys())], bit).filter(it => clip(it).at < bit);
-  if (model.cursor.lane !== "mix" || !found.length) return refuse("There is no clip at the cursor.");
+  if (!found.length) return refuse("There is no clip at the cursor of the mix.");
   const changes = new Map();
   const later = [];
   for (const number of found) {
@@ -83,13 +81,20 @@ export function split() {
 function joined(one, other) {
   if (one.take !== other.take || one.decoder !== other.decoder) return "they are of different takes";
   if (one.at + one.length !== other.at || one.start + one.length !== other.start) return "the take doesn't go on from one to the other";
-  if (one.gains || other.gains) return "each of their channels has levels of its own";
   if (one.out || other.in) return "there is a fade between them";
   if (other.title !== null) return "a title begins with the second one";
-  if (gainAt(one.line, one.length) !== gainAt(other.line, 0)) return "the level changes between them";
-  let line = [...one.line.filter(it => it[0] < one.length), [one.length, gainAt(other.line, 0)], ...other.line.map(([place, gain]) => [place + one.length, gain])];
-  line = line.filter((it, number) => number === 0 || it[0] > line[number - 1][0]);
-  return { ...one, length: one.length + other.length, out: other.out, line: isFlat(line) ? [[0, line[0][1]]] : line };
+  const count = model.about.channels.length;
+  const [first, second] = one.gains || other.gains ? [withEach(one, count), withEach(other, count)] : [one, other];
+  if (linesOf(first).some((line, channel) => gainAt(line, first.length) !== gainAt(lineOf(second, channel), 0))) return "the level changes between them";
+  const made = withLines(first, (line, channel) => follows(line, first.length, lineOf(second, channel)));
+  return { ...made, length: first.length + second.length, out: second.out };
+}
+
+// A line that goes on as another one from a place on.
+function follows(line, length, other) {
+  const all = [...line.filter(it => it[0] < length), [length, gainAt(other, 0)], ...other.map(([place, gain]) => [place + length, gain])];
+  const made = all.filter((it, number) => number === 0 || it[0] > all[number - 1][0]);
+  return isFlat(made) ? [[0, made[0][1]]] : made;
 }
 
 export function join() {
@@ -114,8 +119,8 @@ export function fade() {
   const changes = new Map();
   for (const number of model.selected) {
     const it = clip(number);
-    const first = model.cursor.bit - it.at;
-    if (it.gains || first <= 0 || first >= it.length) continue;
+    const first = model.place - it.at;
+    if (first <= 0 || first >= it.length) continue;
     const made = { ...it };
     if (first <= it.length / 2) made.in = [Math.min(first, it.length - (it.out?.[0] ?? 0)), it.in?.[1] ?? "s"];
     else made.out = [Math.min(it.length - first, it.length - (it.in?.[0] ?? 0)), it.out?.[1] ?? "s"];
@@ -142,43 +147,44 @@ export function crossfade() {
     const late = clip(numbers[number + 1]);
     const overlap = early.at + early.length - late.at;
     if (overlap <= 0 || overlap > Math.min(early.length, late.length)) continue;
-    if (early.gains || late.gains) return refuse("Each channel of a clip has levels of its own: these clips have no fades.");
     if ((early.in?.[0] ?? 0) + overlap > early.length) return refuse("The first clip has no room for it: its fade-in is too long.");
     const curve = early.take === late.take ? "linear" : "power";
     changes.set(numbers[number], { ...early, out: [overlap, curve] });
     const out = late.out && late.out[0] + overlap > late.length ? null : late.out;
     changes.set(numbers[number + 1], { ...late, in: [overlap, curve], out });
   }
-  if (!changes.size) return refuse("Move a clip over the end of another one, and select both.");
+  if (!changes.size) return refuse("Select a clip that lies over the end of another one: drag it there first.");
   change("crossfade", changes);
 }
 
-// Adds a point to the line of levels where the cursor is.
+// Adds a point to the line of levels where the cursor is: to that of the chosen channel, if each has one.
 export function point() {
   const changes = new Map();
-  for (const number of near([...model.selected], model.cursor.bit)) {
+  for (const number of near([...model.selected], model.place)) {
     const it = clip(number);
-    const place = model.cursor.bit - it.at;
-    if (it.gains || it.line.some(it => it[0] === place)) continue;
-    const line = isFlat(it.line) && it.line.length === 1 ? [[0, it.line[0][1]], [it.length, it.line[0][1]]] : it.line;
+    const place = model.place - it.at;
+    const now = lineOf(it, model.channel);
+    if (!isLevel(now) && now.some(it => it[0] === place)) continue;
+    const line = isLevel(now) ? [[0, now[0][1]], [it.length, now[0][1]]] : now;
     const made = [...line.filter(it => it[0] < place), [place, gainAt(line, place)], ...line.filter(it => it[0] > place)];
-    changes.set(number, { ...it, line: made.filter((it, at) => at === 0 || it[0] > made[at - 1][0]) });
+    changes.set(number, withLine(it, model.channel, made.filter((it, at) => at === 0 || it[0] > made[at - 1][0])));
   }
   if (!changes.size) return refuse("Select a clip, and put the cursor inside of it.");
   change("gain point", changes);
 }
 
-// Puts a pause where the cursor is: what begins there or later comes later.
+// Puts a pause before the selected clip, or where the cursor is: what begins there or later comes later.
 export function pause(bits) {
-  const later = [...model.clips.keys()].filter(it => clip(it).at >= model.cursor.bit);
-  if (model.cursor.lane !== "mix" || !later.length) return refuse("No clip begins at the cursor or after it.");
+  const starts = [...model.selected].map(it => clip(it).at);
+  const from = starts.length ? Math.min(...starts) : model.place;
+  const later = [...model.clips.keys()].filter(it => clip(it).at >= from);
+  if (!later.length) return refuse("Select the clip that the pause comes before.");
   change(`pause of ${(bits / model.about.rate).toFixed(3)} s`, new Map(later.map(it => [it, { ...clip(it), at: clip(it).at + bits }])));
 }
 
 // The places that something may snap to.
 export function places(without = new Set()) {
-  const found = [0];
-  if (model.cursor.lane === "mix") found.push(model.cursor.bit);
+  const found = [0, model.place];
   for (const [number, it] of model.clips) {
     if (without.has(number)) continue;
     found.push(it.at, it.at + it.length);

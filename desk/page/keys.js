@@ -1,6 +1,15 @@
-// The keys, and their list.
+// The keys, their list, and what is done with them first.
+export const STEPS = [
+  "Drag over a wave below: this selects a part of a take. “Play” lets you hear it.",
+  "Press “Put into the mix”. Do the same with the next part: it comes after the first.",
+  "Drag a clip by its name to move it, and by its ends to trim it.",
+  "Drag the round handles of a selected clip to fade it in or out.",
+  "Drag a clip over the end of the one before, and press “Crossfade”.",
+  "Click into the mix and press “Play” to hear it from there. Press “Make master” when it is right.",
+];
+
 export const KEYS = [
-  ["Space", "play from the cursor, or stop"],
+  ["Space", "play the selected range, or from the cursor; or stop"],
   ["Shift Space", "play what is selected, again and again"],
   ["A", "hear the mix or the master"],
   ["Tab, Shift Tab in a lane", "next or previous cut, with two seconds around it"],
@@ -8,7 +17,7 @@ export const KEYS = [
   ["Home, End", "cursor to the start or the end"],
   ["[ ]", "select from here, or up to here"],
   ["+ −", "zoom in and out; 0 all, Z what is selected"],
-  ["Enter, I", "put the selected part of a take into the mix, at its cursor"],
+  ["Enter, I", "put the selected part of a take into the mix: at the cursor, or at the end if that is inside of a clip"],
   [", .", "move the selected clips by a pixel; with Shift by ten, with Alt by a bit"],
   ["N, P", "select the next or the previous clip"],
   ["S", "split at the cursor"],
@@ -16,6 +25,7 @@ export const KEYS = [
   ["F", "fade from an end of the clip to the cursor"],
   ["X", "crossfade the selected clips where they overlap"],
   ["G", "gain point at the cursor"],
+  ["Shift P", "pause before the selected clip, as long as its field says"],
   ["Delete", "delete the selected clips"],
   ["Escape", "end a drag, or select nothing; in a lane, then Tab leaves it"],
   ["Ctrl Z, Ctrl Y", "undo, redo"],

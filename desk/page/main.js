@@ -2,32 +2,60 @@
 import { follow, get, post } from "./api.js";
 import { drawMeter, drawMix, drawOverview, drawTakes, fittingHeight, learnColors, takesHeight } from "./draw.js";
 import * as edits from "./edits.js";
-import { KEYS, listenTo } from "./keys.js";
+import { KEYS, listenTo, STEPS } from "./keys.js";
 import { change, done, dropTakenUp, heard, load, model, ordered, redo, refresh, save, say, sayBy, select, setCursor, setRange, takeOther, told, undo } from "./model.js";
 import { make, showClip, showClips, showLevels, showMarks, showMaster } from "./panels.js";
 import { hear, play, player, stop, warm } from "./player.js";
 import { cancel, isDragging, listen, showAll, showRange, zoom } from "./pointer.js";
-import { forget, redrawBy } from "./tiles.js";
-import { clock, decibels, level } from "./times.js";
+import { blockFor, forget, isWhole, redrawBy } from "./tiles.js";
+import { clock, decibels, grouped, level, parsed } from "./times.js";
+import { repaint } from "./waves.js";
 
 const $ = name => document.querySelector(name);
 const [mix, takes, overview] = ["#mix", "#takes", "#overview"].map($);
 const AROUND = 1; // seconds before and after a cut
-const PAUSE = 2; // seconds
+const MOST_MOVE = 100_000; // us that cuts may move
 const stale = new Set(["mix", "takes", "overview"]);
+const LANES = { mix, takes, overview };
 let isWaiting = false;
 let lines = [];
+
+const DRAWS = { mix: () => drawMix(mix), takes: () => drawTakes(takes), overview: () => drawOverview(overview), meter };
+
+// All lanes are drawn anew, with what doesn't move.
+function repaintAll() {
+  for (const it of Object.values(LANES)) repaint(it);
+  redraw(...Object.keys(LANES));
+}
+
+// Waves came whose columns are that wide: lanes that show such are drawn anew.
+function repaintBy(block) {
+  const whole = { per: Math.max(model.length, 1) / Math.max(overview.clientWidth, 1) };
+  const views = { ...model.views, overview: whole };
+  for (const [name, canvas] of Object.entries(LANES)) {
+    if (blockFor(views[name].per / model.about.factor) !== block) continue;
+    repaint(canvas);
+    redraw(name);
+  }
+  redraw("mix");
+}
 
 function redraw(...what) {
   for (const it of what) stale.add(it);
   if (isWaiting || !model.state) return;
   isWaiting = true;
-  requestAnimationFrame(() => {
-    isWaiting = false;
-    const now = [...stale];
-    stale.clear();
-    for (const it of now) ({ mix: () => drawMix(mix), takes: () => drawTakes(takes), overview: () => drawOverview(overview), meter })[it]();
-  });
+  requestAnimationFrame(drawNow);
+}
+
+function drawNow() {
+  isWaiting = false;
+  const now = [...stale];
+  stale.clear();
+  for (const it of now) DRAWS[it]();
+  if (isWhole() && !document.documentElement.dataset.waves) {
+    document.documentElement.dataset.waves = "yes"; // for tests: all waves in sight are drawn
+    performance.mark("waves");
+  }
 }
 
 // Messages.
@@ -82,7 +110,7 @@ function showState() {
     button.setAttribute("aria-label", label ? `${name} ${label}` : name);
   }
   $("#save").disabled = state.saved || !model.clips.size;
-  $("#make").disabled = !model.clips.size || state.make.running;
+  $("#make").disabled = $("#predict").disabled = !model.clips.size || state.make.running;
   const master = $("[name=heard][value=master]");
   master.disabled = !state.made?.is_current;
   if (master.disabled && player.which === "master") {
@@ -98,7 +126,7 @@ function showWhere() {
   const { rate, takes: all } = model.about;
   const where = lane === "mix" ? "mix" : `take ${Number(lane.slice(5)) + 1}`;
   const length = lane === "mix" ? model.length : all[Number(lane.slice(5))].bits;
-  $("#where").textContent = `${where} ${clock(bit, rate, 6)} of ${clock(length, rate)} · bit ${Math.round(bit).toLocaleString("en")}`;
+  $("#where").textContent = `${where} ${clock(bit, rate, 6)} of ${clock(length, rate)} · bit ${grouped(Math.round(bit))}`;
 }
 
 function meter() {
@@ -114,26 +142,43 @@ function speak() {
   spoken = setTimeout(() => ($("#said").textContent = $("#where").textContent), 400);
 }
 
-let had = true;
+// If all of the mix was in sight, it still is when the mix gets longer.
+let before = null;
+const inSight = length => model.views.mix.from <= 0 && model.views.mix.from + mix.clientWidth * model.views.mix.per >= length;
+function keepInSight() {
+  const isFirst = before === 0 && model.length > 0;
+  if (isFirst || (before !== null && inSight(before) && !inSight(model.length))) showAll("mix", mix.clientWidth);
+  before = model.length;
+}
+
+// Says that a making ended, once its result is there.
+let wasRunning = false;
+function sayMade() {
+  const { make: now, made } = model.state;
+  if (wasRunning && !now.running && now.done && !now.predicts && made) message(made.accepted && made.checked ? `The master is made and accepted. It is in ${made.folder}` : "The master is made, and rejected.", !made.accepted);
+  wasRunning = now.running;
+}
+
 const SHOWS = {
   state: () => {
-    if (model.clips.size && !had) showAll("mix", mix.clientWidth);
-    had = model.clips.size > 0;
+    keepInSight();
+    sayMade();
     showState();
     showClips();
     showClip();
     showMarks();
     showWhere();
-    redraw("mix", "takes", "overview");
+    repaintAll();
   },
   clips: () => {
     showClips();
     showClip();
-    redraw("mix", "takes", "overview");
+    repaintAll();
   },
   selection: () => {
     showClips();
     showClip();
+    repaint(mix);
     redraw("mix");
   },
   cursor: () => {
@@ -180,6 +225,8 @@ function playHere() {
   const loop = $("#loop").checked && model.range;
   if (loop) return playRange();
   let { lane, bit } = model.cursor;
+  const { range } = model;
+  if (range?.lane === lane && range.from === bit) return play(lane, bit, range.to);
   if (bit >= lengthOf(lane)) bit = 0;
   if (!lengthOf(lane)) return message("The mix is empty: put a part of a take into it.", true);
   play(lane, bit, lengthOf(lane));
@@ -199,9 +246,8 @@ export function hearCut(bit) {
 }
 
 function cut(by) {
-  const { bit } = model.cursor;
   const all = edits.cuts();
-  const found = by > 0 ? all.find(it => it > bit) : all.findLast(it => it < bit);
+  const found = by > 0 ? all.find(it => it > model.place) : all.findLast(it => it < model.place);
   if (found === undefined) return message("There is no cut further on.");
   hearCut(found);
 }
@@ -221,18 +267,44 @@ function saveNow() {
   if (!model.state.saved || model.state.outside) save();
 }
 
-async function makeMaster() {
-  if (!model.clips.size) return saveNow();
-  if (!model.state.saved) await save();
-  await done();
-  if (!model.state.saved) return;
+// By how much cuts may move, in us; null if that is no time.
+function moving() {
+  if (!$("#may-move").checked) return 0;
+  const bits = parsed($("#move").value, model.about.rate);
+  const found = bits === null ? null : Math.round((bits * 1e6) / model.about.rate);
+  return found !== null && found > 0 && found <= MOST_MOVE ? found : null;
+}
+
+async function start(what) {
+  const move = moving();
+  if (move === null) return message(`Cuts move by up to a time such as 1 ms, at most 100 ms; “${$("#move").value}” is none.`, true);
   lines = [];
   try {
-    await post("make");
+    await post(what, { move });
     await refresh();
+    $("#master").scrollIntoView({ block: "nearest" });
   } catch (error) {
     message(error.message, true);
   }
+}
+
+async function makeMaster() {
+  if (!model.clips.size) return saveNow();
+  if (model.state.make.running) return message("A master is being made.", true);
+  if (!model.state.saved) await save();
+  await done();
+  if (model.state.saved) start("make");
+}
+
+async function predict() {
+  await done();
+  start("predict");
+}
+
+function pause() {
+  const bits = parsed($("#pause-time").value, model.about.rate);
+  if (!bits) return message(`A pause is a time such as 2 s or 1:30; “${$("#pause-time").value}” is none.`, true);
+  edits.pause(bits);
 }
 
 const actions = { stop: () => post("stop").then(() => refresh()), hear: hearCut, lines: () => lines.join("\n") };
@@ -240,7 +312,8 @@ const actions = { stop: () => post("stop").then(() => refresh()), hear: hearCut,
 function help() {
   const close = make("button", { type: "button", autofocus: true, onclick: () => $("#help").close() }, "Close");
   const rows = KEYS.map(([keys, what]) => make("tr", {}, make("th", { scope: "row" }, make("kbd", {}, keys)), make("td", {}, what)));
-  $("#help").replaceChildren(make("h2", { id: "help-head" }, "Keys"), make("table", {}, make("tbody", {}, ...rows)), close);
+  const steps = make("ol", {}, ...STEPS.map(it => make("li", {}, it)));
+  $("#help").replaceChildren(close, make("h2", { id: "help-head" }, "From takes to a master"), steps, make("h2", {}, "Keys"), make("table", {}, make("tbody", {}, ...rows)));
   $("#help").showModal();
 }
 
@@ -253,7 +326,7 @@ function step(event) {
 
 function laneCursor(by) {
   const lane = document.activeElement === takes && model.cursor.lane === "mix" ? `take-${model.take}` : document.activeElement === mix ? "mix" : model.cursor.lane;
-  const bit = model.cursor.lane === lane ? model.cursor.bit : 0;
+  const bit = model.cursor.lane === lane ? model.cursor.bit : lane === "mix" ? model.place : 0;
   setCursor(lane, by === -Infinity ? 0 : by === Infinity ? lengthOf(lane) : Math.min(bit + by, lane === "mix" ? Infinity : lengthOf(lane)));
   reveal();
 }
@@ -286,9 +359,13 @@ function neighbour(by) {
   reveal();
 }
 
+// Puts a part of a take where the cursor was last in the mix, or at the end if that is inside of a clip.
 function insert() {
-  edits.insert(model.cursor.lane === "mix" ? model.cursor.bit : model.length);
-  reveal();
+  const { place, length } = model;
+  const isFree = ![...model.clips.values()].some(it => it.at < place && place < it.at + it.length);
+  const wasInSight = inSight(length);
+  edits.insert(isFree ? place : length);
+  if (!wasInSight) reveal();
 }
 
 const BINDINGS = {
@@ -314,7 +391,7 @@ const BINDINGS = {
   "alt ,": () => edits.move(-1), "alt .": () => edits.move(1),
   "<": () => edits.move(-Math.round(10 * model.views.mix.per)), ">": () => edits.move(Math.round(10 * model.views.mix.per)),
   n: () => neighbour(1), p: () => neighbour(-1),
-  s: edits.split, j: edits.join, f: edits.fade, x: edits.crossfade, g: edits.point,
+  s: edits.split, j: edits.join, f: edits.fade, x: edits.crossfade, g: edits.point, "shift p": pause,
   delete: edits.remove, backspace: edits.remove,
   "ctrl z": undo, "ctrl y": redo, "ctrl shift z": redo, "ctrl s": saveNow, "ctrl enter": makeMaster,
   "?": help,
@@ -354,16 +431,16 @@ function tall(times) {
   model.tall = Math.max(1, Math.min(model.tall * times, 256));
   isFitted = true;
   message(`Waves are drawn ${model.tall === 1 ? "as they are" : `${model.tall} times as high as they are`}.`);
-  redraw("mix", "takes", "overview");
+  repaintAll();
 }
 
 // Quiet takes are drawn higher from the start.
 let isFitted = false;
 function fit() {
   if (isFitted) return;
-  const found = fittingHeight();
-  if (found !== null && model.about.takes.every(it => it.done >= it.frames)) isFitted = true;
-  model.tall = found ?? 1;
+  const { takes: all } = model.about;
+  isFitted = all.every(it => it.done >= it.frames && it.peak !== null);
+  model.tall = fittingHeight();
 }
 
 function buttons() {
@@ -373,12 +450,20 @@ function buttons() {
     all: () => showAll("mix", mix.clientWidth), "to-selection": () => BINDINGS.z() ?? (model.range || message("Select a range first.", true)),
     lower: () => tall(0.5), taller: () => tall(2),
     "take-in": () => zoom("takes", 1 / 1.5, takes.clientWidth / 2, takes.clientWidth), "take-out": () => zoom("takes", 1.5, takes.clientWidth / 2, takes.clientWidth),
-    "take-all": () => showAll("takes", takes.clientWidth), insert, split: edits.split, join: edits.join, cross: edits.crossfade, point: edits.point,
-    pause: () => edits.pause(PAUSE * model.about.rate), delete: edits.remove,
+    "take-all": () => showAll("takes", takes.clientWidth), insert, split: edits.split, join: edits.join, fade: edits.fade, cross: edits.crossfade, point: edits.point,
+    pause, delete: edits.remove, predict,
   };
-  for (const [name, act] of Object.entries(clicks)) $(`#${name}`).addEventListener("click", act);
+  for (const [name, act] of Object.entries(clicks)) {
+    // After a click by the mouse the space bar plays, and doesn't press the button again.
+    const lane = name.startsWith("take-") ? takes : mix;
+    $(`#${name}`).addEventListener("click", event => {
+      act();
+      if (event.detail && name !== "keys") lane.focus({ preventScroll: true });
+    });
+  }
   for (const it of document.querySelectorAll("[name=heard]")) it.addEventListener("change", () => hear(it.value));
-  $("#pause").textContent = `Pause ${PAUSE} s`;
+  $("#pause-time").addEventListener("keydown", event => event.key === "Enter" && pause());
+  $("#move").addEventListener("input", () => ($("#may-move").checked = true));
   $("#clip").addEventListener("submit", event => event.preventDefault());
 }
 
@@ -396,14 +481,15 @@ function news(it) {
     const shown = $("#lines");
     if (shown) shown.textContent = lines.join("\n");
   } else if (it.peaks) {
-    const { source, done: now, why } = it.peaks;
+    const { source, done: now, peak, why } = it.peaks;
     if (source !== "master") {
       const take = model.about.takes[Number(source.slice(5))];
-      take.done = now;
+      Object.assign(take, { done: now, peak });
+      fit();
       if (why) message(`${take.name}: ${why}`, true);
     }
     forget(source);
-    redraw("mix", "takes", "overview");
+    repaintAll();
   } else if (it.make) {
     model.state.make = it.make;
     if (!it.make.running) forget("master");
@@ -431,27 +517,41 @@ async function listenOn() {
   }
 }
 
+// What was in sight as a whole still is when the window gets narrower, and fills it when it gets wider.
+const widths = { mix: 0, takes: 0 };
+function keepWhole(name, length) {
+  const view = model.views[name];
+  const width = canvasOf(name).clientWidth;
+  const span = widths[name] * view.per;
+  const wasWhole = view.from <= 0 && view.from + span >= length;
+  const fits = view.from + width * view.per >= length;
+  if (length && span && width !== widths[name] && wasWhole && (!fits || span < 1.06 * length)) showAll(name, width);
+  widths[name] = width;
+}
+
 function sizes() {
   takes.style.height = `${takesHeight()}px`;
-  redraw("mix", "takes", "overview", "meter");
+  keepWhole("mix", model.length);
+  keepWhole("takes", Math.max(...model.about.takes.map(it => it.bits)));
+  repaintAll();
+  redraw("meter");
 }
 
 async function begin() {
   learnColors();
-  redrawBy(() => {
-    fit();
-    redraw("mix", "takes", "overview");
-  });
+  redrawBy(repaintBy);
   buttons();
   listen(mix, takes, overview);
   listenTo(bindings);
   for (const it of ["pointerdown", "keydown"]) addEventListener(it, () => model.about && warm(), { once: true, capture: true });
   try {
+    const printed = get("lines");
     await load();
+    ({ lines } = await printed);
   } catch (error) {
     return message(error.message, true);
   }
-  lines = (await get("lines")).lines;
+  fit();
   sizes();
   showAll("mix", mix.clientWidth);
   showAll("takes", takes.clientWidth);
@@ -461,6 +561,12 @@ async function begin() {
     learnColors();
     sizes();
   });
+  const move = model.state.made?.move;
+  if (move) {
+    $("#may-move").checked = true;
+    $("#move").value = `${move / 1000} ms`;
+  }
+  drawNow(); // asks for waves before the browser shows its first picture
   document.documentElement.dataset.ready = "yes";
   listenOn();
 }

@@ -8,7 +8,9 @@ export const model = {
   preview: null, // clips that a drag changes, until it ends
   selected: new Set(),
   cursor: { lane: "mix", bit: 0 },
+  place: 0, // where the cursor was last in the mix
   take: 0, // the take that was looked at last
+  channel: 0, // whose line of levels is changed, where each channel has one
   range: null, // { lane, from, to } in bits
   views: { mix: { from: 0, per: 1000 }, takes: { from: 0, per: 1000 } },
   drop: null, // a part of a take that is dragged over the mix
@@ -42,8 +44,9 @@ function take(state, isAnew = false) {
 }
 
 export async function load() {
-  model.about ??= await get("about");
-  take(await get("state"));
+  const [about, state] = await Promise.all([get("about"), get("state")]);
+  model.about = about;
+  take(state);
 }
 
 export async function refresh(isAnew = false) {
@@ -98,8 +101,9 @@ export function select(numbers) {
 
 export function setCursor(lane, bit) {
   const most = lane === "mix" ? 2 ** 36 : model.about.takes[Number(lane.slice(5))].bits;
-  if (lane !== "mix") model.take = Number(lane.slice(5));
   model.cursor = { lane, bit: Math.max(0, Math.min(Math.round(bit), most)) };
+  if (lane === "mix") model.place = model.cursor.bit;
+  else model.take = Number(lane.slice(5));
   told("cursor");
 }
 

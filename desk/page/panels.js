@@ -1,12 +1,15 @@
 // What is beside the lanes: the selected clip, the list of clips, levels, marks, and the master.
 import { get } from "./api.js";
 import { drawSpectrum, loudest, residualColor } from "./draw.js";
+import { STEPS as STEPS_FIRST } from "./keys.js";
 import { trimmed } from "./edits.js";
-import { change, clip, model, ordered, say, select, setCursor } from "./model.js";
-import { CURVES, isFlat, NAMES } from "./shapes.js";
-import { clock, decibels, FULL, gainOf, lasting, level, levelOf, parsed } from "./times.js";
+import { change, clip, model, ordered, say, select, setCursor, told } from "./model.js";
+import { CURVES, isFlat, isLevel, lineOf, linesOf, NAMES, withEach, withLine, withOne } from "./shapes.js";
+import { clock, decibels, FULL, gainOf, grouped, lasting, level, levelOf, parsed } from "./times.js";
 
 const $ = name => document.querySelector(name);
+const MOST_GAIN = 2 ** 26;
+const MOST_SHOWN = 40; // points of a line
 
 // An element with attributes and what is inside; texts stay texts.
 export function make(tag, attributes = {}, ...inside) {
@@ -30,8 +33,9 @@ export function nameOfClip(it, number) {
   if (it.in) parts.push(`fade in ${lasting(it.in[0], rate)}`);
   if (it.out) parts.push(`fade out ${lasting(it.out[0], rate)}`);
   if (it.gains) parts.push("levels of its channels");
-  else if (!isFlat(it.line)) parts.push(`${it.line.length} gain points`);
-  else if (it.line[0][1] !== FULL) parts.push(`${levelOf(it.line[0][1])} dB`);
+  const most = Math.max(...linesOf(it).map(line => (isFlat(line) ? 0 : line.length)));
+  if (most) parts.push(`${most} gain points`);
+  else if (!it.gains && it.line[0][1] !== FULL) parts.push(`${levelOf(it.line[0][1])} dB`);
   return `${number}. ${parts.join(", ")}`;
 }
 
@@ -52,16 +56,19 @@ export function showClip(isForced = false) {
   const form = $("#clip");
   const number = model.selected.size === 1 ? [...model.selected][0] : null;
   const it = number === null ? null : clip(number);
-  const key = it ? JSON.stringify([number, it]) : String(model.selected.size);
+  const key = it ? JSON.stringify([number, it, model.channel]) : `${model.selected.size} of ${model.clips.size}`;
   if (key === asked && !isForced) return;
   if (form.contains(document.activeElement) && model.preview) return;
   asked = key;
   const focused = form.contains(document.activeElement) ? document.activeElement.id : null;
   if (!it) {
     const text = model.selected.size ? `${model.selected.size} clips are selected.` : "Select a clip in the mix, or in the list.";
-    form.replaceChildren(make("p", { class: "hint wide" }, text));
+    const steps = make("ol", { class: "hint wide", id: "steps" }, ...STEPS_FIRST.map(step => make("li", {}, step)));
+    $("#clip-head").textContent = model.clips.size ? "Clip" : "From takes to a master";
+    form.replaceChildren(model.clips.size ? make("p", { class: "hint wide" }, text) : steps);
     return;
   }
+  $("#clip-head").textContent = "Clip";
   form.replaceChildren(...fields(number, it));
   if (focused) form.querySelector(`#${focused}`)?.focus();
 }
@@ -111,7 +118,7 @@ function fields(number, it) {
   const put = (label, now) => void change(label, new Map([[number, now]]));
   const bits = takes[it.take].bits;
   const rows = [
-    make("p", { class: "wide hint" }, `${takes[it.take].name}, bits ${it.start.toLocaleString("en")} to ${(it.start + it.length).toLocaleString("en")} of ${bits.toLocaleString("en")}`),
+    make("p", { class: "wide hint" }, `${takes[it.take].name}, bits ${grouped(it.start)} to ${grouped(it.start + it.length)} of ${grouped(bits)}`),
     ...field("title", "title", it.title ?? "", text => {
       if (new TextEncoder().encode(text).length > model.about.most_title) return `A title has at most ${model.about.most_title} bytes.`;
       put("title", { ...it, title: text.trim() || null });
@@ -127,38 +134,67 @@ function fields(number, it) {
     }),
   ];
   const edges = [];
-  if (it.start === 0 && !it.in && !it.gains) edges.push("begins with the first bit");
-  if (it.start + it.length === bits && !it.out && !it.gains) edges.push("ends with the last bit");
+  if (it.start === 0 && !it.in) edges.push("begins with the first bit");
+  if (it.start + it.length === bits && !it.out) edges.push("ends with the last bit");
   if (edges.length) rows.push(make("p", { class: "wide hint", id: "edges" }, `It ${edges.join(" and ")} of its take, beyond which nothing is heard: that may click. Trim it by 5 ms there, or fade it.`));
-  if (it.gains) return [...rows, make("p", { class: "wide hint" }, "Each channel has levels of its own, which stay as they are.")];
-  rows.push(...fades(number, it, "in", "fade in"), ...fades(number, it, "out", "fade out"));
-  if (isFlat(it.line) && it.line.length === 1) {
-    rows.push(...field("level", "level, dB", levelOf(it.line[0][1]), text => {
-      const gain = gainOf(text);
-      if (gain === null || gain > 2 ** 26) return `${text} is no level such as −3, off, or at most +12`;
-      put("level", { ...it, line: [[0, gain]] });
-    }, "in dB, such as −3; off for silence"));
-  } else rows.push(...points(number, it, put));
-  return rows;
+  return [...rows, ...fades(number, it, "in", "fade in"), ...fades(number, it, "out", "fade out"), ...each(it, put), ...levels(it, put)];
+}
+
+// Whether each channel has a line of its own, and which of them is shown.
+function each(it, put) {
+  const { channels } = model.about;
+  if (channels.length < 2) return [];
+  model.channel = Math.min(model.channel, channels.length - 1);
+  const set = event => put("levels of channels", event.target.checked ? withEach(it, channels.length) : withOne(it, model.channel));
+  const found = [make("label", { class: "wide" }, make("input", { type: "checkbox", id: "each", checked: Boolean(it.gains), onchange: set }), "levels for each channel")];
+  if (!it.gains) return found;
+  const choose = event => {
+    model.channel = Number(event.target.value);
+    told("selection");
+  };
+  const options = channels.map((name, channel) => make("option", { value: channel, selected: channel === model.channel }, name));
+  return [...found, make("label", { for: "channel" }, "channel"), make("select", { id: "channel", onchange: choose }, ...options)];
+}
+
+// The level of the line, or its points.
+function levels(it, put) {
+  const line = lineOf(it, model.channel);
+  const set = (label, now) => put(label, withLine(it, model.channel, now));
+  if (!isLevel(line)) return points(it, line, set);
+  return field("level", "level, dB", levelOf(line[0][1]), text => {
+    const gain = gainOf(text);
+    if (gain === null || gain > MOST_GAIN) return `${text} is no level such as −3, off, or at most +12`;
+    set("level", [[0, gain]]);
+  }, "in dB, such as −3; off for silence");
 }
 
 // The points of a line of levels, each with its place and its level.
-function points(number, it, put) {
+function points(it, line, set) {
   const { rate } = model.about;
-  const found = [make("span", { class: "wide" }, `gain points: ${it.line.length}`)];
-  if (it.line.length > 40) return [...found, make("button", { type: "button", class: "wide", onclick: () => put("level", { ...it, line: [[0, FULL]] }) }, "Take all away")];
-  it.line.forEach(([place, gain], at) => {
-    const set = (now, label) => put(label, { ...it, line: now });
-    const input = make("input", { type: "text", id: `point-${at}`, value: levelOf(gain), "aria-label": `level in dB at ${clock(place, rate)} of the clip`, autocomplete: "off" });
+  const found = [make("span", { class: "wide" }, `gain points: ${line.length}; times count from the start of the clip`)];
+  const clear = make("button", { type: "button", class: "wide", onclick: () => set("level", [[0, FULL]]) }, "Take all points away");
+  if (line.length > MOST_SHOWN) return [...found, clear];
+  line.forEach(([place, gain], at) => {
+    const replaced = row => set("gain point", line.map((other, number) => (number === at ? row : other)));
+    const [low, high] = [at ? line[at - 1][0] + 1 : 0, at + 1 < line.length ? line[at + 1][0] - 1 : it.length];
+    const when = make("input", { type: "text", id: `place-${at}`, value: clock(place, rate), "aria-label": `time of gain point ${at + 1}`, autocomplete: "off" });
+    when.addEventListener("change", () => {
+      const now = parsed(when.value, rate);
+      if (now !== null && now >= low && now <= high) return replaced([now, gain]);
+      say(now === null ? `${when.value} is no time such as 2.5 or 20ms` : "The points of a line keep their order, and lie inside of the clip.", true);
+      showClip(true);
+    });
+    const input = make("input", { type: "text", id: `point-${at}`, value: levelOf(gain), "aria-label": `level in dB of gain point ${at + 1}`, autocomplete: "off" });
     input.addEventListener("change", () => {
       const now = gainOf(input.value);
-      if (now === null || now > 2 ** 26) return say(`${input.value} is no level such as −3`, true);
-      set(it.line.map((row, other) => (other === at ? [place, now] : row)), "gain point");
+      if (now !== null && now <= MOST_GAIN) return replaced([place, now]);
+      say(`${input.value} is no level such as −3`, true);
+      showClip(true);
     });
-    const away = make("button", { type: "button", "aria-label": `take the point at ${clock(place, rate)} away`, disabled: it.line.length === 1, onclick: () => set(it.line.filter((_, other) => other !== at), "take a gain point away") }, "✕");
-    found.push(make("span", {}, clock(place, rate)), make("span", { class: "two" }, input, away));
+    const away = make("button", { type: "button", "aria-label": `take gain point ${at + 1} away`, onclick: () => set("take a gain point away", line.filter((_, other) => other !== at)) }, "✕");
+    found.push(make("span", { class: "wide point" }, when, input, away));
   });
-  return found;
+  return [...found, clear];
 }
 
 // Levels of the selected range.
@@ -208,20 +244,23 @@ export function showMarks() {
 const SENTENCE = "Proved: a master that nulltest accepts differs audibly from its mix by at most the mix’s limit. At no judged place is the residual larger.";
 const WORDS = { render: "new bits where the mix changes", edit: "the master, cut from takes and new bits", check: "whether it holds the takes’ bits", nulltest: "whether it sounds like the mix" };
 const STEPS = Object.keys(WORDS);
-const FILES = { ".dff": "master (DSDIFF)", ".dsf": "master (DSF)", ".cert": "certificate", ".mix.toml": "mix", ".report.txt": "report", ".toml": "project", ".new.dff": "take of new bits" };
+const FILES = { ".moved.mix.toml": "mix with cuts that moved", ".dff": "master (DSDIFF)", ".dsf": "master (DSF)", ".cert": "certificate", ".mix.toml": "mix", ".report.txt": "report", ".toml": "project", ".new.dff": "take of new bits" };
 
 export function showMaster(actions) {
-  const { make: state, made, limit } = model.state;
+  const { make: state, made, predicted, limit } = model.state;
   const parts = [];
   if (state.running) {
     const step = STEPS.indexOf(state.step);
-    parts.push(make("p", { role: "status" }, `Step ${step + 1} of ${STEPS.length}, ${state.step}: ${WORDS[state.step]}`));
-    parts.push(make("progress", { max: STEPS.length, value: step + (state.part ?? 0), "aria-label": "progress of the master" }));
+    const text = state.predicts ? "What each cut will leave" : `Step ${step + 1} of ${STEPS.length}, ${state.step}: ${WORDS[state.step]}`;
+    parts.push(make("p", { role: "status" }, text));
+    parts.push(make("progress", { max: state.predicts ? 1 : STEPS.length, value: step + (state.part ?? 0), "aria-label": state.predicts ? "progress of the prediction" : "progress of the master" }));
     parts.push(make("button", { type: "button", id: "stop-making", onclick: actions.stop }, "Stop"));
   } else if (state.why) {
-    parts.push(make("p", { class: "bad", id: "why", role: "alert" }, state.why === "stopped" ? "It was stopped." : "No master was made."));
+    const text = state.why === "stopped" ? "It was stopped." : state.predicts ? "No master can be made of it." : "No master was made.";
+    parts.push(make("p", { class: "bad", id: "why", role: "alert" }, text));
     if (state.why !== "stopped") parts.push(make("pre", {}, state.why));
   }
+  if (predicted && !made?.is_current) parts.push(...expected(predicted, limit, actions));
   if (made) parts.push(...result(made, limit, actions));
   if (!parts.length) parts.push(make("p", { class: "hint" }, `Make a master to see what each cut leaves. It is accepted if that is nowhere louder than ${level(limit)} to full scale.`));
   if (state.running || state.why || made) parts.push(make("details", {}, make("summary", {}, "What was printed"), make("pre", { id: "lines" }, actions.lines())));
@@ -230,25 +269,52 @@ export function showMaster(actions) {
   if (isOpen) $("#master details").open = true;
 }
 
-function result(made, limit, actions) {
+// What each cut leaves, or will leave, and by how much it moved.
+function cutsTable(id, cuts, moves, head, actions) {
   const { rate } = model.about;
+  const rows = cuts.map((it, number) => {
+    const most = loudest(it);
+    const patch = make("span", { class: "patch" });
+    patch.style.background = residualColor(most);
+    const go = make("button", { type: "button", "aria-label": `hear cut ${number + 1} at ${clock(it.first, rate)}`, onclick: () => actions.hear((it.first + it.last) / 2) }, clock(it.first, rate));
+    const own = it.new ? `${it.why}; ${lasting(it.new[1] - it.new[0], rate)} of new bits` : it.why || "joined";
+    const away = Math.max(0, ...moves.filter(move => move.first <= it.last && move.stop > it.first).map(move => Math.abs(move.us)));
+    const moved = away ? `; moved by ${(away / 1000).toFixed(3)} ms` : "";
+    return make("tr", {}, make("td", {}, go), make("td", {}, make("div", { class: "number" }, patch, level(most)), make("div", { class: "hint" }, own + moved)));
+  });
+  if (!rows.length) return [];
+  return [make("table", { id }, make("thead", {}, make("tr", {}, ...["place", head].map(it => make("th", { scope: "col" }, it)))), make("tbody", {}, ...rows))];
+}
+
+function expected(predicted, limit, actions) {
+  const { cuts, moves, move, share } = predicted;
+  const most = cuts.map(loudest).reduce((sum, it) => (it !== null && (sum === null || it > sum) ? it : sum), null);
+  const isQuiet = most === null || most <= limit;
+  const moving = move ? ` if cuts may move by up to ${move / 1000} ms` : "";
+  const text = ` — what is left will be at most ${level(most)}${moving}, and ${level(limit)} is allowed. ${share} % of the bits will be the takes’ own.`;
+  const parts = [make("p", { class: isQuiet ? "good" : "bad", id: "predicted" }, make("strong", {}, isQuiet ? "predicted" : "too loud"), text)];
+  if (!isQuiet) parts.push(make("p", { class: "hint" }, "Longer fades get quieter, and so do short ones if cuts may move."));
+  return [...parts, ...cutsTable("expected", cuts, moves, "click that is expected, and what will be new", actions)];
+}
+
+function result(made, limit, actions) {
   const parts = [];
   if (!made.is_current) parts.push(make("p", { class: "bad" }, "This master is of the mix as it was before: make it again."));
   const word = made.accepted && made.checked ? "accepted" : "rejected";
   parts.push(make("p", { class: made.accepted ? "good" : "bad", id: "verdict" }, make("strong", {}, word), ` — what is left is at most ${level(made.residual)}, and ${level(limit)} is allowed. ${made.share ?? 0} % of its bits are the takes’ own.`));
   if (made.accepted) parts.push(make("p", { class: "hint", id: "theorem" }, SENTENCE));
-  const rows = made.cuts.map((it, number) => {
-    const most = loudest(it);
-    const patch = make("span", { class: "patch" });
-    patch.style.background = residualColor(most);
-    const go = make("button", { type: "button", "aria-label": `hear cut ${number + 1}`, onclick: () => actions.hear((it.first + it.last) / 2) }, clock(it.first, rate));
-    const own = it.new ? `${it.why}; ${lasting(it.new[1] - it.new[0], rate)} of new bits` : it.why || "joined";
-    return make("tr", {}, make("td", {}, go), make("td", {}, make("div", { class: "number" }, patch, level(most)), make("div", { class: "hint" }, own)));
-  });
-  if (rows.length) parts.push(make("table", { id: "cuts" }, make("thead", {}, make("tr", {}, ...["place", "click, and what is new"].map(it => make("th", { scope: "col" }, it)))), make("tbody", {}, ...rows)));
+  if (made.move) parts.push(make("p", { class: "hint", id: "moved" }, movedText(made.moves)));
+  parts.push(...cutsTable("cuts", made.cuts, made.moves ?? [], "click, and what is new", actions));
   const links = made.endings.map(it => make("li", {}, make("a", { href: `file/${it.slice(1)}`, download: true }, FILES[it] ?? it), ` ${(made.sizes[it] / 1e6).toFixed(2)} MB`));
   parts.push(make("p", { class: "hint" }, `The files are in ${made.folder}`), make("ul", { id: "files" }, ...links));
   return parts;
+}
+
+// How many cuts moved. Their mix is another one than was asked for, by that much.
+function movedText(moves) {
+  if (!moves.length) return "No cut had to move.";
+  const [count, most] = [new Set(moves.map(it => it.first)).size, Math.max(...moves.map(it => Math.abs(it.us)))];
+  return `${count === 1 ? "1 cut" : `${count} cuts`} moved, by at most ${(most / 1000).toFixed(3)} ms. The master was judged by the mix that has them there.`;
 }
 
 export { decibels };

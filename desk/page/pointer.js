@@ -1,9 +1,9 @@
 // The mouse, the pen and the finger on the lanes. A drag shows what it would do, and is one step when it ends; Escape and
 // whatever else interrupts it leave all as it was.
-import { gainOfY, gainY, HEAD, mixPlan, QUIETEST, RULER, takeHeight } from "./draw.js";
+import { channelAt, gainBox, gainOfY, gainY, HEAD, mixPlan, QUIETEST, RULER, takeHeight } from "./draw.js";
 import { insert, moved, places, snapped, trimmed } from "./edits.js";
 import { change, clip, model, select, setCursor, setRange, shown, told } from "./model.js";
-import { isFlat } from "./shapes.js";
+import { isLevel, lineOf, linesOf, withLine } from "./shapes.js";
 import { FULL } from "./times.js";
 
 const EDGE = 7; // pixels
@@ -59,15 +59,17 @@ function hit(x, y, height) {
     const x0 = (it.at - view.from) / view.per;
     const x1 = (it.at + it.length - view.from) / view.per;
     if (x < x0 - EDGE || x > x1 + EDGE) continue;
-    const found = { number, it, top, size: plan.size };
-    if (model.selected.has(number) && !it.gains) {
+    const found = { number, it, channel: channelAt(it, y, top, plan.size) };
+    if (model.selected.has(number)) {
       const xIn = x0 + (it.in?.[0] ?? 0) / view.per;
       const xOut = x1 - (it.out?.[0] ?? 0) / view.per;
       if (y < top + 12 && Math.abs(x - xIn) < EDGE) return { ...found, what: "in" };
       if (y < top + 12 && Math.abs(x - xOut) < EDGE) return { ...found, what: "out" };
-      const isLine = !(isFlat(it.line) && it.line.length === 1);
-      const at = isLine ? it.line.findIndex(([place, gain]) => Math.abs(x0 + place / view.per - x) < EDGE && Math.abs(gainY(gain / FULL, top, plan.size - 4) - y) < EDGE) : -1;
-      if (at >= 0) return { ...found, what: "point", point: at };
+      for (const [channel, line] of linesOf(it).entries()) {
+        const box = gainBox(it, channel, top, plan.size);
+        const at = isLevel(line) ? -1 : line.findIndex(([place, gain]) => Math.abs(x0 + place / view.per - x) < EDGE && Math.abs(gainY(gain / FULL, box) - y) < EDGE);
+        if (at >= 0) return { ...found, what: "point", point: at, channel, box };
+      }
     }
     if (Math.abs(x - x0) < EDGE) return { ...found, what: "start" };
     if (Math.abs(x - x1) < EDGE) return { ...found, what: "end" };
@@ -91,9 +93,10 @@ function press(event) {
   drag = { ...found, id: event.pointerId, canvas: mix, x, y, bit, isMoved: false, numbers: new Set() };
   mix.setPointerCapture(event.pointerId);
   if (found.number !== undefined) {
+    if (found.it.gains && found.what !== "head") model.channel = found.channel;
     const isMore = event.shiftKey || event.ctrlKey || event.metaKey;
     if (isMore) select(model.selected.has(found.number) ? [...model.selected].filter(it => it !== found.number) : [...model.selected, found.number]);
-    else if (!model.selected.has(found.number)) select([found.number]);
+    else select(model.selected.has(found.number) ? [...model.selected] : [found.number]);
     drag.numbers = found.what === "head" || found.what === "body" ? new Set(model.selected) : new Set([found.number]);
     if (isMore) drag.what = "nothing-more";
   } else if (found.what === "nothing") select([]);
@@ -125,12 +128,12 @@ function dragMix(x, y) {
     const bits = Math.round(Math.max(0, Math.min(it.at + it.length - snap(bit), it.length - (it.in?.[0] ?? 0))));
     preview(new Map([[drag.number, { ...it, out: bits ? [bits, it.out?.[1] ?? "s"] : null }]]));
   } else if (drag.what === "point") {
-    const line = it.line.map(row => [...row]);
+    const line = lineOf(it, drag.channel).map(row => [...row]);
     const low = drag.point ? line[drag.point - 1][0] + 1 : 0;
     const high = drag.point + 1 < line.length ? line[drag.point + 1][0] - 1 : it.length;
-    const gain = gainOfY(y, drag.top, drag.size - 4);
+    const gain = gainOfY(y, drag.box);
     line[drag.point] = [Math.max(low, Math.min(Math.round(bit - it.at), high)), gain <= 10 ** (QUIETEST / 20) ? 0 : Math.round(gain * FULL)];
-    preview(new Map([[drag.number, { ...it, line }]]));
+    preview(new Map([[drag.number, withLine(it, drag.channel, line)]]));
   } else if (drag.what === "ruler" || drag.what === "nothing" || drag.what === "body") {
     drag.places ??= places();
     setRange({ lane: "mix", from: Math.max(0, Math.round(snap(drag.bit))), to: Math.max(0, Math.round(snap(bit))) });
@@ -151,7 +154,7 @@ function release(event) {
   } else if (!it.isMoved && it.what !== "nothing-more") {
     setCursor("mix", it.bit);
     if (model.range?.lane === "mix") setRange(null);
-  }
+  } else if (it.isMoved && model.range?.lane === "mix") setCursor("mix", model.range.from);
 }
 
 export function cancel() {
@@ -198,7 +201,7 @@ function dragTake(event, x) {
   const last = snap(at + length) - length;
   const best = first !== at || last === at ? first : last;
   model.drop = isOver ? { at: Math.max(0, Math.round(best)), length } : null;
-  told("clips");
+  told("view");
 }
 
 function releaseTake(it) {
@@ -208,7 +211,7 @@ function releaseTake(it) {
   else if (!it.isMoved) {
     setRange(null);
     setCursor(it.lane, it.bit);
-  }
+  } else if (model.range && it.what === "range") setCursor(it.lane, model.range.from);
   told("clips");
 }
 

@@ -45,10 +45,23 @@ function near(points, place) {
   return gain + ((other - gain) * (place - at)) / (next - at);
 }
 
+// A clip has one line of levels for all channels, or one for each of them.
+export const linesOf = clip => clip.gains ?? [clip.line];
+export const lineOf = (clip, channel) => (clip.gains ? clip.gains[channel] : clip.line);
+export const withLines = (clip, call) => (clip.gains ? { ...clip, gains: clip.gains.map(call) } : { ...clip, line: call(clip.line, 0) });
+export const withLine = (clip, channel, line) => withLines(clip, (it, other) => (!clip.gains || other === channel ? line : it));
+
+// The same clip with a line for each channel, or with that of one channel for all.
+export function withEach({ line, ...clip }, count) {
+  return clip.gains ? clip : { ...clip, gains: Array.from({ length: count }, () => line) };
+}
+export function withOne({ gains, ...clip }, channel) {
+  return gains ? { ...clip, line: gains[channel] } : clip;
+}
+
 // What a clip is times at a place of a channel; 1 is full gain.
 export function envelope(clip, place, channel = 0) {
-  if (clip.gains) return near(clip.gains[channel], place) / FULL;
-  let found = near(clip.line, place) / FULL;
+  let found = near(lineOf(clip, channel), place) / FULL;
   if (clip.in && place < clip.in[0]) found *= CURVES[clip.in[1]](Math.max(place, 0) / clip.in[0]);
   const left = clip.length - place;
   if (clip.out && left < clip.out[0]) found *= CURVES[clip.out[1]](Math.max(left, 0) / clip.out[0]);
@@ -56,6 +69,7 @@ export function envelope(clip, place, channel = 0) {
 }
 
 export const isFlat = line => line.every(it => it[1] === line[0][1]);
+export const isLevel = line => line.length === 1;
 
 // The points from a place on, counted from there.
 export function pointsFrom(points, first, length) {
@@ -69,19 +83,15 @@ export function pointsFrom(points, first, length) {
 
 // A part of a clip, with the same sound at each place. The fades at its ends stay if `keeps` says so.
 export function part(clip, first, length, keeps) {
-  const made = { ...clip, start: clip.start + first, at: clip.at + first, length };
-  if (clip.gains) made.gains = clip.gains.map(it => pointsFrom(it, first, length));
-  else {
-    made.line = pointsFrom(clip.line, first, length);
-    made.in = keeps.in && clip.in ? [Math.min(clip.in[0], length), clip.in[1]] : null;
-    made.out = keeps.out && clip.out ? [Math.min(clip.out[0], length), clip.out[1]] : null;
-    const over = (made.in?.[0] ?? 0) + (made.out?.[0] ?? 0) - length;
-    if (over > 0) {
-      if (keeps.moved === "in") made.out = made.out[0] > over ? [made.out[0] - over, made.out[1]] : null;
-      else made.in = made.in[0] > over ? [made.in[0] - over, made.in[1]] : null;
-      const still = (made.in?.[0] ?? 0) + (made.out?.[0] ?? 0) - length;
-      if (still > 0) made[keeps.moved === "in" ? "in" : "out"] = null;
-    }
+  const made = { ...withLines(clip, it => pointsFrom(it, first, length)), start: clip.start + first, at: clip.at + first, length };
+  made.in = keeps.in && clip.in ? [Math.min(clip.in[0], length), clip.in[1]] : null;
+  made.out = keeps.out && clip.out ? [Math.min(clip.out[0], length), clip.out[1]] : null;
+  const over = (made.in?.[0] ?? 0) + (made.out?.[0] ?? 0) - length;
+  if (over > 0) {
+    if (keeps.moved === "in") made.out = made.out[0] > over ? [made.out[0] - over, made.out[1]] : null;
+    else made.in = made.in[0] > over ? [made.in[0] - over, made.in[1]] : null;
+    const still = (made.in?.[0] ?? 0) + (made.out?.[0] ?? 0) - length;
+    if (still > 0) made[keeps.moved === "in" ? "in" : "out"] = null;
   }
   return made;
 }

@@ -35,7 +35,7 @@ async function fetched(key, source, block, index) {
   } catch {
     kept.set(key, { data: new Int16Array(0), isWhole: false, isBad: true });
   }
-  redraw();
+  redraw(block);
 }
 
 async function work() {
@@ -46,6 +46,9 @@ async function work() {
   running--;
   work();
 }
+
+// Whether all that was asked for is there.
+export const isWhole = () => !running && !waiting.length;
 
 // The columns of a tile, or null as long as it isn't there.
 export function tile(source, block, index) {

@@ -3,6 +3,9 @@ export const FULL = 1 << 24;
 
 const pad = (number, size) => String(number).padStart(size, "0");
 
+// 1,234,567. (A browser's own way of doing this takes it a tenth of a second to load.)
+export const grouped = number => String(number).replace(/\B(?=(\d{3})+$)/g, ",");
+
 // h:mm:ss.mmm, with that many digits after the point.
 export function clock(bits, rate, digits = 3) {
   const unit = 10 ** digits;

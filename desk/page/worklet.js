@@ -12,11 +12,13 @@ class Ring extends AudioWorkletProcessor {
     this.peaks = [];
     this.count = 0;
     this.isOn = false;
+    this.isNew = false;
     this.port.onmessage = ({ data }) => {
       if (data.block) this.blocks.push(data.block);
       if (data.which !== undefined) this.which = data.which;
       if (data.on !== undefined) this.isOn = data.on;
       if (data.clear) {
+        this.isNew = true; // the first sound is reported at once
         this.blocks = [];
         this.place = 0;
       }
@@ -46,9 +48,10 @@ class Ring extends AudioWorkletProcessor {
       }
     }
     this.count += size;
-    if (this.count >= sampleRate / 40) {
+    const first = this.blocks[0];
+    if (this.count >= sampleRate / 40 || (first && this.isNew)) {
       this.count = 0;
-      const first = this.blocks[0];
+      this.isNew = !first && this.isNew;
       const ahead = this.blocks.reduce((sum, it) => sum + it.frames, -this.place);
       this.port.postMessage({ frame: first ? first.first + this.place : null, turn: first?.turn, peaks: this.peaks, ahead, isOn: this.isOn });
       this.peaks = [];

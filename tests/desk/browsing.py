@@ -13,11 +13,12 @@ from typing import Any
 from tests.desk.desks import Desk, clip, opened, until
 from tests.helpers.trials import ROOT, built_program, demand, get, put, run
 
-SIZES = ((1400, 1000), (900, 1000), (500, 1000))
+USUAL = (1400, 1000)
+SIZES = ((1280, 800), (390, 844), (1920, 1080))
 TEXTS = ("ink", "soft", "main", "bad", "good")  # colours of text, on these grounds:
 GROUNDS = ("ground", "panel", "lane")
 CONTRAST = 4.5
-SOON = 0.3  # seconds in which a sound begins, at most, where the machine is idle
+SOON = 0.15  # seconds in which a sound begins, at most, where the machine is idle
 PAGE = 200_000  # bytes
 RULER = 42  # pixels at the top of a lane
 
@@ -33,7 +34,7 @@ WHY = why_not()
 
 
 @contextlib.contextmanager
-def browser(desk: Desk, size: tuple[int, int] = SIZES[0]) -> Iterator[Any]:
+def browser(desk: Desk, size: tuple[int, int] = USUAL) -> Iterator[Any]:
     """A window with the desk's page."""
     from selenium import webdriver
     from selenium.webdriver.chrome.options import Options
@@ -139,8 +140,8 @@ def picture(window: Any, pictures: str | None, name: str) -> None:
         window.save_screenshot(os.path.join(pictures, f"{name}.png"))
 
 
-def by_mouse(pictures: str | None) -> None:
-    """A mix is made of two takes, heard, saved, made, and opened again."""
+def by_mouse(_: str | None) -> None:
+    """A mix is made of two takes, heard, saved, and opened again."""
     with opened("piece_1.dff", "piece_2.dff") as desk, browser(desk) as window:
         drag(window, spot(window, "takes", 60, 80), spot(window, "takes", 500, 85), spot(window, "takes", 700, 80))
         range_ = seen(window)["range"]
@@ -163,15 +164,12 @@ def by_mouse(pictures: str | None) -> None:
         heard(window, desk)
         press(window, "control s")
         demand(until(lambda: seen(window)["saved"], 10), f"it isn't saved: {seen(window)['notes']}")
-        master(window, pictures)
         before = seen(window)["clips"]
         window.refresh()
         ready(window)
         demand(seen(window)["clips"] == before, "another mix after the page was loaded again")
-        demand("accepted" in element(window, "#verdict").text, "the verdict is gone after the page was loaded again")
-        looks(window, pictures)
         quiet(window, "by mouse")
-    print("in Chromium: a mix cut by mouse, heard, saved, made, and there again", flush=True)
+    print("in Chromium: a mix cut by mouse, heard, saved, and there again", flush=True)
 
 
 def mouse_edits(window: Any, number: str, second: dict[str, Any]) -> None:
@@ -272,13 +270,12 @@ def heard(window: Any, desk: Desk) -> None:
     demand(latencies, f"nothing is heard: {seen(window)['notes']}")
     busy = max(os.getloadavg()[0] / (os.cpu_count() or 1), 1)
     if latencies:
-        demand(min(latencies) <= SOON * 1000 * busy * 2, f"the first sound comes after {min(latencies):.0f} ms")
+        demand(min(latencies) <= SOON * 1000 * busy, f"the first sound comes after {min(latencies):.0f} ms")
         print(f"in Chromium: the first sound after {min(latencies):.0f} ms at {busy:.1f} times the load", flush=True)
 
 
 def master(window: Any, pictures: str | None) -> None:
-    """Makes the master by its button."""
-    click(window, "#make")
+    """A master that is being made is shown and heard."""
     is_done = until(
         lambda: window.find_elements("css selector", "#verdict") or window.find_elements("css selector", "#why"), 300
     )
@@ -310,7 +307,8 @@ def looks(window: Any, pictures: str | None) -> None:
         for scheme in ("light", "dark"):
             features = {"features": [{"name": "prefers-color-scheme", "value": scheme}]}
             window.execute_cdp_cmd("Emulation.setEmulatedMedia", features)
-            window.set_window_size(*size)
+            metrics = {"width": size[0], "height": size[1], "deviceScaleFactor": 1, "mobile": False}
+            window.execute_cdp_cmd("Emulation.setDeviceMetricsOverride", metrics)
             time.sleep(0.7)
             picture(window, pictures, f"{size[0]}-{scheme}")
             wide = window.execute_script(

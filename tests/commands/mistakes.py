@@ -468,8 +468,8 @@ SUMS: tuple[Any, ...] = (
 
 ALL_COMMANDS = "the commands are info, convert, play, edit, check, nulltest, sum; dsdarc --help prints the usage"
 
-PLAY_USAGE = "; usage: dsdarc play [--from T] [--to T] [--previous FILE] [--next FILE] [--speakers] [--plus6] "
-PLAY_USAGE += "PROJECT IN OUT, or dsdarc play --dop IN OUT"
+PLAY_USAGE = "; usage: dsdarc play [--from T] [--to T] [--previous FILE] [--next FILE] [--speakers] [--rf64] "
+PLAY_USAGE += "[--plus6] PROJECT IN OUT, or dsdarc play --dop IN OUT"
 DOP_USAGE = "; usage: dsdarc play --dop IN OUT"
 SUM_USAGE = "; usage: dsdarc sum [--check] FILE.."
 FROM_0_TO_59 = "; after a colon come minutes or seconds from 0 to 59"
@@ -533,6 +533,10 @@ WRONG_USES: tuple[Any, ...] = (
     ("play --previous a --from 1 p.toml in.dff out", f"--from and --previous can't be together{PLAY_USAGE}"),
     ("play --next=a --dop in.dff out", f"--dop and --next can't be together{PLAY_USAGE}"),
     ("play --next a --speakers p.toml in.dff out", f"--next and --speakers can't be together{PLAY_USAGE}"),
+    ("play --rf64 --previous a p.toml in.dff out", f"--previous and --rf64 can't be together{PLAY_USAGE}"),
+    ("play --rf64 --dop in.dff out", f"--dop and --rf64 can't be together{PLAY_USAGE}"),
+    ("play --rf64 p.toml in.dff out --rf64", f"--rf64 is named twice{PLAY_USAGE}"),
+    ("play --rf46 p.toml in.dff out", "--rf46 is no option of play; did you mean --rf64?"),
     ("play p.toml in.dff out --next", f"no name of a file comes after --next{PLAY_USAGE}"),
     ("play --previous --next a p.toml in.dff out", f"no name of a file comes after --previous{PLAY_USAGE}"),
     ("play --previous=a --previous=b p.toml in.dff out", f"--previous is named twice{PLAY_USAGE}"),

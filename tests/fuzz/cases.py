@@ -787,7 +787,7 @@ ARGUMENTS: list[tuple[Any, ...]] = [
 
 def scarce_case(case: Case) -> None:
     """Larger files under less memory than they take: a run may say that it is out of memory, or nothing at all, but it
-    ends by itself and makes no file then. `play` leaves a prefix."""
+    ends by itself and makes no file then. `play` and `convert`, which write while they read, leave a prefix."""
     frames = case.rng.randrange(1000, 200_000)
     for name in ("a.dff", "b.dff"):
         case.put(name, bases.dsdiff(case.rng, name, 1, frames, is_rich=True).data)
@@ -812,12 +812,12 @@ def scarce_case(case: Case) -> None:
     case.limit_part = case.rng.random()
     run = case.run(arguments, made=["out", "wave", "master", "cert"])
     demand("lines" not in arguments or run.err == MEMORY, "10 GB within a few megabytes")
-    if arguments[0] != "play":
-        if run.status == 2:
-            case.demand_unmade(run, "out", "master", "cert")
-    elif case.has("wave"):
-        left = case.get("wave")
-        demand(left[:4] == b"RIFF"[: len(left)], "what is left is no prefix of a WAVE file")
+    if run.status == 2:
+        case.demand_unmade(run, "master", "cert")
+    for name, begins in (("wave", (b"RIFF",)), ("out", (b"FRM8", b"DSD "))):
+        if case.has(name):
+            left = case.get(name)
+            demand(any(left[:4] == it[: len(left)] for it in begins), f"what is left in {name} is no prefix of a file")
 
 
 LARGE = 2**31

@@ -2,7 +2,8 @@
 
 A row of READ has READ in the place of an output, and the file that it is: by its name, by others, by links, and as
 standard output. A row of MADE has the name that a script itself gives an output, which is a link to a file that is
-read. A row of TWICE has two outputs that are one file. These scripts write no files of a name, and only print:
+read. A row of TWICE has two outputs that are one file. workflows/convert_tag says faults as the program does, so
+try_tags has what it refuses. These scripts write no files of a name, and only print:
 filters/pick, filters/tone.py, cuts/figures, cuts/levels, tools/check_certificate, tools/channels, tools/info_json,
 tools/waves and workflows/sum_folder."""
 import json

@@ -1,7 +1,7 @@
 """What scripts write: whole or not at all, and never over what they read; and how they end.
 
 Files are written beside those that they replace, and get their names once all files of a run are whole. After a
-fault or a signal (INT, TERM, HUP) nothing is left over, and old files stay as they were. What is no file of a folder,
+fault or a signal (INT, TERM, HUP, QUIT) nothing is left over, and old files stay as they were. What is no file of a folder,
 such as a pipe, is written in place."""
 import signal
 
@@ -28,7 +28,7 @@ from dsdarc_scripts.explained import shown_name, shown_part
 if is_usual:
     signal.signal(signal.SIGINT, signal.default_int_handler)
 
-STOPS = (signal.SIGINT, signal.SIGTERM, signal.SIGHUP)
+STOPS = (signal.SIGINT, signal.SIGTERM, signal.SIGHUP, signal.SIGQUIT)
 SOON = 0.001  # seconds, after which what was lost is raised again
 
 

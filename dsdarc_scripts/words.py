@@ -1,6 +1,6 @@
 """What is after `dsdarc` where a script does what is asked for: read, and refused, as the program does it.
 
-Both scripts are begun by bin/launch.sh, and print what they say of a fault as the program: a line, and after
+These scripts are begun by bin/launch.sh, and print what they say of a fault as the program: a line, and after
 `--explain`, or on a terminal, what explains it."""
 import contextlib
 import sys
@@ -19,8 +19,9 @@ def explains() -> bool:
     return False
 
 
-def read(words: list[str], options: tuple[str, ...], least: int) -> tuple[set[str], list[str]]:
-    """The options among the words after a command's name, and the names. `--` ends the options."""
+def read(words: list[str], options: tuple[str, ...], least: int, is_most: bool = False) -> tuple[set[str], list[str]]:
+    """The options among the words after a command's name, and the names, of which there are at least that many, or just
+    that many. `--` ends the options."""
     found, names = set[str](), list[str]()
     for number, word in enumerate(words):
         if word == "--":
@@ -34,8 +35,9 @@ def read(words: list[str], options: tuple[str, ...], least: int) -> tuple[set[st
             raise Wrong(f"{word} begins with -; as a name it is written ./{word}")
         else:
             names.append(word)
-    if len(names) < least:
-        raise Wrong(f"it takes {least} name{'' if least == 1 else 's'} or more and got {len(names)}")
+    if len(names) < least or is_most and len(names) > least:
+        more = "" if is_most else " or more"
+        raise Wrong(f"it takes {least} name{'' if least == 1 else 's'}{more} and got {len(names)}")
     return found, names
 
 

@@ -20,18 +20,6 @@ static size_t take(kept from, uint64_t place, void *out, size_t size) {
     return place > SIZE_MAX ? 0 : dsdarc_c_kept(from.player, from.after, (size_t)place, out, size);
 }
 
-static uint64_t high_first(const uint8_t *at, int count) {
-    uint64_t number = 0;
-    for (int k = 0; k < count; k++) number = number << 8 | at[k];
-    return number;
-}
-
-static uint64_t low_first(const uint8_t *at, int count) {
-    uint64_t number = 0;
-    while (count-- > 0) number = number << 8 | at[count];
-    return number;
-}
-
 /* The chunk at a place, up to another one; *place goes to the next one. */
 static int next_chunk(kept from, uint64_t *place, uint64_t stop, chunk *it) {
     uint8_t head[12];

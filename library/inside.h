@@ -55,4 +55,18 @@ static inline const uint8_t *bytes_of(const void *bytes) {
     return bytes ? bytes : none;
 }
 
+/* The number that so many bytes make, with the highest byte first, as in DSDIFF. */
+static inline uint64_t high_first(const uint8_t *at, int count) {
+    uint64_t number = 0;
+    for (int k = 0; k < count; k++) number = number << 8 | at[k];
+    return number;
+}
+
+/* The same with the lowest byte first, as in DSF. */
+static inline uint64_t low_first(const uint8_t *at, int count) {
+    uint64_t number = 0;
+    while (count-- > 0) number = number << 8 | at[count];
+    return number;
+}
+
 #endif

@@ -1,6 +1,6 @@
 /* A call over the first bytes of a file that was cut off, or whose header is wrong: they are changed so that they state
  * what is there. It needs no player. Each number stays where it is, so no byte of the file moves. */
-#include "dsdarc.h"
+#include "inside.h"
 
 #include <string.h>
 
@@ -13,18 +13,6 @@ typedef struct front {
     uint8_t *at;
     uint64_t size, file;
 } front;
-
-static uint64_t high_first(const uint8_t *at, int count) {
-    uint64_t number = 0;
-    for (int k = 0; k < count; k++) number = number << 8 | at[k];
-    return number;
-}
-
-static uint64_t low_first(const uint8_t *at, int count) {
-    uint64_t number = 0;
-    while (count-- > 0) number = number << 8 | at[count];
-    return number;
-}
 
 static void put_high(uint8_t *at, uint64_t number) {
     for (int k = 7; k >= 0; k--, number >>= 8) at[k] = (uint8_t)number;

@@ -1,23 +1,17 @@
-/* Shows what a seek costs by the library, and a start, until the first frame is there: seeks PROJECT FILE */
+/* Shows what a seek costs by the library, alone and until the first frame is there, and a start: seeks PROJECT FILE */
 #include <dsdarc.h>
 #include <stdio.h>
 #include <stdlib.h>
 #include <time.h>
 
-static unsigned char *whole(const char *name, size_t *size) {
-    FILE *file = fopen(name, "rb");
-    unsigned char *bytes;
-    if (!file || fseek(file, 0, SEEK_END)) exit(3);
-    *size = (size_t)ftell(file);
-    rewind(file);
-    bytes = malloc(*size + 1);
-    if (!bytes || fread(bytes, 1, *size, file) != *size) exit(3);
-    fclose(file);
-    return bytes;
-}
+#include "../tests/library/reading.h"
+
+enum { SEEKS = 200 };
+
+/* The milliseconds of processor time of one of so many since then. */
+static double each(clock_t began) { return 1e3 * (double)(clock() - began) / CLOCKS_PER_SEC / SEEKS; }
 
 int main(int count, char **arguments) {
-    enum { SEEKS = 200 };
     static unsigned char pcm[18];
     size_t text_size, size, taken, given = 0;
     unsigned char *text, *bytes;
@@ -33,13 +27,19 @@ int main(int count, char **arguments) {
     for (int seek = 0; seek < SEEKS; seek++) {
         uint64_t at, frame = (uint64_t)seek * 7919 * 7919 % (info.frames - 1);
         if (dsdarc_player_seek(player, frame, &at) != DSDARC_OK) return 1;
+    }
+    printf("%.3f ms of processor for a seek", each(began));
+    began = clock();
+    for (int seek = 0; seek < SEEKS; seek++) {
+        uint64_t at, frame = (uint64_t)seek * 7919 * 7919 % (info.frames - 1);
+        if (dsdarc_player_seek(player, frame, &at) != DSDARC_OK) return 1;
         for (given = 0; given == 0; at += taken) {
             size_t step = size - at < 8192 ? size - at : 8192;
             if (dsdarc_player_push(player, bytes + at, step, &taken) != DSDARC_OK) return 1;
             if (dsdarc_player_pull(player, pcm, 1, DSDARC_PACKED, &given) != DSDARC_OK) return 1;
         }
     }
-    printf("%.2f ms of processor for a seek and its first frame", 1e3 * (double)(clock() - began) / CLOCKS_PER_SEC / SEEKS);
+    printf(", %.2f ms for one and its first frame", each(began));
     dsdarc_player_drop(player);
     began = clock();
     for (int start = 0; start < SEEKS; start++) {
@@ -51,6 +51,6 @@ int main(int count, char **arguments) {
         }
         dsdarc_player_drop(player);
     }
-    printf(", %.2f ms for a new player and its first frame\n", 1e3 * (double)(clock() - began) / CLOCKS_PER_SEC / SEEKS);
+    printf(", %.2f ms for a new player and its first frame\n", each(began));
     return 0;
 }

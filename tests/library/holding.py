@@ -1,4 +1,4 @@
-"""What the library holds of what comes before and after a sound: how much, and how often it looks at it."""
+"""What the library holds of what comes before and after a sound, and for seeks: how much, and how often it's made."""
 
 import os
 
@@ -11,6 +11,8 @@ HELD = 1 << 28  # bytes that are held of either
 TINY = 2_000_000  # chunks of no data, of 12 bytes each: 24 MB
 PIECE = 4096  # bytes of a push
 TOUCHED = 1024  # KiB that such a push may touch of memory
+LONGEST = os.path.join(ROOT, "filters", "dsd128-to-44100-24.toml")  # a filter with large tables
+ASKED = 65536  # bytes that a seek may ask for: a copy of its 4,063 taps for each of two channels, and little more
 
 
 def a_form(before: bytes, sound: bytes, after: bytes, size: int) -> bytes:
@@ -44,3 +46,14 @@ def try_held(folder: str, held: str) -> None:
             demand(said == wanted, f"{name}: {said}, not {wanted}")
         elif status == 0:
             demand(int(touched) <= TOUCHED, f"{name}: a push of {PIECE} bytes touches {touched} KiB of memory")
+
+
+def try_sought(folder: str, sought: str) -> None:
+    """A seek makes no tables of the filter, neither in the sound nor after it: they have more than half a megabyte."""
+    file_name = os.path.join(folder, "sought.dff")
+    with open(file_name, "wb") as file:
+        file.write(dsdiff(5_644_800, 2, bytes(2 * 90_000)))
+    status, said = run(sought, LONGEST, file_name)
+    demand(status == 0, f"seeks: status {status}")
+    if status == 0:
+        demand(all(int(it) <= ASKED for it in said.split()), f"seeks ask for {said.strip()} bytes of memory")

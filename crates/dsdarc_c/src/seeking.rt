@@ -87,6 +87,7 @@ pub(crate) fn seek_in(
     p.stage = Stage::Failed;
     p.pending.clear();
     p.pulled = 0;
+    p.taps.keep_tables(alloc)?;
     let rest = rest_from(alloc, &p.taps, sound, frame)?;
     let place = sound.start + (sound.size - rest.left);
     p.place = place;

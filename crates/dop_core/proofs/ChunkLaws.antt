@@ -14,17 +14,17 @@ pub record IsWalking (id file : List ℕ) (start at : ℕ) : Type 0 where
   pub after : start ≤ at
 
 module _ (id file : List ℕ) (at : ℕ) where
-  none_left : (steps : ℕ) → length file < at + 8 → chunk_for steps id file at ≡ None
+  pub none_left : (steps : ℕ) → length file < at + 8 → chunk_for steps id file at ≡ None
   unfolding chunk_for
   none_left zero less = refl
   none_left (suc steps) less = rw (lt-ltb (length file) (at + 8) less) refl
 
-  found_here : (steps : ℕ) → at + 8 ≤ length file → length file ≤ at + steps → same_id (id_at file at) id ≡ true → chunk_for steps id file at ≡ Some at
+  pub found_here : (steps : ℕ) → at + 8 ≤ length file → length file ≤ at + steps → same_id (id_at file at) id ≡ true → chunk_for steps id file at ≡ Some at
   unfolding chunk_for
   found_here zero inside enough same = absurd (omega (arith, inside, enough))
   found_here (suc steps) inside enough same = rw (le-ltb (length file) (at + 8) inside, same) refl
 
-  passed : (steps : ℕ) → at + 8 ≤ length file → same_id (id_at file at) id ≡ false → chunk_for (suc steps) id file at ≡ chunk_for steps id file (next_of file at)
+  pub passed : (steps : ℕ) → at + 8 ≤ length file → same_id (id_at file at) id ≡ false → chunk_for (suc steps) id file at ≡ chunk_for steps id file (next_of file at)
   unfolding chunk_for
   passed steps inside other = rw (le-ltb (length file) (at + 8) inside, other) refl
 

@@ -1,8 +1,14 @@
+pub mod Converting
 pub mod Fields
 pub mod Files
+pub mod Fronts
 pub mod Laws
+pub mod Markers
+pub mod Outlines
+pub mod Pieces
 pub mod Playing
 pub mod Reading
 pub mod Sinks
+pub mod Sounds
 pub mod Steps
 pub mod Writing

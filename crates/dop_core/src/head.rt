@@ -55,9 +55,9 @@ fn find_data(file: &[u8]) -> Result<usize, DopFault>
     }
 }
 
-// The place of the format chunk, before the data chunk.
+/// The place of the format chunk, before the data chunk.
 #[tactic(auto, unfolding(crate::specs::Reading::format_of))]
-fn find_format(file: &[u8], place: usize) -> Result<usize, DopFault>
+pub(crate) fn find_format(file: &[u8], place: usize) -> Result<usize, DopFault>
     requires { place + 8 ≤ length file.now }
     ensures exact { result ≡ format_of file.now place }
     ensures long { IfOk result (λ f. 16 ≤ fields.size_at file.now f) }
@@ -72,9 +72,9 @@ fn find_format(file: &[u8], place: usize) -> Result<usize, DopFault>
     Ok(format)
 }
 
-// Whether the format chunk at a place is within the limits.
+/// Whether the format chunk at a place is within the limits.
 #[tactic(auto, unfolding(crate::specs::Reading::checked))]
-fn check_format(file: &[u8], format: usize) -> Result<usize, DopFault>
+pub(crate) fn check_format(file: &[u8], format: usize) -> Result<usize, DopFault>
     requires long { 16 ≤ fields.size_at file.now format }
     requires inside { format + 8 + fields.size_at file.now format ≤ length file.now }
     ensures exact { result ≡ checked file.now format }

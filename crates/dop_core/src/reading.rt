@@ -1,11 +1,12 @@
 //! A whole file of DoP samples.
 
-ghost use Rattle.std.specs.Prelude.{◌≡◌, ◌≤◌, ◌*◌, ◌^◌, IfOk, Ok, length};
+ghost use Rattle.std.specs.Prelude.{◌≡◌, ◌<◌, ◌≤◌, ◌+◌, ◌*◌, ◌^◌, IfOk, Ok, length};
 ghost use Rattle.dsd_bits.specs.Limits.{most_bits};
 ghost use Rattle.dsd_bits.specs.Contents.{Content};
 ghost use Rattle.dsf_core.specs.Fields.{dsf_ids};
 ghost use Rattle.dop_core.specs.Files.{IsDopOf};
-ghost use Rattle.dop_core.specs.Reading.{count_in, described_by, fills, recording_of};
+ghost use Rattle.dop_core.specs.Fields as fields;
+ghost use Rattle.dop_core.specs.Reading.{count_by, count_in, described_by, fills, recording_of};
 ghost use Rattle.dop_core.specs.Steps.{Gives};
 
 use crate::channels::dop_channels;
@@ -62,7 +63,6 @@ fn read_in_order(alloc: Global, file: &[u8]) -> Result<Recording, DopFault>
 }
 
 // How many bits each channel has.
-#[tactic(auto, unfolding(crate::specs::Reading::count_by))]
 fn read_count(file: &[u8], head: &DopHead) -> Result<usize, DopFault>
     requires start { 8 ≤ head.now.start }
     requires inside { head.now.start ≤ length file.now }
@@ -70,8 +70,17 @@ fn read_count(file: &[u8], head: &DopHead) -> Result<usize, DopFault>
     ensures exact { result ≡ count_in file.now head.now }
     ensures fills { IfOk result (λ n. n ≤ 16 * head.now.frames) }
 {
-    let frames = head.frames;
-    let Some(at) = chunk_from(file, next_of(file, head.start - HEAD_SIZE), *b"DoPn") else {
+    count_from(file, next_of(file, head.start - HEAD_SIZE), head.frames)
+}
+
+/// How many bits each channel has: what the first chunk of its kind from a place on says.
+#[tactic(auto, unfolding(crate::specs::Reading::count_by))]
+pub(crate) fn count_from(file: &[u8], from: usize, frames: usize) -> Result<usize, DopFault>
+    requires few { frames ≤ 2 ^ 32 }
+    ensures exact { result ≡ count_by file.now frames (fields.chunk_from fields.COUNT file.now from) }
+    ensures fills { IfOk result (λ n. (n ≤ 16 * frames) × (16 * frames < n + 16)) }
+{
+    let Some(at) = chunk_from(file, from, *b"DoPn") else {
         return Ok(16 * frames);
     };
     if long_at(file, at + 4) < 8 || file.len() < at + 16 {
@@ -84,8 +93,12 @@ fn read_count(file: &[u8], head: &DopHead) -> Result<usize, DopFault>
     Ok(count as usize)
 }
 
-// What a file says of a recording of so many bits a channel.
-fn describe(alloc: Global, head: &DopHead, count: usize) -> Result<Description, AllocError>
+/// What a file says of a recording of so many bits a channel.
+pub(crate) fn describe(
+    alloc: Global,
+    head: &DopHead,
+    count: usize,
+) -> Result<Description, AllocError>
     requires rate { (1000000 ≤ head.now.rate) × (head.now.rate ≤ 50000000) }
     requires channels { (1 ≤ head.now.channels) × (head.now.channels ≤ 6) }
     requires in_limit { count ≤ most_bits }

@@ -37,7 +37,7 @@ use Rattle.transfer_commands.proofs.ReportLaws.{reported_number}
 -- ---- a file that was read whole
 
 -- an old output was kept where what is left is a prefix
-kept_by : (output : List ℕ) (old new : View) (bytes : List ℕ) → IsPutInPart output old new bytes → KeepsOld output old new
+pub kept_by : (output : List ℕ) (old new : View) (bytes : List ℕ) → IsPutInPart output old new bytes → KeepsOld output old new
 kept_by output old new bytes prefix = λ reported. elim (prefix reported) [ inl same ↦ inl same | inr held ↦ inr held.had_none ]
 
 -- what it is converted to could not be written

@@ -113,8 +113,8 @@ fn convert_between<R: Read + Drop, W: Write>(
     (came, outlet.into_inner())
 }
 
-// Whether a form has a place for channels of `count` bits.
-fn fits_in(form: Form, count: usize) -> bool
+/// Whether a form has a place for channels of `count` bits.
+pub(crate) fn fits_in(form: Form, count: usize) -> bool
     ensures { IsTrue result ↔ FitsIn form count }
 {
     match form {

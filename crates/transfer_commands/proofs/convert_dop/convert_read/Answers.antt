@@ -2,6 +2,7 @@ use Rattle.std.proofs.Common.{◌∙◌, Err, ap, subst, sym}
 use Rattle.std.proofs.lemmas.Result.{err_from_is_err_and}
 use Rattle.folder_core.specs.Files.{IsPutInPart}
 use Rattle.transfer_commands.specs.DopConverting.{ConvertDopComesTo}
+use Rattle.transfer_commands.proofs.ConvertLaws.{kept_by}
 use Rattle.transfer_commands.proofs.DopLaws.{dop_unwritten}
 use Rattle.transfer_commands.proofs.convert_dop.convert_read.Goals as goal
 
@@ -16,6 +17,9 @@ returns-in_err-write_file g c = λ input read.
       reads = record { file = c.args.file.now; file_read = read; has = c.in-Ok.ensures.exact };
       bytes = c.in-Ok-write_in.bytes.items;
       text = c.in-Ok-write_in.ensures.text;
-      part = subst (IsPutInPart output old new) c.deref.ensures.value c.in_err-write_file.ensures.refused;
+      last = c.args.file.now;
+      last_read = read;
+      part = λ same. subst (IsPutInPart output old new) c.deref.ensures.value c.in_err-write_file.ensures.refused;
+      kept = kept_by output old new _ c.in_err-write_file.ensures.refused;
       others = c.in_err-write_file.ensures.others;
     }))

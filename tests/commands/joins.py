@@ -1,5 +1,5 @@
-"""Files that are played between others: the frames of all joined, as they are summed from single bits; and why a file is
-no neighbour of another."""
+"""Files that are played between others: the frames of all joined, as they are summed from single bits, also with their
+channels in the order of loudspeakers; and why a file is no neighbour of another."""
 import itertools
 from collections.abc import Iterator
 from typing import Any
@@ -19,6 +19,9 @@ WAYS: tuple[tuple[str, bool, bool], ...] = (
     ("--next=b", False, True),
     ("--previous a", True, False),
 )
+
+# IDs of loudspeakers, the last of a WAVE file's order first.
+NAMED = (b"RS  ", b"LS  ", b"LFE ", b"C   ", b"MRGT", b"MLFT")
 
 
 def joined_wave(before: list[bytes], own: list[bytes], after: list[bytes], decimate: dict[str, Any]) -> bytes:
@@ -46,6 +49,34 @@ def joined() -> Iterator[Case]:
         none = [b""] * number
         wave = joined_wave(before if is_before else none, own, after if is_after else none, decimate)
         yield Case(files, [done(f"play {words} p.toml in out", f"played {len(wave)} bytes", {"out": wave})])
+
+
+def with_room(wave: bytes) -> bytes:
+    """The WAVE file with 36 bytes that readers ignore, before its format."""
+    size = int.from_bytes(wave[4:8], "little") + 36
+    room = b"JUNK" + (28).to_bytes(4, "little") + bytes(28)
+    return wave[:4] + size.to_bytes(4, "little") + wave[8:12] + room + wave[12:]
+
+
+def spoken() -> Iterator[Case]:
+    """One to six channels, named in the other order, by each filter; with room in the header or without it."""
+    shapes = itertools.cycle(itertools.product(SIZES, FILTERS))
+    for number, is_wide, (words, is_before, is_after) in itertools.product(range(1, 7), (False, True), WAYS):
+        sizes, decimate = next(shapes)
+        before, own, after = (sounds(f"spoken {name}", number, size) for name, size in zip("abc", sizes))
+        named = file_of("dsdiff", own, NAMED[-number:])
+        files = {"a": file_of("dsf8", before), "in": named, "b": file_of("dsdiff", after)}
+        files["p.toml"] = decimate_text(**decimate).encode()
+        none = [b""] * number
+        sides = (before if is_before else none, own, after if is_after else none)
+        first, middle, last = (side[::-1] for side in sides)
+        wave = joined_wave(first, middle, last, decimate)
+        if decimate["width"] == 24 or number > 2:
+            wave = wave[:40] + (2**number - 1).to_bytes(4, "little") + wave[44:]
+        if is_wide:
+            wave, words = with_room(wave), f"--rf64 {words}"
+        line = f"played {len(wave)} bytes"
+        yield Case(files, [done(f"play {words} --speakers p.toml in out", line, {"out": wave})])
 
 
 FAST = dsdiff(2 * RATE, 1, b"\xf0")
@@ -87,6 +118,9 @@ def refusals() -> Iterator[tuple[dict[str, bytes], str, str, str, dict[str, byte
     yield nine, "play --next in.dff p.toml n out", "NotWholeBytes", why, {}
     why = "nope (IN): No such file or directory"
     yield TO_PLAY, "play --next none p.toml nope out", "ReadFailed", why, {}
+    yield TO_PLAY, "play --speakers --next none p.toml nope out", "ReadFailed", why, {}
+    why = "n (IN) has 9 bits per channel, 1 more than whole bytes: play it without --previous and --next"
+    yield nine, "play --speakers --next none p.toml n out", "NotWholeBytes", why, {}
     for name, word in (("in.dff", "IN"), ("a", "--previous"), ("b", "--next"), ("p.toml", "PROJECT")):
         files = TO_PLAY | {"a": mono(b"a"), "b": mono(b"b")}
         why = f"{name} (OUT): it is {word} too: give another name"
@@ -96,6 +130,7 @@ def refusals() -> Iterator[tuple[dict[str, bytes], str, str, str, dict[str, byte
 def join_cases() -> Iterator[Case]:
     """All tables, as cases."""
     yield from joined()
+    yield from spoken()
     for files, words, line, why, made in refusals():
         yield Case(files, [Step(["--explain", *words.split()], 2, f"fault: {line}", made, why)])
         yield Case(files, [Step(words.split(), 2, f"fault: {line}", made)])

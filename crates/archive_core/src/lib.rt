@@ -46,4 +46,4 @@ pub use laws::{least_is_accepted, read_in_order};
 pub use master_core::Watch;
 pub use planning::{PlannedMaster, plan_master};
 pub use sound_core::StreamFault;
-pub use transfer_core::{Converted, Fault, FrameRange, convert, play, play_stream, take_names};
+pub use transfer_core::{Converted, Fault, WaveRange, convert, play, play_stream, take_names};

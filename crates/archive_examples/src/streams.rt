@@ -1,7 +1,7 @@
 //! Plays from a reader that gives one byte at a time to a writer that takes one, and fails each of their calls: the
 //! fault is named, and what was written is a prefix of the WAVE file.
 
-use archive_core::{Fault, FrameRange, StreamFault, play_stream};
+use archive_core::{Fault, StreamFault, WaveRange, play_stream};
 use chunk_core::{Inlet, Outlet};
 use part_examples::fixtures::devices::{Sipping, drip, sip};
 use std::alloc::Global;
@@ -54,7 +54,7 @@ impl Played {
 fn play_with(alloc: Global, read: u64, writer: Sipping) -> Played {
     let mut inlet = Inlet::new(drip(&FILE, 1, read));
     let mut outlet = Outlet::new(writer);
-    let answer = play_stream(alloc, ONES, FrameRange::whole(), &mut inlet, &mut outlet);
+    let answer = play_stream(alloc, ONES, WaveRange::whole(), &mut inlet, &mut outlet);
     Played {
         answer,
         reads: inlet.reads(),

@@ -13,6 +13,8 @@ use Rattle.form_core.specs.Steps.{FailsUnless}
 use Rattle.archive_core.specs.Editing.{Edits, IsCertificate}
 use Rattle.folder_core.specs.Files.{OpensAs, IsPutInPart, IsPut, IsReadOf, KeepsAllBut, KeepsOthers, View}
 use Rattle.transfer_commands.specs.BetweenPlaying.{PlayBetweenComesTo}
+use Rattle.transfer_commands.specs.BetweenSpeaking.{SpeakBetweenComesTo}
+use Rattle.transfer_commands.specs.declared.between.NeighbourNames.{NeighbourNames}
 use Rattle.transfer_commands.specs.Converting.{ConvertComesTo}
 use Rattle.transfer_commands.specs.DopConverting.{ConvertDopComesTo}
 use Rattle.transfer_commands.specs.DopPlaying.{PlayDopComesTo}
@@ -31,7 +33,7 @@ use Rattle.transfer_core.specs.declared.spans.Span.{Span}
 use Rattle.wave_core.specs.Heads.{head_of}
 use Rattle.transfer_commands.specs.declared.parts.PartFault.{PartFault}
 use Rattle.command_core.specs.Hosts.{State}
-use Rattle.command_core.specs.Outcomes.{between_outcome_of, dop_outcome_of, of_words, outcome_of, part_outcome_of, speakers_outcome_of, spoken_outcome_of, tested_outcome, verdict_of}
+use Rattle.command_core.specs.Outcomes.{between_outcome_of, dop_outcome_of, of_words, outcome_of, part_outcome_of, speakers_outcome_of, spoken_between_outcome_of, spoken_outcome_of, tested_outcome, verdict_of}
 use Rattle.command_core.specs.SumEndings.{EndsSums}
 use Rattle.command_core.specs.declared.outcome.Outcome.{Outcome}
 use Rattle.command_core.specs.declared.outcome.Outcome.TheVariants.{Played, Converted, Edited, Info, Summed, Fault}
@@ -190,6 +192,12 @@ PlaysAs false false project input output old new = Says Played (PlayComesTo proj
 PlaysAs false true project input output old new = PlaysPartAs false true project input output (record { from = None; to = None }) old new
 PlaysAs true is_wide project input output old new = PlaysPartAs true is_wide project input output (record { from = None; to = None }) old new
 
+-- how playing a file between its neighbours ends, with the loudspeakers of its channels or without them, and with room
+-- in the header for sizes of 64 bits or without it
+abbrev pub PlaysBetweenAs : Bool → Bool → List ℕ → List ℕ → List ℕ → NeighbourNames → View → View → Outcome → Type 0
+PlaysBetweenAs false is_wide project input output around old new = SaysAs between_outcome_of (PlayBetweenComesTo (head_of is_wide 0) project input output around old new)
+PlaysBetweenAs true is_wide project input output around old new = SaysAs spoken_between_outcome_of (SpeakBetweenComesTo is_wide project input output around old new)
+
 -- how converting ends, with the loudspeakers of the channels or without them
 abbrev pub ConvertsAs : Bool → Form → List ℕ → List ℕ → View → View → Outcome → Type 0
 ConvertsAs false form input output old new = Says Converted (ConvertComesTo form input output old new)
@@ -200,11 +208,15 @@ abbrev pub IsPlayedWhole : Task → Type 0
 IsPlayedWhole (tasks.Play project input output speakers rf64) = ⊤
 IsPlayedWhole _ = ⊥
 
--- a task that plays a part of a recording, or a recording between others
-abbrev pub IsPlayedInside : Task → Type 0
-IsPlayedInside (tasks.PlayPart project input output from to speakers rf64) = ⊤
-IsPlayedInside (tasks.PlayBetween project input output previous next) = ⊤
-IsPlayedInside _ = ⊥
+-- a task that plays a part of a recording
+abbrev pub IsPlayedPart : Task → Type 0
+IsPlayedPart (tasks.PlayPart project input output from to speakers rf64) = ⊤
+IsPlayedPart _ = ⊥
+
+-- a task that plays a recording between others
+abbrev pub IsPlayedBetween : Task → Type 0
+IsPlayedBetween (tasks.PlayBetween project input output previous next speakers rf64) = ⊤
+IsPlayedBetween _ = ⊥
 
 -- a task that converts
 abbrev pub IsConverting : Task → Type 0
@@ -223,7 +235,7 @@ TaskComesTo (tasks.Edit form project master cert) old new = Says Edited (EditCom
 TaskComesTo (tasks.Check project master cert) old new = Says verdict_of (CheckComesTo project.now master.now cert.now old new)
 TaskComesTo (tasks.NullTest mix master) old new = SaysTest (TestComesTo mix.now master.now old new)
 TaskComesTo (tasks.Info file) old new = Says Info (ReportComesTo file.now old new)
-TaskComesTo (tasks.PlayBetween project input output previous next) old new = SaysAs between_outcome_of (PlayBetweenComesTo project.now input.now output.now (record { previous = previous; next = next }) old new)
+TaskComesTo (tasks.PlayBetween project input output previous next speakers rf64) old new = PlaysBetweenAs speakers rf64 project.now input.now output.now (record { previous = previous; next = next }) old new
 TaskComesTo (tasks.PlayDop input output) old new = Says Played (PlayDopComesTo input.now output.now old new)
 TaskComesTo (tasks.ConvertDop form input output) old new = SaysAs dop_outcome_of (ConvertDopComesTo form input.now output.now old new)
 TaskComesTo (tasks.Sum is_check files) old new = λ outcome. ⊥

@@ -136,6 +136,11 @@ abbrev pub between_outcome_of : Result ℕ BetweenFault → Outcome
 between_outcome_of (Ok n) = Played n
 between_outcome_of (Err fault) = of_between fault
 
+-- the outcome of a command that plays between neighbours with loudspeakers and came to this
+abbrev pub spoken_between_outcome_of : Result PlayedSpeakers BetweenFault → Outcome
+spoken_between_outcome_of (Ok played) = Spoken played
+spoken_between_outcome_of (Err fault) = of_between fault
+
 -- the outcome of a command that plays with loudspeakers and came to this
 abbrev pub spoken_outcome_of : Result PlayedSpeakers PartFault → Outcome
 spoken_outcome_of (Ok played) = Spoken played

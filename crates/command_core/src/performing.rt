@@ -1,8 +1,8 @@
 //! Commands over the files of a folder.
 
 ghost use Rattle.std.specs.Prelude.{◌≡◌, IfErr, IfOk, None, OnErr};
-ghost use Rattle.command_core.specs.Commands.{CheckComesTo, ConvertsAs, EditComesTo, IsConverting, IsPlayedInside, IsPlayedWhole, PlaysAs, PlaysPartAs, TaskComesTo, cut_into};
-ghost use Rattle.command_core.specs.Outcomes.{between_outcome_of, dop_outcome_of, outcome_of, part_outcome_of, speakers_outcome_of, spoken_outcome_of, tested_outcome, verdict_of};
+ghost use Rattle.command_core.specs.Commands.{CheckComesTo, ConvertsAs, EditComesTo, IsConverting, IsPlayedBetween, IsPlayedPart, IsPlayedWhole, PlaysAs, PlaysBetweenAs, PlaysPartAs, TaskComesTo, cut_into};
+ghost use Rattle.command_core.specs.Outcomes.{between_outcome_of, dop_outcome_of, outcome_of, part_outcome_of, speakers_outcome_of, spoken_between_outcome_of, spoken_outcome_of, tested_outcome, verdict_of};
 ghost use Rattle.command_core.specs.declared.outcome.Outcome.TheVariants as outcomes;
 ghost use Rattle.words_core.specs.declared.task.Task.TheVariants as tasks;
 
@@ -17,10 +17,10 @@ use folder_core::Folder;
 use null_commands::{TestFault, Tested, null_test_files};
 use std::alloc::Global;
 use transfer_commands::{
-    BetweenFault, CommandFault, DopConvertFault, NeighbourNames, PartAsked, PartFault,
-    PlayedSpeakers, Reported, SpeakersFault, convert_dop_file, convert_file, convert_speakers_file,
-    open_file, play_between_file, play_dop_file, play_file, play_part_file, play_speakers_file,
-    source_excerpts,
+    BetweenAsked, BetweenFault, CommandFault, DopConvertFault, NeighbourNames, PartAsked,
+    PartFault, PlayedSpeakers, Reported, SpeakersFault, convert_dop_file, convert_file,
+    convert_speakers_file, open_file, play_between_file, play_between_speakers_file, play_dop_file,
+    play_file, play_part_file, play_speakers_file, source_excerpts,
 };
 use transfer_core::Span;
 use words_core::Task;
@@ -50,8 +50,8 @@ pub struct SumTask<'a> {
 ///   as the filter reaches and for what is around their sound. Then it is played as by `Play`.
 /// - `PlayDop`: As `Play`, without a project.
 /// - `Play` with `rf64`: as `PlayPart`.
-/// - `Play` and `PlayPart` with `speakers`: the recording is read through as for `Info` before that, for its loudspeakers
-///   and the part. One that can't be opened again is held whole instead.
+/// - `Play`, `PlayPart` and `PlayBetween` with `speakers`: the recording is read through as for `Info` before that, for
+///   its loudspeakers and the part. One that can't be opened again is held whole instead.
 /// - `Convert` and `Check`: see below.
 ///
 /// `Check` reads a master once, and its certificate while the master is judged. Both are read to their ends, whatever
@@ -83,7 +83,8 @@ pub fn perform<'a, F: Folder>(
 {
     match task {
         Task::Play { .. } => Ok(play_whole(alloc, task, folder)),
-        Task::PlayPart { .. } | Task::PlayBetween { .. } => Ok(play_inside(alloc, task, folder)),
+        Task::PlayPart { .. } => Ok(play_inside(alloc, task, folder)),
+        Task::PlayBetween { .. } => Ok(play_beside(alloc, task, folder)),
         Task::PlayDop { input, output } => Ok(played(play_dop_file(alloc, folder, input, output))),
         Task::Convert { .. } | Task::ConvertDop { .. } => Ok(perform_convert(alloc, task, folder)),
         Task::Edit {
@@ -137,9 +138,9 @@ fn play_whole<F: Folder>(alloc: Global, task: Task, folder: &mut F) -> Outcome
     }
 }
 
-// Plays a part of a file, or a file between its neighbours.
+// Plays a part of a file.
 fn play_inside<F: Folder>(alloc: Global, task: Task, folder: &mut F) -> Outcome
-    requires { IsPlayedInside task }
+    requires { IsPlayedPart task }
     ensures { TaskComesTo task.entry (F.view folder.old) (F.view folder.new) result }
 {
     match task {
@@ -165,15 +166,37 @@ fn play_inside<F: Folder>(alloc: Global, task: Task, folder: &mut F) -> Outcome
             };
             play_some(alloc, folder, part)
         }
+        _ => unreachable!(),
+    }
+}
+
+// Plays a file between its neighbours.
+fn play_beside<F: Folder>(alloc: Global, task: Task, folder: &mut F) -> Outcome
+    requires { IsPlayedBetween task }
+    ensures { TaskComesTo task.entry (F.view folder.old) (F.view folder.new) result }
+{
+    match task {
         Task::PlayBetween {
             project,
             input,
             output,
             previous,
             next,
+            speakers,
+            rf64,
         } => {
-            let around = NeighbourNames { previous, next };
-            played_between(play_between_file(alloc, folder, project, input, output, around))
+            let asked = BetweenAsked {
+                around: NeighbourNames { previous, next },
+                is_wide: rf64,
+            };
+            let between = BetweenTask {
+                project,
+                input,
+                output,
+                asked,
+                speakers,
+            };
+            play_around(alloc, folder, between)
         }
         _ => unreachable!(),
     }
@@ -259,6 +282,36 @@ fn play_some<F: Folder>(alloc: Global, folder: &mut F, part: PartTask<'_>) -> Ou
     }
 }
 
+// What is asked for of a file between its neighbours, and whether the loudspeakers of the channels are.
+#[derive(Clone, Copy)]
+struct BetweenTask<'a> {
+    project: &'a str,
+    input: &'a str,
+    output: &'a str,
+    asked: BetweenAsked<'a>,
+    speakers: bool,
+}
+
+// Plays a file between its neighbours, with the loudspeakers of its channels if they are asked for.
+fn play_around<F: Folder>(alloc: Global, folder: &mut F, between: BetweenTask<'_>) -> Outcome
+    ensures { PlaysBetweenAs between.entry.speakers between.entry.asked.is_wide between.entry.project.now
+        between.entry.input.now between.entry.output.now between.entry.asked.around (F.view folder.old)
+        (F.view folder.new) result }
+{
+    let BetweenTask {
+        project,
+        input,
+        output,
+        asked,
+        speakers,
+    } = between;
+    if speakers {
+        spoken_between(play_between_speakers_file(alloc, folder, project, input, output, asked))
+    } else {
+        played_between(play_between_file(alloc, folder, project, input, output, asked))
+    }
+}
+
 // Reads the project and its takes, and plans the master with all memory that both files need. Only then is the file of
 // the master created, and that of the certificate once the master is written and kept.
 fn edit_files<F: Folder>(
@@ -329,6 +382,16 @@ fn played_between(came: Result<u64, BetweenFault>) -> Outcome
 {
     match came {
         Ok(count) => Outcome::Played(count),
+        Err(fault) => fault.into(),
+    }
+}
+
+// The outcome of a command that played between neighbours with loudspeakers.
+fn spoken_between(came: Result<PlayedSpeakers, BetweenFault>) -> Outcome
+    ensures { result ≡ spoken_between_outcome_of came }
+{
+    match came {
+        Ok(played) => Outcome::Spoken(played),
         Err(fault) => fault.into(),
     }
 }

@@ -3,7 +3,7 @@
 use crate::fixtures::devices::{drip, sip};
 use chunk_core::{Inlet, Outlet};
 use fir_core::Taps;
-use player_core::{Neighbours, play_between};
+use player_core::{Neighbours, WaveHead, play_between};
 use std::alloc::Global;
 
 const NEVER: u64 = u64::MAX;
@@ -33,7 +33,8 @@ fn wave_of(alloc: Global, rate: u32, before: &[u8], after: &[u8]) -> Option<Vec<
     };
     let mut inlet = Inlet::new(drip(&FILE, 1, NEVER));
     let mut outlet = Outlet::new(sip(alloc, NEVER, NEVER));
-    play_between(alloc, &taps, around, &mut inlet, &mut outlet).ok()?;
+    let head = WaveHead::plain();
+    play_between(alloc, &taps, around, head, &mut inlet, &mut outlet).ok()?;
     Some(outlet.into_inner().bytes)
 }
 

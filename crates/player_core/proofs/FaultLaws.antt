@@ -17,12 +17,12 @@ use Rattle.player_core.specs.Laws.{total_frames}
 use Rattle.player_core.specs.Playing.{Applies}
 use Rattle.player_core.specs.Ranges.{IsInside, number_of}
 use Rattle.player_core.specs.Sinks.{IsPlayingFault, range_sound}
-use Rattle.player_core.specs.declared.range.FrameRange.{FrameRange}
+use Rattle.player_core.specs.declared.range.WaveRange.{WaveRange}
 use Rattle.player_core.specs.Wave.{IsOpeningFault}
 use Rattle.player_core.proofs.PlayLaws.{frames_number}
 
 -- ---- where the file is read
-pub outline_holds : (left : Option (List ℕ)) (d : Decimator) (range : FrameRange) (f : StreamFault) → IsOutlineFault left f → IfSome left (λ file. Applies d range file f)
+pub outline_holds : (left : Option (List ℕ)) (d : Decimator) (range : WaveRange) (f : StreamFault) → IsOutlineFault left f → IfSome left (λ file. Applies d range file f)
 outline_holds None d range f h = tt
 outline_holds (Some xs) d range FileRefused h = inl h
 outline_holds (Some xs) d range RateNotDivided h = absurd h
@@ -51,7 +51,7 @@ outline_unwritten X left TurnLimit h = refl
 outline_unwritten X left Memory h = refl
 
 -- ---- where the header is written
-pub opening : (d : Decimator) (s : Sound) (range : FrameRange) → 0 < d.factor → IsInside range (total_frames d s) → (f : StreamFault) → IsOpeningFault range.head d (range_sound d s range) f → IsPlayingFault d s range f
+pub opening : (d : Decimator) (s : Sound) (range : WaveRange) → 0 < d.factor → IsInside range (total_frames d s) → (f : StreamFault) → IsOpeningFault range.head d (range_sound d s range) f → IsPlayingFault d s range f
 opening d s range some inside FileRefused h = absurd h
 opening d s range some inside RateNotDivided h = h
 opening d s range some inside TooLarge h = (inside, h.0, subst (λ n. limit_of range.head ≤ size_in range.head s.channels d.width n) (frames_number d s (number_of range (total_frames d s)) some (omega (arith, inside.0, inside.1))) h.1)
@@ -60,7 +60,7 @@ opening d s range some inside WriteFailed h = tt
 opening d s range some inside TurnLimit h = absurd h
 opening d s range some inside Memory h = tt
 
-pub opening_holds : (d : Decimator) (prefix rest : List ℕ) (s : Sound) (range : FrameRange) → LeadsToSound prefix s → (f : StreamFault) → IsPlayingFault d s range f → Applies d range (prefix ++ rest) f
+pub opening_holds : (d : Decimator) (prefix rest : List ℕ) (s : Sound) (range : WaveRange) → LeadsToSound prefix s → (f : StreamFault) → IsPlayingFault d s range f → Applies d range (prefix ++ rest) f
 opening_holds d prefix rest s range states FileRefused h = inr (record { prefix = prefix; rest = rest; sound = s; file_is = refl; states = states; outside = h })
 opening_holds d prefix rest s range states RateNotDivided h = record { prefix = prefix; rest = rest; sound = s; file_is = refl; states = states; not_divided = h }
 opening_holds d prefix rest s range states TooLarge h = record { prefix = prefix; rest = rest; sound = s; file_is = refl; states = states; inside = h.0; divided = h.1; large = h.2 }
@@ -83,7 +83,7 @@ own_goes_on Memory h stops = stops
 pub writing_later : (f : StreamFault) → IsWritingFault f → IsBeforeWriting f → ⊥
 writing_later f h = by_writing (λ g. IsBeforeWriting g → ⊥) (λ early. early) (λ early. early) f h
 
-pub writing_opening : (d : Decimator) (s : Sound) (range : FrameRange) (f : StreamFault) → IsWritingFault f → IsPlayingFault d s range f
+pub writing_opening : (d : Decimator) (s : Sound) (range : WaveRange) (f : StreamFault) → IsWritingFault f → IsPlayingFault d s range f
 writing_opening d s range f h = by_writing (IsPlayingFault d s range) tt tt f h
 
 pub writing_own : (f : StreamFault) → IsWritingFault f → IsSinkFault f

@@ -1,5 +1,5 @@
 -- A sound that is joined to others, and the sink that plays it.
-use Rattle.std.proofs.Common.{◌≡◌, ℕ, ◌+◌, ◌-◌, ◌*◌, ◌/◌, ◌%◌, ◌^◌, ◌<◌, ◌≤◌, Bool, true, false, List, [], ◌++◌, length, map, get_or, take, drop, Option, None, Some, Result, Ok, Err, OnErr, OnOk, IfOk, refl, sym, subst, ap, ap₂, ◌∙◌, arith, append_assoc, append-nil, length-append, inl, inr, true≢false, zero-mul}
+use Rattle.std.proofs.Common.{◌≡◌, ℕ, ◌+◌, ◌-◌, ◌*◌, ◌/◌, ◌%◌, ◌<◌, ◌≤◌, Bool, true, false, List, [], ◌++◌, length, map, get_or, take, drop, Option, None, Some, Result, Ok, Err, OnErr, OnOk, IfOk, refl, sym, subst, ap, ap₂, ◌∙◌, arith, append_assoc, append-nil, length-append, inl, inr, true≢false, zero-mul}
 use Rattle.std.specs.Io.KnownBytes.{Appends}
 use Rattle.std.specs.List.{range_with_len}
 use Rattle.std.proofs.Math.Nat.{add-mul, mul-le-mul_right}
@@ -28,9 +28,8 @@ use Rattle.sound_core.specs.Outlines.{AreStated, IsPlacedIn, Surroundings, with_
 use Rattle.sound_core.specs.Sinks.{IsFed, TakesFile, TakesGiven}
 use Rattle.sound_core.specs.declared.part.SoundPart.{SoundPart}
 use Rattle.sound_core.proofs.SameLaws.{holds_in}
-use Rattle.wave_core.specs.Heads.{plain}
-use Rattle.wave_core.specs.Sizes.{FitsRiff, riff_size}
-use Rattle.wave_core.specs.Texts.{wave_text}
+use Rattle.wave_core.specs.Heads.{FitsIn, limit_of, size_in, text_in}
+use Rattle.wave_core.specs.declared.head.WaveHead.{WaveHead}
 use Rattle.player_core.specs.Between.{IsJoined, IsJoining, bits_after, bits_before, channels_after, channels_before, frame_after, framed, in_frames, joined, own_range, with_range}
 use Rattle.player_core.specs.Joining.{EndsJoined, HasAllOfJoined, MayTake, PlaysAround, PushesOn}
 use Rattle.player_core.specs.Laws.{total_frames}
@@ -40,7 +39,7 @@ use Rattle.player_core.specs.Playing.{PartIsPlayed, PlaysFile, PlaysGiven, part_
 use Rattle.player_core.specs.Sinks.{IsPlaying, range_file}
 use Rattle.player_core.specs.declared.joining.JoiningSink.{JoiningSink}
 use Rattle.player_core.specs.declared.joining.Neighbours.{Neighbours}
-use Rattle.player_core.specs.declared.range.FrameRange.{FrameRange}
+use Rattle.player_core.specs.declared.range.WaveRange.{WaveRange}
 use Rattle.player_core.specs.declared.sink.PlayingSink.{PlayingSink}
 use Rattle.player_core.proofs.PlayLaws.{part_size}
 
@@ -179,7 +178,7 @@ module _ {W : Type 0} (held : W → Option (List ℕ)) (first old new : JoiningS
       let sum : (part.done / 8 + part.bits / 8) * s.channels ≡ part.done / 8 * s.channels + part.bits / 8 * s.channels = add-mul (part.done / 8) (part.bits / 8) s.channels in
       let most : (part.done / 8 + part.bits / 8) * s.channels ≤ s.count / 8 * s.channels = mul-le-mul_right s.channels (omega (arith, part.within)) in
       let size : is.joined.size ≡ length first.around.before.now + (s.count / 8 * s.channels + length first.around.after.now) = ap (λ (t : Sound). t.size) is.is_joined.is in (
-        with_range first.playing.now (own_range first.playing.now.taps.now first.around s),
+        with_range first.playing.now (own_range first.playing.now.range.head first.playing.now.taps.now first.around s),
         is.joined,
         so_far,
         is.playing,
@@ -192,14 +191,14 @@ module _ {W : Type 0} (held : W → Option (List ℕ)) (first old new : JoiningS
     reference = reference ∙ is.reference;
     joined = is.joined;
     is_joined = is.is_joined;
-    playing = subst (IsPlaying held (with_range first.playing.now (own_range first.playing.now.taps.now first.around s)) new.playing.now is.joined)
+    playing = subst (IsPlaying held (with_range first.playing.now (own_range first.playing.now.range.head first.playing.now.taps.now first.around s)) new.playing.now is.joined)
         (append_assoc first.around.before.now (in_frames s part.done before) piece
         ∙ ap (λ xs. first.around.before.now ++ xs) (sym (framed_join s.interleaving s.channels part.done part.bits before bytes groups_before fed.size long)))
-        (pushes (with_range first.playing.now (own_range first.playing.now.taps.now first.around s)) is.joined so_far is.playing);
+        (pushes (with_range first.playing.now (own_range first.playing.now.range.head first.playing.now.taps.now first.around s)) is.joined so_far is.playing);
   }
 
 -- before the first byte
-pub begun : {W : Type 0} (held : W → Option (List ℕ)) (first now : JoiningSink W) (s j : Sound) → IsJoined first.around s j → IsFed s 0 [] → now.around ≡ first.around → now.playing.ghost_name ≡ first.playing.ghost_name → (range : FrameRange) → range ≡ own_range first.playing.now.taps.now first.around s
+pub begun : {W : Type 0} (held : W → Option (List ℕ)) (first now : JoiningSink W) (s j : Sound) → IsJoined first.around s j → IsFed s 0 [] → now.around ≡ first.around → now.playing.ghost_name ≡ first.playing.ghost_name → (range : WaveRange) → range ≡ own_range first.playing.now.range.head first.playing.now.taps.now first.around s
     → IsPlaying held (with_range first.playing.now range) now.playing.now j first.around.before.now → IsJoining held first now s 0 []
 begun held first now s j is fed around reference range range_is playing = record {
   around = around;
@@ -227,7 +226,7 @@ module _ {W : Type 0} (held : W → Option (List ℕ)) (first now : JoiningSink 
 
   pub room_after : MayTake held now.playing.now (length now.around.after.now)
   room_after = (
-    with_range first.playing.now (own_range first.playing.now.taps.now first.around s),
+    with_range first.playing.now (own_range first.playing.now.range.head first.playing.now.taps.now first.around s),
     is.joined,
     came,
     is.playing,
@@ -238,12 +237,12 @@ module _ {W : Type 0} (held : W → Option (List ℕ)) (first now : JoiningSink 
     pub first_joined : IsJoined first.around s j
     first_joined = subst (λ (a : Neighbours). IsJoined a s j) is.around also
 
-    pub all_came : PushesOn held now.playing.now new now.around.after.now → IsPlaying held (with_range first.playing.now (own_range first.playing.now.taps.now first.around s)) new j whole
+    pub all_came : PushesOn held now.playing.now new now.around.after.now → IsPlaying held (with_range first.playing.now (own_range first.playing.now.range.head first.playing.now.taps.now first.around s)) new j whole
     all_came pushes =
-        subst (λ t. IsPlaying held (with_range first.playing.now (own_range first.playing.now.taps.now first.around s)) new t whole) (joined_same first.around s is.joined j is.is_joined first_joined)
-        (subst (IsPlaying held (with_range first.playing.now (own_range first.playing.now.taps.now first.around s)) new is.joined)
+        subst (λ t. IsPlaying held (with_range first.playing.now (own_range first.playing.now.range.head first.playing.now.taps.now first.around s)) new t whole) (joined_same first.around s is.joined j is.is_joined first_joined)
+        (subst (IsPlaying held (with_range first.playing.now (own_range first.playing.now.range.head first.playing.now.taps.now first.around s)) new is.joined)
         (ap (λ (a : Neighbours). came ++ a.after.now) is.around ∙ append_assoc first.around.before.now (in_frames s s.count bytes) first.around.after.now)
-        (pushes (with_range first.playing.now (own_range first.playing.now.taps.now first.around s)) is.joined came is.playing))
+        (pushes (with_range first.playing.now (own_range first.playing.now.range.head first.playing.now.taps.now first.around s)) is.joined came is.playing))
 
     pub whole_long : length whole ≡ j.size
     whole_long = omega (arith, came_long, length-append first.around.before.now (in_frames s s.count bytes ++ first.around.after.now), length-append (in_frames s s.count bytes) first.around.after.now, ap (λ (t : Sound). t.size) first_joined.is)
@@ -310,16 +309,16 @@ module _ (around : Neighbours) (s j : Sound) (is : IsJoined around s j) (is_soun
             ∙ ap (λ o. sound_channels o j.channels j.count (sound_bytes all j)) (sym (ap (λ (t : Sound). t.interleaving) is.is));
       }
 
-  pub text_is : PartIsPlayed → (d : Decimator) → 8 ≤ d.factor → (start stop : ℕ) → start ≤ stop → stop ≤ total_frames d j → FitsRiff j.channels d.width (stop - start)
-      → wave_text (part_pcm (record r { channels = both }) d start stop) ≡ Some (part_file plain d j start stop all)
-  text_is law d least start stop ordered inside fits =
-      (law all (record r { channels = both }) j plain d start stop has_joined (joined_sound_is around s j is is_sound) (λ bytes. joined_whole around s j is is_sound) least ordered inside).whole fits
-      ∙ ap (λ bytes. Some (part_file plain d j start stop bytes)) bytes_are
+  pub text_is : PartIsPlayed → (head : WaveHead) (d : Decimator) → 8 ≤ d.factor → (start stop : ℕ) → start ≤ stop → stop ≤ total_frames d j → FitsIn head j.channels d.width (stop - start)
+      → text_in head (part_pcm (record r { channels = both }) d start stop) ≡ Some (part_file head d j start stop all)
+  text_is law head d least start stop ordered inside fits =
+      (law all (record r { channels = both }) j head d start stop has_joined (joined_sound_is around s j is is_sound) (λ bytes. joined_whole around s j is is_sound) least ordered inside).whole fits
+      ∙ ap (λ bytes. Some (part_file head d j start stop bytes)) bytes_are
 
-  pub text_none : PartIsPlayed → (d : Decimator) → 8 ≤ d.factor → (start stop : ℕ) → start ≤ stop → stop ≤ total_frames d j → 2 ^ 32 ≤ riff_size j.channels d.width (stop - start)
-      → wave_text (part_pcm (record r { channels = both }) d start stop) ≡ None
-  text_none law d least start stop ordered inside large =
-      (law all (record r { channels = both }) j plain d start stop has_joined (joined_sound_is around s j is is_sound) (λ bytes. joined_whole around s j is is_sound) least ordered inside).too_large large
+  pub text_none : PartIsPlayed → (head : WaveHead) (d : Decimator) → 8 ≤ d.factor → (start stop : ℕ) → start ≤ stop → stop ≤ total_frames d j → limit_of head ≤ size_in head j.channels d.width (stop - start)
+      → text_in head (part_pcm (record r { channels = both }) d start stop) ≡ None
+  text_none law head d least start stop ordered inside large =
+      (law all (record r { channels = both }) j head d start stop has_joined (joined_sound_is around s j is is_sound) (λ bytes. joined_whole around s j is is_sound) least ordered inside).too_large large
 
 -- a file was read into a sink, which ended
 module _ {W : Type 0} (held : W → Option (List ℕ)) (old mid new : JoiningSink W) (o : Surroundings) (stated : AreStated o) where
@@ -334,13 +333,14 @@ module _ {W : Type 0} (held : W → Option (List ℕ)) (old mid new : JoiningSin
     held_played file sound stands is =
         let s = o.sound in
         let d = old.playing.now.taps.now in
+        let head = old.playing.now.range.head in
         let around = old.around in
         let (j, isj, reference, fin) = ends old sound is stands.sound_long in
         let same : is.joined ≡ j = joined_same around s is.joined j is.is_joined isj in
-        let range = own_range d around s in
+        let range = own_range head d around s in
         let feeding = is.playing.feeding in
         let inside : IsInside range (total_frames d j) = subst (λ (t : Sound). IsInside range (total_frames d t)) same feeding.inside in
-        let fits : FitsRiff j.channels d.width (number_of range (total_frames d j)) = subst (λ (t : Sound). FitsRiff t.channels d.width (number_of range (total_frames d t))) same feeding.fits in
+        let fits : FitsIn head j.channels d.width (number_of range (total_frames d j)) = subst (λ (t : Sound). FitsIn head t.channels d.width (number_of range (total_frames d t))) same feeding.fits in
         let divided : j.rate % d.factor ≡ 0 = subst (λ (t : Sound). t.rate % d.factor ≡ 0) same feeding.divided in
         let r = with_sound o.recording s sound in
         let holds : HoldsRecording file r = holds_in s.interleaving file r (stated.holds file sound stands) in
@@ -349,7 +349,7 @@ module _ {W : Type 0} (held : W → Option (List ℕ)) (old mid new : JoiningSin
         let start = frame_after d (bits_before around) in
         let stop = frame_after d (bits_before around + s.count) in
         let bytes = around.before.now ++ (in_frames s s.count sound ++ around.after.now) in
-        let text = text_is around s j isj stated.is_sound sound stands.sound_long r has.rate refl law d least start stop inside.0 inside.1 fits in
+        let text = text_is around s j isj stated.is_sound sound stands.sound_long r has.rate refl law head d least start stop inside.0 inside.1 fits in
         let n_before = isj.channels in
         let before_count : count_of (channels_before around) ≡ bits_before around = neighbour_count around.before.now around.channels (subst (λ m. 1 ≤ m) isj.channels stated.is_sound.some_channel) isj.before_whole in
         let number : length r.channels ≡ around.channels = has.number ∙ isj.channels in (
@@ -362,9 +362,9 @@ module _ {W : Type 0} (held : W → Option (List ℕ)) (old mid new : JoiningSin
             number_after = length-map-range_with_len (unlaced around.after.now around.channels) 0 around.channels ∙ sym number;
             whole = ap (λ k. k % 8) has.count ∙ isj.whole;
             rate_divided = ap (λ k. k % d.factor) (has.rate ∙ sym (ap (λ (t : Sound). t.rate) isj.is)) ∙ divided;
-            text = ap₂ (λ a b. wave_text (part_pcm (record r { channels = joined (channels_before around) r.channels (channels_after around) }) d (frame_after d a) (frame_after d b))) before_count (ap₂ (λ a b. a + b) before_count has.count) ∙ text;
+            text = ap₂ (λ a b. text_in head (part_pcm (record r { channels = joined (channels_before around) r.channels (channels_after around) }) d (frame_after d a) (frame_after d b))) before_count (ap₂ (λ a b. a + b) before_count has.count) ∙ text;
           },
-          fin.size ∙ sym (part_size d start stop inside.0 j (joined_sound_is around s j isj stated.is_sound) (λ b. joined_whole around s j isj stated.is_sound) inside.1 bytes (all_long around s j isj stated.is_sound sound stands.sound_long r has.rate refl) plain (omega (arith, least))),
+          fin.size ∙ sym (part_size d start stop inside.0 j (joined_sound_is around s j isj stated.is_sound) (λ b. joined_whole around s j isj stated.is_sound) inside.1 bytes (all_long around s j isj stated.is_sound sound stands.sound_long r has.rate refl) head (omega (arith, least))),
           fin.written,
         )
 

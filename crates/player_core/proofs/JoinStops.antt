@@ -1,5 +1,5 @@
 -- What was written of a sound that is joined to others, where its file is not played to its end.
-use Rattle.std.proofs.Common.{◌≡◌, ℕ, ◌+◌, ◌-◌, ◌*◌, ◌/◌, ◌%◌, ◌^◌, ◌<◌, ◌≤◌, inl, inr, List, [], ◌++◌, length, take, drop, Option, None, Some, IfSome, Result, Ok, Err, IfErr, true, false, refl, sym, subst, ap, ap₂, ◌∙◌, arith, append_assoc, append-nil, length-append, length-take, length-drop}
+use Rattle.std.proofs.Common.{◌≡◌, ℕ, ◌+◌, ◌-◌, ◌*◌, ◌/◌, ◌%◌, ◌<◌, ◌≤◌, inl, inr, List, [], ◌++◌, length, take, drop, Option, None, Some, IfSome, Result, Ok, Err, IfErr, true, false, refl, sym, subst, ap, ap₂, ◌∙◌, arith, append_assoc, append-nil, length-append, length-take, length-drop}
 use Rattle.std.specs.Io.KnownBytes.{Consumes}
 use Rattle.std.proofs.lemmas.Bool.{cases_lt}
 use Rattle.std.proofs.lemmas.List.{drop-append-le, nil_from_length, take_all}
@@ -19,8 +19,7 @@ use Rattle.sound_core.specs.declared.part.SoundPart.{SoundPart}
 use Rattle.sound_core.proofs.ReadLaws.{whole_is}
 use Rattle.sound_core.proofs.RelayLaws.{relaced_begins}
 use Rattle.sound_core.proofs.TakingLaws.{fed_on}
-use Rattle.wave_core.specs.Sizes.{riff_size}
-use Rattle.wave_core.specs.Texts.{wave_text}
+use Rattle.wave_core.specs.Heads.{limit_of, size_in, text_in}
 use Rattle.player_core.specs.Between.{IsJoined, IsJoining, bits_before, channels_after, channels_before, frame_after, framed, in_frames, joined, own_range, with_range}
 use Rattle.player_core.specs.Joining.{IsSameOutlet, PlaysAround, RefusesEnd, RefusesJoining, WritesJoined, joined_file}
 use Rattle.player_core.specs.Laws.{file_around, total_frames}
@@ -32,7 +31,7 @@ use Rattle.player_core.specs.Sinks.{IsPlaying, RefusesPlaying, range_file, range
 use Rattle.player_core.specs.Wave.{pad_of, sound_header}
 use Rattle.player_core.specs.declared.joining.JoiningSink.{JoiningSink}
 use Rattle.player_core.specs.declared.joining.Neighbours.{Neighbours}
-use Rattle.player_core.specs.declared.range.FrameRange.{FrameRange}
+use Rattle.player_core.specs.declared.range.WaveRange.{WaveRange}
 use Rattle.player_core.specs.declared.sink.PlayingSink.{PlayingSink}
 use Rattle.player_core.proofs.FeedLaws.{ceil_grows}
 use Rattle.player_core.proofs.JoinLaws.{framed_blocks, framed_bytes, framed_join, framed_long, neighbour_count, text_is, text_none}
@@ -87,8 +86,8 @@ frames_begin s done came rest fed long = by s.interleaving refl
 
 -- ---- a sink of a joined sound
 module _ {W : Type 0} (held : W → Option (List ℕ)) (first : JoiningSink W) (s j : Sound) (is : IsJoined first.around s j) (is_sound : IsSound s) where
-  abbrev range : FrameRange
-  range = own_range first.playing.now.taps.now first.around s
+  abbrev range : WaveRange
+  range = own_range first.playing.now.range.head first.playing.now.taps.now first.around s
 
   abbrev own : PlayingSink W
   own = with_range first.playing.now range
@@ -195,7 +194,7 @@ module _ {W : Type 0} (held : W → Option (List ℕ)) (first old new : JoiningS
     (long : length bytes ≡ sound_size part.sound.interleaving part.sound.channels part.bits) where
   -- it was refused where it was played
   pub refused_part : (piece : List ℕ) (f : StreamFault) → piece ≡ framed part.sound.interleaving part.sound.channels part.bits bytes → new.playing.ghost_name ≡ old.playing.ghost_name
-      → RefusesPlaying held (with_range first.playing.now (own_range first.playing.now.taps.now first.around part.sound)) new.playing.now is.joined ((first.around.before.now ++ in_frames part.sound part.done before) ++ piece) f
+      → RefusesPlaying held (with_range first.playing.now (own_range first.playing.now.range.head first.playing.now.taps.now first.around part.sound)) new.playing.now is.joined ((first.around.before.now ++ in_frames part.sound part.done before) ++ piece) f
       → RefusesJoining held first new part.sound (before ++ bytes)
   refused_part piece f piece_is reference refuses =
       let s = part.sound in
@@ -203,7 +202,7 @@ module _ {W : Type 0} (held : W → Option (List ℕ)) (first old new : JoiningS
       = append_assoc first.around.before.now (in_frames s part.done before) piece
       ∙ ap (λ xs. first.around.before.now ++ (in_frames s part.done before ++ xs)) piece_is
       ∙ ap (λ xs. first.around.before.now ++ xs) (sym (framed_join s.interleaving s.channels part.done part.bits before bytes (fed.groups (omega (arith, part.within, part.some))) fed.size long)) in
-      let own = with_range first.playing.now (own_range first.playing.now.taps.now first.around s) in
+      let own = with_range first.playing.now (own_range first.playing.now.range.head first.playing.now.taps.now first.around s) in
       refused_after held first s is.joined is.is_joined fed.is_sound new (before ++ bytes) (first.around.before.now ++ in_frames s (part.done + part.bits) (before ++ bytes)) f
       (begins_at held first s is.joined is.is_joined fed.is_sound (part.done + part.bits) (before ++ bytes) (fed_on part before fed bytes long)) (reference ∙ is.reference)
       (subst (λ xs. RefusesPlaying held own new.playing.now is.joined xs f) all refuses)
@@ -214,7 +213,7 @@ module _ {W : Type 0} (held : W → Option (List ℕ)) (first old new : JoiningS
       let s = part.sound in
       stopped_after held first s is.joined is.is_joined fed.is_sound new (before ++ bytes) (first.around.before.now ++ in_frames s part.done before)
       (begins_later held first s is.joined is.is_joined fed.is_sound before bytes (first.around.before.now ++ in_frames s part.done before) (begins_at held first s is.joined is.is_joined fed.is_sound part.done before fed)) (reference ∙ is.reference)
-      (subst (λ p. IsPlaying held (with_range first.playing.now (own_range first.playing.now.taps.now first.around s)) p is.joined (first.around.before.now ++ in_frames s part.done before)) (sym same) is.playing)
+      (subst (λ p. IsPlaying held (with_range first.playing.now (own_range first.playing.now.range.head first.playing.now.taps.now first.around s)) p is.joined (first.around.before.now ++ in_frames s part.done before)) (sym same) is.playing)
 
 -- ---- what is played of a file that begins so
 some_same : {xs ys : List ℕ} → Some xs ≡ Some ys → xs ≡ ys
@@ -224,6 +223,7 @@ module _ {W : Type 0} (first : JoiningSink W) (s j : Sound) (is : IsJoined first
   pub joined_text : (came file bytes : List ℕ) → BeginsSound s came file → length came ≤ s.size → PlaysAround first file bytes → (rest : List ℕ) × (length (came ++ rest) ≡ s.size) × (bytes ≡ joined_file first s j (came ++ rest))
   joined_text came file bytes begins few plays =
       let d = first.playing.now.taps.now in
+      let head = first.playing.now.range.head in
       let around = first.around in
       let r = plays.recording in
       let holds : HoldsRecording (begins.prefix ++ begins.rest) r = subst (λ f. HoldsRecording f r) begins.file_is plays.file_holds in
@@ -241,13 +241,13 @@ module _ {W : Type 0} (first : JoiningSink W) (s j : Sound) (is : IsJoined first
       let ordered : start ≤ stop = ceil_grows (bits_before around) (bits_before around + s.count) d.factor (omega (arith, least)) (omega arith) in
       let inside : stop ≤ total_frames d j = ceil_grows (bits_before around + s.count) j.count d.factor (omega (arith, least)) (omega (arith, counted)) in
       let before_count : count_of (channels_before around) ≡ bits_before around = neighbour_count around.before.now around.channels (subst (λ m. 1 ≤ m) is.channels sound.some_channel) is.before_whole in
-      let text : wave_text (part_pcm (record r { channels = joined (channels_before around) r.channels (channels_after around) }) d start stop) ≡ Some bytes
-      = ap₂ (λ a b. wave_text (part_pcm (record r { channels = joined (channels_before around) r.channels (channels_after around) }) d (frame_after d a) (frame_after d b))) (sym before_count) (ap₂ (λ a b. a + b) (sym before_count) (sym has.count)) ∙ plays.text in (
+      let text : text_in head (part_pcm (record r { channels = joined (channels_before around) r.channels (channels_after around) }) d start stop) ≡ Some bytes
+      = ap₂ (λ a b. text_in head (part_pcm (record r { channels = joined (channels_before around) r.channels (channels_after around) }) d (frame_after d a) (frame_after d b))) (sym before_count) (ap₂ (λ a b. a + b) (sym before_count) (sym has.count)) ∙ plays.text in (
         rest,
         long,
-        elim (cases_lt (riff_size j.channels d.width (stop - start)) (2 ^ 32)) [
-          | inl fits ↦ some_same (sym text ∙ text_is around s j is sound (came ++ rest) long r has.rate channels law d least start stop ordered inside fits)
-          | inr large ↦ (let none = sym text ∙ text_none around s j is sound (came ++ rest) long r has.rate channels law d least start stop ordered inside large in absurd cc)
+        elim (cases_lt (size_in head j.channels d.width (stop - start)) (limit_of head)) [
+          | inl fits ↦ some_same (sym text ∙ text_is around s j is sound (came ++ rest) long r has.rate channels law head d least start stop ordered inside fits)
+          | inr large ↦ (let none = sym text ∙ text_none around s j is sound (came ++ rest) long r has.rate channels law head d least start stop ordered inside large in absurd cc)
         ],
       )
 
@@ -310,10 +310,10 @@ module _ {W : Type 0} (held : W → Option (List ℕ)) (first now new : JoiningS
   pub unfinished : now ≡ new → RefusesJoining held first new s bytes
   unfinished same = subst (λ p. RefusesJoining held first p s bytes) same (stopped_joining held first now s s.count bytes (fed_all s bytes is_sound is.is_joined.whole long) is)
 
-  pub after_refused : (f : StreamFault) → new.playing.ghost_name ≡ now.playing.ghost_name → RefusesPlaying held (with_range first.playing.now (own_range first.playing.now.taps.now first.around s)) new.playing.now is.joined (came ++ now.around.after.now) f → RefusesJoining held first new s bytes
+  pub after_refused : (f : StreamFault) → new.playing.ghost_name ≡ now.playing.ghost_name → RefusesPlaying held (with_range first.playing.now (own_range first.playing.now.range.head first.playing.now.taps.now first.around s)) new.playing.now is.joined (came ++ now.around.after.now) f → RefusesJoining held first new s bytes
   after_refused f reference refuses =
       refused_after held first s is.joined is.is_joined is_sound new bytes whole f (begins_all held first s is.joined is.is_joined is_sound bytes long) (reference ∙ is.reference)
-      (subst (λ xs. RefusesPlaying held (with_range first.playing.now (own_range first.playing.now.taps.now first.around s)) new.playing.now is.joined xs f) all_bytes refuses)
+      (subst (λ xs. RefusesPlaying held (with_range first.playing.now (own_range first.playing.now.range.head first.playing.now.taps.now first.around s)) new.playing.now is.joined xs f) all_bytes refuses)
 
-  pub end_refused : (j : Sound) → IsJoined first.around s j → (f : StreamFault) → new.playing.ghost_name ≡ now.playing.ghost_name → RefusesPlaying held (with_range first.playing.now (own_range first.playing.now.taps.now first.around s)) new.playing.now j whole f → RefusesJoining held first new s bytes
+  pub end_refused : (j : Sound) → IsJoined first.around s j → (f : StreamFault) → new.playing.ghost_name ≡ now.playing.ghost_name → RefusesPlaying held (with_range first.playing.now (own_range first.playing.now.range.head first.playing.now.taps.now first.around s)) new.playing.now j whole f → RefusesJoining held first new s bytes
   end_refused j also f reference refuses = refused_after held first s j also is_sound new bytes whole f (begins_all held first s j also is_sound bytes long) (reference ∙ is.reference) refuses

@@ -17,7 +17,7 @@ use Rattle.player_core.specs.Ranges.{HasFrame, stop_of}
 use Rattle.player_core.specs.Sinks.{IsPlaying, IsPlayingFault, RefusesPlaying, range_file, range_sound}
 use Rattle.player_core.specs.Wave.{pad_of, sound_header}
 use Rattle.player_core.specs.declared.parts.PartPlayer.{PartPlayer}
-use Rattle.player_core.specs.declared.range.FrameRange.{FrameRange}
+use Rattle.player_core.specs.declared.range.WaveRange.{WaveRange}
 use Rattle.player_core.specs.declared.sink.PlayingSink.{PlayingSink}
 use Rattle.sound_core.specs.Files.{GivesNone, LeadsToSound}
 use Rattle.sound_core.specs.Naming.{IsExactUnless}
@@ -96,7 +96,7 @@ module _ (d : Decimator) (s : Sound) (limits : IsWithinLimits d) (is : IsSound s
       frame_held xs j late inside (omega (arith, most, length-due d r xs))
 
 -- a frame of a range whose place is in the sound is one of its frames
-frame_inside : (d : Decimator) (s : Sound) (range : FrameRange) → IsSound s → 8 ≤ d.factor → (u j : ℕ) → u ≤ s.size → HasFrame range j → IsWithinBytes s (u - 65536) (j * d.factor + d.delay) → j < stop_of range (total_frames d s)
+frame_inside : (d : Decimator) (s : Sound) (range : WaveRange) → IsSound s → 8 ≤ d.factor → (u j : ℕ) → u ≤ s.size → HasFrame range j → IsWithinBytes s (u - 65536) (j * d.factor + d.delay) → j < stop_of range (total_frames d s)
 frame_inside d s range is least u j within has stands = by range.stop has.1
   where
     by : (o : Option ℕ) → IfSome o (λ stop. j < stop) → j < unwrap_or o (total_frames d s)
@@ -108,7 +108,7 @@ module _ {W : Type 0} (held : W → Option (List ℕ)) (law : PartIsPlayed) (old
   abbrev d : Decimator
   d = old.taps.now
 
-  abbrev range : FrameRange
+  abbrev range : WaveRange
   range = old.range
 
   abbrev a : Option (List ℕ)

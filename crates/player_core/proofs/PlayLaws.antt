@@ -29,7 +29,7 @@ use Rattle.player_core.specs.Ranges.{IsInside, number_of, stop_of, whole_range}
 use Rattle.player_core.specs.Samples.{pcm}
 use Rattle.player_core.specs.Sinks.{range_file}
 use Rattle.player_core.specs.Wave.{wave_file_size}
-use Rattle.player_core.specs.declared.range.FrameRange.{FrameRange}
+use Rattle.player_core.specs.declared.range.WaveRange.{WaveRange}
 use Rattle.sound_core.specs.Faults.{IsFromOutside}
 use Rattle.sound_core.specs.Files.{HoldsRecording, LeadsToSound}
 use Rattle.sound_core.specs.Outlines.{AreStated, IsPlacedIn, Surroundings, with_sound}
@@ -136,7 +136,7 @@ pub whole_is_all : WholeIsAll
 whole_is_all = record { samples = whole_samples; inside = whole_inside; lacked = whole_lacked }
 
 -- ---- of a file that begins with the prefix of one
-module _ (law : PartIsPlayed) (d : Decimator) (least : 8 ≤ d.factor) (range : FrameRange) where
+module _ (law : PartIsPlayed) (d : Decimator) (least : 8 ≤ d.factor) (range : WaveRange) where
   module _ (prefix : List ℕ) (s : Sound) (states : LeadsToSound prefix s) where
     abbrev ahead : List ℕ
     ahead = drop s.start prefix
@@ -214,7 +214,7 @@ module _ (o : Surroundings) (stated : AreStated o) (file sound : List ℕ) (stan
     sound_is = sym (drop-append-le o.sound.start o.head (sound ++ (after ++ more)) stated.states.within) ∙ own (sound ++ (after ++ more));
   }
 
-  module _ (law : PartIsPlayed) (d : Decimator) (least : 8 ≤ d.factor) (range : FrameRange) (divided : o.sound.rate % d.factor ≡ 0) (inside : IsInside range (total_frames d o.sound)) (fits : FitsIn range.head o.sound.channels d.width (number_of range (total_frames d o.sound))) where
+  module _ (law : PartIsPlayed) (d : Decimator) (least : 8 ≤ d.factor) (range : WaveRange) (divided : o.sound.rate % d.factor ≡ 0) (inside : IsInside range (total_frames d o.sound)) (fits : FitsIn range.head o.sound.channels d.width (number_of range (total_frames d o.sound))) where
     pub plays_held : PlaysBy d range file (range_file d o.sound range sound)
     plays_held =
         let s = o.sound in
@@ -238,7 +238,7 @@ none_prefix None Plays a = tt
 none_prefix (Some file) Plays a = λ bytes plays. prefix_nil a bytes
 
 -- ---- refusals of a file that is played
-module _ (law : PartIsPlayed) (d : Decimator) (least : 8 ≤ d.factor) (range : FrameRange) where
+module _ (law : PartIsPlayed) (d : Decimator) (least : 8 ≤ d.factor) (range : WaveRange) where
   outside : (file bytes : List ℕ) (f : StreamFault) → Applies d range file f → PlaysBy d range file bytes → IsFromOutside f
   outside file bytes FileRefused (inl refused) plays = refused plays.recording plays.file_holds
   outside file bytes FileRefused (inr stands) plays =

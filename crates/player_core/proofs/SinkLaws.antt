@@ -22,7 +22,7 @@ use Rattle.player_core.specs.PartView.{IsPartComplete, IsPartFed, IsPartOf, IsPa
 use Rattle.player_core.specs.PlayerView.{filter_of, sound_of}
 use Rattle.player_core.specs.Wave.{sound_header, pad_of, wave_file_size}
 use Rattle.player_core.specs.declared.parts.PartPlayer.{PartPlayer}
-use Rattle.player_core.specs.declared.range.FrameRange.{FrameRange}
+use Rattle.player_core.specs.declared.range.WaveRange.{WaveRange}
 use Rattle.player_core.specs.declared.sink.PlayingSink.{PlayingSink}
 use Rattle.player_core.proofs.FaultLaws.{writing_later, writing_opening}
 use Rattle.player_core.proofs.PieceLaws.{due_same, plays_on, prefix_more, prefix_on}
@@ -45,7 +45,7 @@ few_size (Blocks order) channels count six low =
 pub due_at_first : (p : PartPlayer) → part_due p [] ≡ []
 due_at_first p = ap (λ xs. slice_range xs p.skip p.stop) (nothing_is_due (filter_of p.player) (sound_of p.player)) ∙ ap (take (p.stop - p.skip)) (drop-nil p.skip) ∙ take-nil (p.stop - p.skip)
 
-pub record IsPlayerOf (d : Decimator) (s : Sound) (range : FrameRange) (bytes : List ℕ) (p : PartPlayer) : Type 0 where
+pub record IsPlayerOf (d : Decimator) (s : Sound) (range : WaveRange) (bytes : List ℕ) (p : PartPlayer) : Type 0 where
   pub is_player : IsPartPlayer p
   pub plays : IsPartOf d s range.start (stop_of range (total_frames d s)) p
   pub fed : IsPartFed p (drop (part_start p) bytes)

@@ -12,12 +12,12 @@ use Rattle.fir_core.specs.Decimator.{Decimator}
 use Rattle.interleave_core.specs.Reinterleaving.{reinterleaved}
 use Rattle.sound_core.specs.Files.{HoldsRecording}
 use Rattle.wave_core.specs.Contents.{Pcm}
-use Rattle.wave_core.specs.Heads.{plain}
-use Rattle.wave_core.specs.Texts.{wave_text}
+use Rattle.wave_core.specs.Heads.{text_in}
+use Rattle.wave_core.specs.declared.head.WaveHead.{WaveHead}
 use Rattle.player_core.specs.Playing.{part_pcm}
 use Rattle.player_core.specs.declared.joining.JoiningSink.{JoiningSink}
 use Rattle.player_core.specs.declared.joining.Neighbours.{Neighbours}
-use Rattle.player_core.specs.declared.range.FrameRange.{FrameRange}
+use Rattle.player_core.specs.declared.range.WaveRange.{WaveRange}
 use Rattle.player_core.specs.declared.sink.PlayingSink.{PlayingSink}
 use Rattle.player_core.specs.Sinks.{IsPlaying}
 
@@ -35,9 +35,9 @@ abbrev pub between_pcm : Content → Decimator → List (List Bool) → List (Li
 between_pcm r d before after = part_pcm (record r { channels = joined before r.channels after }) d
     (frame_after d (count_of before)) (frame_after d (count_of before + count_of r.channels))
 
--- the file holds a recording of whole bytes, whose rate the factor divides, and these bytes are the WAVE text of its
--- samples between others, which have as many channels and its rate
-pub record PlaysBetween (d : Decimator) (rate : ℕ) (before after : List (List Bool)) (file bytes : List ℕ) : Type 0 where
+-- the file holds a recording of whole bytes, whose rate the factor divides, and these bytes are the text of a WAVE file
+-- with this head of its samples between others, which have as many channels and its rate
+pub record PlaysBetween (head : WaveHead) (d : Decimator) (rate : ℕ) (before after : List (List Bool)) (file bytes : List ℕ) : Type 0 where
   pub recording : Content
   pub file_holds : HoldsRecording file recording
   pub rate_same : recording.rate ≡ rate
@@ -45,7 +45,7 @@ pub record PlaysBetween (d : Decimator) (rate : ℕ) (before after : List (List 
   pub number_after : length after ≡ length recording.channels
   pub whole : count_of recording.channels % 8 ≡ 0
   pub rate_divided : recording.rate % d.factor ≡ 0
-  pub text : wave_text (between_pcm recording d before after) ≡ Some bytes
+  pub text : text_in head (between_pcm recording d before after) ≡ Some bytes
 
 -- ---- sound bytes before and after
 -- the channels before a sound
@@ -86,9 +86,9 @@ pub record IsJoined (around : Neighbours) (s j : Sound) : Type 0 where
   pub few : bits_before around + (s.count + bits_after around) ≤ 2 ^ 36
   pub is : j ≡ joined_of around s
 
--- the frames of a joined sound whose place lies in the sound itself
-abbrev pub own_range : Decimator → Neighbours → Sound → FrameRange
-own_range d around s = record { head = plain; start = frame_after d (bits_before around); stop = Some (frame_after d (bits_before around + s.count)) }
+-- the frames of a joined sound whose place lies in the sound itself, and the head of their file
+abbrev pub own_range : WaveHead → Decimator → Neighbours → Sound → WaveRange
+own_range head d around s = record { head = head; start = frame_after d (bits_before around); stop = Some (frame_after d (bits_before around + s.count)) }
 
 -- sound bytes of `count` bits of each channel, with a byte of each channel in turn
 abbrev pub framed : Interleaving → ℕ → ℕ → List ℕ → List ℕ
@@ -100,7 +100,7 @@ abbrev pub in_frames : Sound → ℕ → List ℕ → List ℕ
 in_frames s done bytes = framed s.interleaving s.channels done bytes
 
 -- a sink that plays, with other frames
-abbrev pub with_range : {W : Type 0} → PlayingSink W → FrameRange → PlayingSink W
+abbrev pub with_range : {W : Type 0} → PlayingSink W → WaveRange → PlayingSink W
 with_range p range = record p { range = range }
 
 -- after these bytes of a sound, the sink of the joined sound has what is before it, and these in frames
@@ -109,4 +109,4 @@ pub record IsJoining {W : Type 0} (held : W → Option (List ℕ)) (first now : 
   pub reference : now.playing.ghost_name ≡ first.playing.ghost_name
   pub joined : Sound
   pub is_joined : IsJoined first.around s joined
-  pub playing : IsPlaying held (with_range first.playing.now (own_range first.playing.now.taps.now first.around s)) now.playing.now joined (first.around.before.now ++ in_frames s done bytes)
+  pub playing : IsPlaying held (with_range first.playing.now (own_range first.playing.now.range.head first.playing.now.taps.now first.around s)) now.playing.now joined (first.around.before.now ++ in_frames s done bytes)

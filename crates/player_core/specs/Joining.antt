@@ -27,7 +27,7 @@ RefusesPush held old new bytes f = (first : _) (s : Sound) (before : List ℕ) �
 -- ---- a sink of a joined sound
 -- the WAVE file that it plays of a joined sound, by all bytes of the sound itself
 abbrev pub joined_file : {W : Type 0} → JoiningSink W → Sound → Sound → List ℕ → List ℕ
-joined_file first s j bytes = range_file first.playing.now.taps.now j (own_range first.playing.now.taps.now first.around s) (first.around.before.now ++ (in_frames s s.count bytes ++ first.around.after.now))
+joined_file first s j bytes = range_file first.playing.now.taps.now j (own_range first.playing.now.range.head first.playing.now.taps.now first.around s) (first.around.before.now ++ (in_frames s s.count bytes ++ first.around.after.now))
 
 -- nothing was written, or a prefix of what is played of each sound that begins with these bytes
 abbrev pub WritesJoined : {W : Type 0} → (W → Option (List ℕ)) → JoiningSink W → JoiningSink W → Sound → List ℕ → Type 0
@@ -42,7 +42,7 @@ pub record RefusesJoining {W : Type 0} (held : W → Option (List ℕ)) (first n
 
 -- what it plays of a file
 abbrev pub PlaysAround : {W : Type 0} → JoiningSink W → List ℕ → List ℕ → Type 0
-PlaysAround p = PlaysBetween p.playing.now.taps.now p.around.rate (channels_before p.around) (channels_after p.around)
+PlaysAround p = PlaysBetween p.playing.now.range.head p.playing.now.taps.now p.around.rate (channels_before p.around) (channels_after p.around)
 
 -- it has all bytes of this sound
 abbrev pub HasAllOfJoined : {W : Type 0} → (W → Option (List ℕ)) → JoiningSink W → Sound → Type 0
@@ -51,7 +51,7 @@ HasAllOfJoined held now s = IsSound s × ((first : _) × (bytes : List ℕ) × I
 -- all that is played of the joined sound was written, whichever bytes the sound itself had
 abbrev pub EndsJoined : {W : Type 0} → (W → Option (List ℕ)) → JoiningSink W → JoiningSink W → Sound → ℕ → Type 0
 EndsJoined held old new s n = (first : _) (bytes : List ℕ) → IsJoining held first old s s.count bytes → length bytes ≡ s.size
-    → (j : Sound) × IsJoined first.around s j × (new.playing.ghost_name ≡ first.playing.ghost_name) × FinishesPlaying held (with_range first.playing.now (own_range first.playing.now.taps.now first.around s)) new.playing.now j (first.around.before.now ++ (in_frames s s.count bytes ++ first.around.after.now)) n
+    → (j : Sound) × IsJoined first.around s j × (new.playing.ghost_name ≡ first.playing.ghost_name) × FinishesPlaying held (with_range first.playing.now (own_range first.playing.now.range.head first.playing.now.taps.now first.around s)) new.playing.now j (first.around.before.now ++ (in_frames s s.count bytes ++ first.around.after.now)) n
 
 -- it refused to end, whichever bytes the sound itself had
 abbrev pub RefusesEnd : {W : Type 0} → (W → Option (List ℕ)) → JoiningSink W → JoiningSink W → Sound → StreamFault → Type 0

@@ -15,7 +15,7 @@ use Rattle.player_core.specs.Laws.{total_frames}
 use Rattle.player_core.specs.Parts.{part_file}
 use Rattle.player_core.specs.Ranges.{IsInside, IsOutside, number_of, stop_of, whole_range}
 use Rattle.player_core.specs.Samples.{pcm}
-use Rattle.player_core.specs.declared.range.FrameRange.{FrameRange}
+use Rattle.player_core.specs.declared.range.WaveRange.{WaveRange}
 use Rattle.wave_core.specs.Contents.{Pcm}
 use Rattle.wave_core.specs.Heads.{FitsIn, limit_of, size_in, text_in}
 use Rattle.wave_core.specs.declared.head.WaveHead.{WaveHead}
@@ -37,12 +37,12 @@ part_pcm r d start stop = record {
 }
 
 -- the samples of a range of a recording's frames
-abbrev pub range_pcm : Content → Decimator → FrameRange → Pcm
+abbrev pub range_pcm : Content → Decimator → WaveRange → Pcm
 range_pcm r d range = part_pcm r d range.start (stop_of range (frame_count d r.channels))
 
 -- the file holds a recording that has these frames, whose rate the factor divides, and these bytes are the text of a
 -- WAVE file of their samples
-pub record PlaysBy (d : Decimator) (range : FrameRange) (file bytes : List ℕ) : Type 0 where
+pub record PlaysBy (d : Decimator) (range : WaveRange) (file bytes : List ℕ) : Type 0 where
   pub recording : Content
   pub file_holds : HoldsRecording file recording
   pub rate_divided : recording.rate % d.factor ≡ 0
@@ -50,7 +50,7 @@ pub record PlaysBy (d : Decimator) (range : FrameRange) (file bytes : List ℕ) 
   pub text : text_in range.head (range_pcm recording d range) ≡ Some bytes
 
 -- the prefix of the file describes a sound that lacks frames of the range
-pub record IsOutsideOf (d : Decimator) (range : FrameRange) (file : List ℕ) : Type 0 where
+pub record IsOutsideOf (d : Decimator) (range : WaveRange) (file : List ℕ) : Type 0 where
   pub prefix : List ℕ
   pub rest : List ℕ
   pub sound : Sound
@@ -59,7 +59,7 @@ pub record IsOutsideOf (d : Decimator) (range : FrameRange) (file : List ℕ) : 
   pub outside : IsOutside range (total_frames d sound)
 
 -- some sound lacks frames of the range
-abbrev pub IsLackedBySome : Decimator → FrameRange → Type 0
+abbrev pub IsLackedBySome : Decimator → WaveRange → Type 0
 IsLackedBySome d range = (s : Sound) × IsOutside range (total_frames d s)
 
 -- the prefix of the file describes a sound whose rate the factor does not divide
@@ -73,7 +73,7 @@ pub record IsNotDivided (d : Decimator) (file : List ℕ) : Type 0 where
 
 -- the prefix of the file describes a sound with these frames whose rate the factor divides, and the sizes of their WAVE
 -- file do not fit
-pub record IsTooLarge (d : Decimator) (range : FrameRange) (file : List ℕ) : Type 0 where
+pub record IsTooLarge (d : Decimator) (range : WaveRange) (file : List ℕ) : Type 0 where
   pub prefix : List ℕ
   pub rest : List ℕ
   pub sound : Sound
@@ -84,7 +84,7 @@ pub record IsTooLarge (d : Decimator) (range : FrameRange) (file : List ℕ) : T
   pub large : limit_of range.head ≤ size_in range.head sound.channels d.width (number_of range (total_frames d sound))
 
 -- this fault applies; a device, the number of reads and memory don't depend on the file
-abbrev pub Applies : Decimator → FrameRange → List ℕ → StreamFault → Type 0
+abbrev pub Applies : Decimator → WaveRange → List ℕ → StreamFault → Type 0
 Applies d range file FileRefused = IsRefused file ⊎ IsOutsideOf d range file
 Applies d range file RateNotDivided = IsNotDivided d file
 Applies d range file TooLarge = IsTooLarge d range file
@@ -94,7 +94,7 @@ Applies d range file TurnLimit = ⊤
 Applies d range file Memory = ⊤
 
 -- this fault applies to the reader's file, if that is known
-abbrev pub AppliesBy : Option (List ℕ) → Decimator → FrameRange → StreamFault → Type 0
+abbrev pub AppliesBy : Option (List ℕ) → Decimator → WaveRange → StreamFault → Type 0
 AppliesBy left d range f = IfSome left (λ file. Applies d range file f)
 
 -- why playing reaches its limit: no further failure of the outlet can be counted, or the reads run out
@@ -102,7 +102,7 @@ abbrev pub IsLimited : {R W : Type 0} → Outlet W → Inlet R → Inlet R → T
 IsLimited outlet inlet_old inlet_new = (CanFail outlet → ⊥) ⊎ RunsOut inlet_old inlet_new
 
 -- a file that can be played is refused only for memory, a device or the number of reads
-abbrev pub OnlyFromOutsideBy : Option (List ℕ) → Decimator → FrameRange → StreamFault → Type 0
+abbrev pub OnlyFromOutsideBy : Option (List ℕ) → Decimator → WaveRange → StreamFault → Type 0
 OnlyFromOutsideBy left d range f = IfSome left (λ file. (bytes : List ℕ) → PlaysBy d range file bytes → IsFromOutside f)
 
 -- ---- laws

@@ -19,15 +19,15 @@ use Rattle.player_core.specs.Playing.{PlaysBy, PlaysReadTo, PlaysTo}
 use Rattle.player_core.specs.Ranges.{IsInside, IsOutside, number_of, stop_of}
 use Rattle.player_core.specs.Wave.{sound_header, wave_file_size}
 use Rattle.player_core.specs.declared.parts.PartPlayer.{PartPlayer}
-use Rattle.player_core.specs.declared.range.FrameRange.{FrameRange}
+use Rattle.player_core.specs.declared.range.WaveRange.{WaveRange}
 use Rattle.player_core.specs.declared.sink.PlayingSink.{PlayingSink}
 
 -- the frames of a range of a sound's frames, as a sound of their own
-abbrev pub range_sound : Decimator → Sound → FrameRange → Sound
+abbrev pub range_sound : Decimator → Sound → WaveRange → Sound
 range_sound d s range = frames_sound d s (number_of range (total_frames d s))
 
 -- the WAVE file of a range of a sound's frames
-abbrev pub range_file : Decimator → Sound → FrameRange → List ℕ → List ℕ
+abbrev pub range_file : Decimator → Sound → WaveRange → List ℕ → List ℕ
 range_file d s range bytes = part_file range.head d s range.start (stop_of range (total_frames d s)) bytes
 
 -- after these bytes of a sound that has the frames, whose rate the factor divides and whose sizes fit, the player was
@@ -60,7 +60,7 @@ pub record IsPlaying {W : Type 0} (held : W → Option (List ℕ)) (first now : 
 
 -- a fault of the header: the sound lacks frames; the factor does not divide the rate; neither is so, but the sizes do
 -- not fit; or the header is not written
-abbrev pub IsPlayingFault : Decimator → Sound → FrameRange → StreamFault → Type 0
+abbrev pub IsPlayingFault : Decimator → Sound → WaveRange → StreamFault → Type 0
 IsPlayingFault d s range FileRefused = IsOutside range (total_frames d s)
 IsPlayingFault d s range RateNotDivided = s.rate % d.factor ≢ 0
 IsPlayingFault d s range TooLarge = IsInside range (total_frames d s) × (s.rate % d.factor ≡ 0) × (limit_of range.head ≤ size_in range.head s.channels d.width (number_of range (total_frames d s)))

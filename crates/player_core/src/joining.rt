@@ -6,7 +6,7 @@ ghost use Rattle.player_core.specs.Between as Between;
 ghost use Rattle.player_core.specs.Between.{IsJoined, bits_before};
 ghost use Rattle.player_core.specs.Joining.{EndsJoined, HasAllOfJoined, RefusesEnd};
 
-use crate::range::FrameRange;
+use crate::range::WaveRange;
 use crate::sink::{PlayingSink, finish};
 use dsd_bits::{Interleaving, Sound};
 use fir_core::Taps;
@@ -36,7 +36,8 @@ pub struct Neighbours<'b> {
     pub after: &'b [u8],
 }
 
-/// A sink that plays a sound joined to its neighbours, but only the frames whose place lies in the sound itself.
+/// A sink that plays a sound joined to its neighbours, but only the frames whose place lies in the sound itself. They
+/// get the head that the sink has for its range.
 #[derive(Drop)]
 pub(crate) struct JoiningSink<'s, 'a, 't, 'b, W> {
     /// What plays the joined sound.
@@ -63,7 +64,8 @@ impl<'s, 'a, 't, 'b, W: Write> SoundSink for JoiningSink<'s, 'a, 't, 'b, W> {
         let Some(joined) = joined_sound(&sound, &self.around) else {
             return Err(StreamFault::FileRefused);
         };
-        self.playing.range = range_in(self.playing.taps, &sound, &self.around);
+        let head = self.playing.range.head;
+        self.playing.range = range_in(head, self.playing.taps, &sound, &self.around);
         self.playing.begin(alloc, joined)?;
         self.playing.push(self.around.before)
     }
@@ -114,17 +116,17 @@ fn joined_sound(sound: &Sound, around: &Neighbours<'_>) -> Option<Sound>
     })
 }
 
-// The frames of a joined sound whose place lies in the sound itself.
-fn range_in(taps: &Taps, sound: &Sound, around: &Neighbours<'_>) -> FrameRange
+// The frames of a joined sound whose place lies in the sound itself, to a file with this head.
+fn range_in(head: WaveHead, taps: &Taps, sound: &Sound, around: &Neighbours<'_>) -> WaveRange
     requires channels { 1 ≤ around.now.channels }
     requires few { bits_before around.now + sound.now.count ≤ 2 ^ 36 }
-    ensures range { result ≡ Between.own_range taps.now around.now sound.now }
+    ensures range { result ≡ Between.own_range head taps.now around.now sound.now }
     ensures limits { IsWithinLimits taps.now }
 {
     let factor = taps.factor() as usize;
     let before = 8 * (around.before.len() / around.channels);
-    FrameRange {
-        head: WaveHead::plain(),
+    WaveRange {
+        head,
         start: before.div_ceil(factor),
         stop: Some((before + sound.count).div_ceil(factor)),
     }

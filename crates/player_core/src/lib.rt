@@ -6,7 +6,7 @@
 //! gets before that frame and after its last. Of the sound it holds a part of one group of blocks, and what each
 //! channel's filter still reads (`player.rt`). A [`PausedPart`] is what it holds beside its filter.
 //!
-//! [`play`] plays a range of the frames of a file ([`FrameRange`]), or all of them. `sound_core` reads the file and
+//! [`play`] plays a range of the frames of a file ([`WaveRange`]), or all of them. `sound_core` reads the file and
 //! passes its sound to a sink (`sink.rt`), which writes the frames piece by piece (`pieces.rt`) and the bytes around
 //! them (`wave.rt`). It holds at most one block of 65,536 bytes of the sound, what a player holds, the bytes before the
 //! sound, and those that follow it in a DSDIFF form, or the tag of a DSF file. A file that holds no recording is
@@ -38,7 +38,7 @@
 //! - `PlaysTo` says that what an inlet's file plays was written to an outlet, `PlaysReadTo` the same of the bytes that
 //!   were read, and `WritesPrefixTo` that a prefix of it was written (`specs/Playing.antt`).
 //! - `joined before own after` is the channels of three recordings, joined, `between_pcm` what is played of the second
-//!   (`specs/Between.antt`), and `PlaysBetween d rate before after file bytes` the WAVE text of that for a file.
+//!   (`specs/Between.antt`), and `PlaysBetween head d rate before after file bytes` the text of a WAVE file of that.
 //! - `Lags` says that what was written lags what was read by at most 131,072 bytes of the sound, as `KeepsUpBy` defines
 //!   it (`specs/Pace.antt`).
 //! - `OnOutlet held old new P` says that P holds of the bytes before and after a call (`specs/Outlets.antt`).
@@ -69,7 +69,7 @@
 //!
 //! let mut inlet = Inlet::new(file);
 //! let mut outlet = Outlet::new(wave);
-//! let count = play(alloc, &taps, FrameRange::whole(), &mut inlet, &mut outlet)?;    // so many bytes were written
+//! let count = play(alloc, &taps, WaveRange::whole(), &mut inlet, &mut outlet)?;    // so many bytes were written
 //! ```
 #![tactic(auto)]
 
@@ -98,6 +98,6 @@ pub use laws::{
 pub use parts::PartPlayer;
 pub use pausing::PausedPart;
 pub use playing::play;
-pub use range::FrameRange;
+pub use range::WaveRange;
 pub use wave_core::WaveHead;
 pub use wave_file::wave_of;

@@ -12,7 +12,7 @@ ghost use Rattle.player_core.specs.Playing.{AppliesBy, IsLackedBySome, IsLimited
 ghost use Rattle.player_core.specs.Sinks.{SinkFails, SinkPlays, SinkPlaysRead};
 
 use crate::laws::part_is_played;
-use crate::range::FrameRange;
+use crate::range::WaveRange;
 use crate::sink::{PlayingSink, finish};
 use chunk_core::{Inlet, Outlet};
 use fir_core::Taps;
@@ -33,7 +33,7 @@ use std::io::{Read, Write};
 pub fn play<R: Read, W: Write>(
     alloc: Global,
     taps: &Taps,
-    range: FrameRange,
+    range: WaveRange,
     inlet: &mut Inlet<R>,
     outlet: &mut Outlet<W>,
 ) -> Result<u64, Unread>

@@ -12,7 +12,7 @@ ghost use Rattle.sound_core.specs.Faults.{IsWritingFault};
 
 use crate::parts::PartPlayer;
 use crate::pieces::{put_due, put_rest};
-use crate::range::FrameRange;
+use crate::range::WaveRange;
 use crate::wave::{file_size, put_header, put_pad, total_frames};
 use chunk_core::Outlet;
 use dsd_bits::{Interleaving, Sound};
@@ -28,7 +28,7 @@ pub(crate) struct PlayingSink<'a, 't, W> {
     /// The filter.
     pub(crate) taps: &'t Taps,
     /// The frames that are played.
-    pub(crate) range: FrameRange,
+    pub(crate) range: WaveRange,
     /// Where the bytes go.
     pub(crate) outlet: &'a mut Outlet<W>,
     /// The player, once the sound is known.
@@ -45,7 +45,7 @@ impl<'a, 't, W> PlayingSink<'a, 't, W> {
     /// A sink for these frames by this filter, before any sound.
     pub(crate) fn new(
         taps: &'t Taps,
-        range: FrameRange,
+        range: WaveRange,
         outlet: &'a mut Outlet<W>,
         player: &'a mut Option<PartPlayer<'t>>,
         out: &'a mut Vec<u8>,
@@ -129,14 +129,14 @@ fn put_in<T: Drop>(place: &mut Option<T>, value: T)
 }
 
 // The frame after the last one of a range of a sound's frames.
-fn stop_in(range: FrameRange, taps: &Taps, sound: &Sound) -> usize
+fn stop_in(range: WaveRange, taps: &Taps, sound: &Sound) -> usize
     ensures { result ≡ Ranges.stop_of range (total_frames taps.now sound.now) }
 {
     range.stop.unwrap_or(total_frames(taps, sound) as usize)
 }
 
 // Whether a sound has the frames of a range.
-fn is_inside(range: FrameRange, taps: &Taps, sound: &Sound) -> bool
+fn is_inside(range: WaveRange, taps: &Taps, sound: &Sound) -> bool
     ensures inside { IsTrue result → IsInside range (total_frames taps.now sound.now) }
     ensures outside { IsFalse result → IsOutside range (total_frames taps.now sound.now) }
 {

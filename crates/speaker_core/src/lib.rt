@@ -30,5 +30,5 @@ mod reordering;
 mod speakers;
 
 pub use reordered_file::{ReorderedFile, Reordering};
-pub use reordering::reordered_bytes_hold_channels;
+pub use reordering::{push_groups, reordered_bytes_hold_channels};
 pub use speakers::{Speakers, layout_ids, layout_with};

@@ -7,7 +7,7 @@ ghost use Rattle.speaker_core.specs.Reordering.{NamesChannels, group_in, groups_
 use std::alloc::AllocError;
 
 /// Appends bytes, the first groups of them with their channels in an order. A group has `size` bytes of each channel.
-pub(crate) fn push_groups(
+pub fn push_groups(
     out: &mut Vec<u8>,
     bytes: &[u8],
     order: &[usize],

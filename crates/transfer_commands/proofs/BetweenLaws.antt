@@ -5,19 +5,15 @@ use Rattle.std.specs.Io.KnownBytes.{prepend_known}
 use Rattle.chunk_core.specs.Outlets.{AppendsPrefix}
 use Rattle.dsd_bits.specs.declared.sound.Sound.{Sound}
 use Rattle.fir_core.specs.Decimator.{Decimator, IsWithinLimits}
-use Rattle.folder_core.specs.Files.{IsGiven, IsGivenUp, IsReadFault, IsReadOf, KeepsOthers, View}
-use Rattle.folder_core.specs.declared.fault.FileFault.{FileFault}
-use Rattle.folder_core.specs.declared.fault.FileFault.TheVariants as files
-use Rattle.form_core.specs.Steps.{FailsUnless}
+use Rattle.folder_core.specs.Files.{IsGiven, IsGivenUp, IsReadOf, KeepsOthers, View}
 use Rattle.player_core.specs.Between.{PlaysBetween}
 use Rattle.player_core.specs.Playing.{PlaysFile}
-use Rattle.request_core.specs.Projects.{SaysDecimator, decimator_of_text}
+use Rattle.request_core.specs.Projects.{SaysDecimator}
 use Rattle.request_core.specs.declared.fault.Fault as calls
 use Rattle.request_core.specs.declared.fault.Fault.TheVariants.{Memory}
 use Rattle.request_core.specs.declared.fault.Fault.TheVariants as faults
 use Rattle.sound_core.specs.Files.{LeadsToSound}
 use Rattle.transfer_commands.specs.BetweenPlaying.{AreChannelsOf, EndsAfter, EndsBefore, IsNotOpened, IsRefusedNeighbour, JoinedComesTo, LeavesPrefixBetween, PlayBetweenComesTo, StopsBetween, WritesBetween}
-use Rattle.transfer_commands.specs.Faults.{of_file}
 use Rattle.transfer_commands.specs.Neighbours.{AreUnheard, IsUnheardAfter, IsUnheardBefore, fault_after, fault_before}
 use Rattle.transfer_commands.specs.Outlining.{IsUnoutlinedLeft, IsUnread}
 use Rattle.transfer_commands.specs.PartPlaying.{DescribesRead}
@@ -28,6 +24,7 @@ use Rattle.transfer_commands.specs.declared.fault.CommandFault.{CommandFault}
 use Rattle.transfer_commands.specs.declared.fault.CommandFault.TheVariants.{Call, ReadFailed, WriteFailed}
 use Rattle.transfer_commands.specs.declared.neighbour.NeighbourFault.{NeighbourFault}
 use Rattle.transfer_commands.specs.declared.neighbour.NeighbourFault.TheVariants as neighbours
+use Rattle.wave_core.specs.declared.head.WaveHead.{WaveHead}
 use Rattle.transfer_commands.proofs.EdgeLaws.{AreWhole, whole_before}
 use Rattle.transfer_commands.proofs.OpeningLaws.{prefix_read}
 use Rattle.transfer_commands.proofs.ReadLaws.{unknown_view}
@@ -43,43 +40,43 @@ unread_left left ReadFailed is = tt
 unread_left left f is = absurd is
 
 -- ---- a file that was opened
-module _ (d : Decimator) (rate : ℕ) (before after : List (List Bool)) (input output : List ℕ) (old new : View) (remaining held written : Option (List ℕ)) where
+module _ (head : WaveHead) (d : Decimator) (rate : ℕ) (before after : List (List Bool)) (input output : List ℕ) (old new : View) (remaining held written : Option (List ℕ)) where
   -- all of it was written, and handed back
-  pub between_played : IsGiven old input remaining → (IsTrue old.is_known → held ≡ Some []) → KeepsOthers output old new → (IsTrue old.is_known → new.file output ≡ written) → (n : ℕ) → WritesBetween d rate before after remaining held written n → JoinedComesTo d rate before after input output old new (Ok n)
+  pub between_played : IsGiven old input remaining → (IsTrue old.is_known → held ≡ Some []) → KeepsOthers output old new → (IsTrue old.is_known → new.file output ≡ written) → (n : ℕ) → WritesBetween head d rate before after remaining held written n → JoinedComesTo head d rate before after input output old new (Ok n)
   between_played given empty others stands n made = by old.is_known refl
     where
-      all : (file : List ℕ) (w : Option (List ℕ)) → PlaysFile (Some file) (PlaysBetween d rate before after) (Some []) w n → new.file output ≡ w → (bytes : List ℕ) × (new.file output ≡ Some bytes) × PlaysBetween d rate before after file bytes × (n ≡ length bytes)
+      all : (file : List ℕ) (w : Option (List ℕ)) → PlaysFile (Some file) (PlaysBetween head d rate before after) (Some []) w n → new.file output ≡ w → (bytes : List ℕ) × (new.file output ≡ Some bytes) × PlaysBetween head d rate before after file bytes × (n ≡ length bytes)
       all file None h is = absurd h.3
       all file (Some w) h is = (h.0, is ∙ ap (λ xs. Some xs) h.3, h.1, h.2)
 
-      by : (reported : Bool) → old.is_known ≡ reported → JoinedComesTo d rate before after input output old new (Ok n)
+      by : (reported : Bool) → old.is_known ≡ reported → JoinedComesTo head d rate before after input output old new (Ok n)
       by true is =
           let g = given is in
-          let whole = all g.0 written (subst (λ o. PlaysFile o (PlaysBetween d rate before after) (Some []) written n) g.2 (subst (λ o. PlaysFile remaining (PlaysBetween d rate before after) o written n) (empty is) made.plays)) (stands is) in
+          let whole = all g.0 written (subst (λ o. PlaysFile o (PlaysBetween head d rate before after) (Some []) written n) g.2 (subst (λ o. PlaysFile remaining (PlaysBetween head d rate before after) o written n) (empty is) made.plays)) (stands is) in
           (g.0, whole.0, (λ reported. g.1), (λ reported. whole.1), whole.2, whole.3, others)
       by false is = (made.some.0, made.some.1, unknown_view old.is_known is, unknown_view new.is_known (others.same_known ∙ is), made.some.2, made.some.3, others)
 
   -- a fault ended it, and what was written is given up
-  pub between_ended : IsGivenUp output old new written → (fault : calls.Fault) → StopsBetween d rate before after remaining held written fault → (file : List ℕ) → remaining ≡ Some file → held ≡ Some [] → LeavesPrefixBetween d rate before after file output old new
+  pub between_ended : IsGivenUp output old new written → (fault : calls.Fault) → StopsBetween head d rate before after remaining held written fault → (file : List ℕ) → remaining ≡ Some file → held ≡ Some [] → LeavesPrefixBetween head d rate before after file output old new
   between_ended stays fault stops file left empty = by stays
     where
-      own : StopsBetween d rate before after (Some file) (Some []) written fault
-      own = subst (λ o. StopsBetween d rate before after o (Some []) written fault) left (subst (λ o. StopsBetween d rate before after remaining o written fault) empty stops)
+      own : StopsBetween head d rate before after (Some file) (Some []) written fault
+      own = subst (λ o. StopsBetween head d rate before after o (Some []) written fault) left (subst (λ o. StopsBetween head d rate before after remaining o written fault) empty stops)
 
       prefix_of : (w : Option (List ℕ)) (bytes : List ℕ) → new.file output ≡ w → AppendsPrefix (Some []) w bytes → (prefix : List ℕ) × (rest : List ℕ) × (new.file output ≡ Some prefix) × (bytes ≡ prefix ++ rest)
       prefix_of None bytes is h = absurd h.3
       prefix_of (Some w) bytes is h = (h.0, h.1, is ∙ ap (λ xs. Some xs) h.3, h.2)
 
-      by : IsGivenUp output old new written → LeavesPrefixBetween d rate before after file output old new
+      by : IsGivenUp output old new written → LeavesPrefixBetween head d rate before after file output old new
       by (inl same) = inl same
       by (inr (is, had_none)) = inr ((λ bytes plays. prefix_of written bytes is (own.prefix bytes plays)), had_none)
 
 -- ---- the same of a project that was read
-module _ (project_name file_name output_name project : List ℕ) (around : NeighbourNames) (old mid new : View) (d : Decimator) (rate : ℕ) (near_before near_after : List (List Bool)) (project_read : IsReadOf old project_name project) (says : SaysDecimator project d)
+module _ (head : WaveHead) (project_name file_name output_name project : List ℕ) (around : NeighbourNames) (old mid new : View) (d : Decimator) (rate : ℕ) (near_before near_after : List (List Bool)) (project_read : IsReadOf old project_name project) (says : SaysDecimator project d)
     (whole : AreWhole around old rate d near_before near_after) (same : mid ≡ old) where
-  pub between_ends : (n : ℕ) → JoinedComesTo d rate near_before near_after file_name output_name mid new (Ok n) → PlayBetweenComesTo project_name file_name output_name around old new (Ok n)
+  pub between_ends : (n : ℕ) → JoinedComesTo head d rate near_before near_after file_name output_name mid new (Ok n) → PlayBetweenComesTo head project_name file_name output_name around old new (Ok n)
   between_ends n h =
-      let made = subst (λ (v : View). JoinedComesTo d rate near_before near_after file_name output_name v new (Ok n)) same h in
+      let made = subst (λ (v : View). JoinedComesTo head d rate near_before near_after file_name output_name v new (Ok n)) same h in
       record {
         project = project;
         decimator = d;
@@ -93,19 +90,19 @@ module _ (project_name file_name output_name project : List ℕ) (around : Neigh
         before_are = whole.before_are;
         after_are = whole.after_are;
         file_read = made.2;
-        plays = whole.same.forth made.0 made.1 made.4;
+        plays = (whole.same head).forth made.0 made.1 made.4;
         output_put = made.3;
         counted = made.5;
         others = made.6;
       }
 
-  prefix_whole : (file : List ℕ) → LeavesPrefixBetween d rate near_before near_after file output_name old new → LeavesPrefixBetween d rate whole.before whole.after file output_name old new
+  prefix_whole : (file : List ℕ) → LeavesPrefixBetween head d rate near_before near_after file output_name old new → LeavesPrefixBetween head d rate whole.before whole.after file output_name old new
   prefix_whole file (inl stays) = inl stays
-  prefix_whole file (inr (prefix, had_none)) = inr ((λ bytes plays. prefix bytes (whole.same.back file bytes plays)), had_none)
+  prefix_whole file (inr (prefix, had_none)) = inr ((λ bytes plays. prefix bytes ((whole.same head).back file bytes plays)), had_none)
 
-  pub between_fails : (fault : CommandFault) → JoinedComesTo d rate near_before near_after file_name output_name mid new (Err fault) → PlayBetweenComesTo project_name file_name output_name around old new (Err (Command fault))
+  pub between_fails : (fault : CommandFault) → JoinedComesTo head d rate near_before near_after file_name output_name mid new (Err fault) → PlayBetweenComesTo head project_name file_name output_name around old new (Err (Command fault))
   between_fails (Call fault) h =
-      let left = subst (λ (v : View). JoinedComesTo d rate near_before near_after file_name output_name v new (Err (Call fault))) same h in
+      let left = subst (λ (v : View). JoinedComesTo head d rate near_before near_after file_name output_name v new (Err (Call fault))) same h in
       inr (inr (record {
         project = project;
         decimator = d;
@@ -127,11 +124,11 @@ module _ (project_name file_name output_name project : List ℕ) (around : Neigh
 
 -- ---- what is refused before that
 -- a recording that is not opened
-pub between_unopened : (project_name file_name output_name project : List ℕ) (around : NeighbourNames) (old new : View) → IsReadOf old project_name project → new ≡ old → (fault : CommandFault) → IsNotOpened file_name old fault → PlayBetweenComesTo project_name file_name output_name around old new (Err (Command fault))
-between_unopened project_name file_name output_name project around old new read same (Call fault) (inl memory) = inl (same, memory)
-between_unopened project_name file_name output_name project around old new read same (Call fault) (inr why) = inr (inl (record { project = project; project_read = read; why = inr why; same = same }))
-between_unopened project_name file_name output_name project around old new read same ReadFailed is = same
-between_unopened project_name file_name output_name project around old new read same WriteFailed is = absurd is
+pub between_unopened : (head : WaveHead) (project_name file_name output_name project : List ℕ) (around : NeighbourNames) (old new : View) → IsReadOf old project_name project → new ≡ old → (fault : CommandFault) → IsNotOpened file_name old fault → PlayBetweenComesTo head project_name file_name output_name around old new (Err (Command fault))
+between_unopened head project_name file_name output_name project around old new read same (Call fault) (inl memory) = inl (same, memory)
+between_unopened head project_name file_name output_name project around old new read same (Call fault) (inr why) = inr (inl (record { project = project; project_read = read; why = inr why; same = same }))
+between_unopened head project_name file_name output_name project around old new read same ReadFailed is = same
+between_unopened head project_name file_name output_name project around old new read same WriteFailed is = absurd is
 
 -- a neighbour that can't be one
 split_before : (f : NeighbourFault) → (fault_before f ≡ Command (Call Memory)) ⊎ ((fault_before f ≡ Previous f) × (f ≢ neighbours.Command (Call Memory)))
@@ -170,9 +167,9 @@ split_after neighbours.OtherRate = inr (refl, λ is. absurd cc)
 split_after neighbours.OtherChannels = inr (refl, λ is. absurd cc)
 split_after neighbours.NotWholeBytes = inr (refl, λ is. absurd cc)
 
-module _ (project_name file_name output_name : List ℕ) (around : NeighbourNames) (old new : View) (same : new ≡ old) (t : Sound) (described : DescribesRead file_name old t) where
+module _ (head : WaveHead) (project_name file_name output_name : List ℕ) (around : NeighbourNames) (old new : View) (same : new ≡ old) (t : Sound) (described : DescribesRead file_name old t) where
   abbrev comes : BetweenFault → Type 0
-  comes fault = PlayBetweenComesTo project_name file_name output_name around old new (Err fault)
+  comes fault = PlayBetweenComesTo head project_name file_name output_name around old new (Err fault)
 
   memory : comes (Command (Call Memory))
   memory = inl (same, refl)

@@ -17,7 +17,7 @@ use Rattle.dsd_bits.specs.declared.stretches.BitRange.{BitRange}
 use Rattle.dsd_bits.specs.Blocks.{block_bit, unblocked}
 use Rattle.dsd_bits.specs.Channels.{IsLevel, count_of}
 use Rattle.dsd_bits.specs.Contents.{Content}
-use Rattle.dsd_bits.specs.Lacing.{laced, laced_bit, unlaced, unlaced_all}
+use Rattle.dsd_bits.specs.Lacing.{frame_number, laced, laced_bit, laced_byte, unlaced, unlaced_all}
 use Rattle.dsd_bits.specs.Sounds.{HasSound, sound_channels}
 use Rattle.dsd_bits.specs.Stretches.{stretch_of}
 use Rattle.dsd_bits.proofs.LacingLemmas.{unlaced_all-laced}
@@ -34,7 +34,8 @@ use Rattle.sound_core.specs.declared.keeping.Kept.{Kept}
 use Rattle.sound_core.proofs.HeldLaws.{channels_count, channels_number}
 use Rattle.sound_core.proofs.SameLaws.{holds_in}
 use Rattle.sound_core.proofs.StatedLaws.{one_sound}
-use Rattle.wave_core.specs.Texts.{wave_text}
+use Rattle.wave_core.specs.Heads.{text_in}
+use Rattle.wave_core.specs.declared.head.WaveHead.{WaveHead}
 use Rattle.transfer_commands.specs.BetweenPlaying.{AreChannelsOf, HoldsChannels}
 use Rattle.transfer_commands.specs.Neighbours.{AreAlike, AreHeard, HearsAfter, HearsBefore, IsEdgeIn, IsEdgeLeft, IsHeardAfter, IsHeardBefore, IsLacedEdge, IsWholeRange, KeepsLeft}
 use Rattle.transfer_commands.specs.declared.between.Edges.{Edges}
@@ -201,6 +202,14 @@ module _ (view : View) (name : List ℕ) (left : Option (List ℕ)) (given : IsG
       ∙ ap (λ xs. unlaced_all xs (length own)) read.2.bytes_are
       ∙ stretch_again own read.2.level read.2.some range range_is
 
+  -- whole frames
+  whole_frames : length bytes ≡ frame_number (stretch_of own range) * t.channels
+  whole_frames =
+      let xs = stretch_of own range in
+      ap length read.2.bytes_are
+      ∙ length-map-range_with_len (laced_byte xs) 0 (frame_number xs * length xs)
+      ∙ ap (λ n. frame_number xs * n) (stretch_number own read.2.level read.2.some range range_is ∙ read.2.number ∙ alike.1)
+
   pub hears_before : (d : Decimator) (m : ℕ) → IsWithinLimits d → range.stop ≡ s.count → range.start ≡ m * d.factor → (m ≡ 0) ⊎ (range.start + 4096 ≤ s.count) → HearsBefore name view t d bytes
   hears_before d m limits at start far = record {
     before = own;
@@ -213,11 +222,13 @@ module _ (view : View) (name : List ℕ) (left : Option (List ℕ)) (given : IsG
       | inl none ↦ inl none
       | inr enough ↦ inr (omega (arith, ceil_reach (count_of own) m d.factor (omega (arith, limits.least_factor)) (omega (arith, read.2.count_is, start, enough)), limits.few_taps))
     ];
+    frames = frame_number (stretch_of own range);
+    whole = whole_frames;
     bytes_are = again ∙ to_end own read.2.level read.2.some range range_is (at ∙ sym read.2.count_is) ∙ ap (λ n. map (drop n) own) start;
   }
 
-  whole : range.stop - 0 ≡ range.stop
-  whole = omega arith
+  to_stop : range.stop - 0 ≡ range.stop
+  to_stop = omega arith
 
   pub hears_after : (d : Decimator) → IsWithinLimits d → range.start ≡ 0 → range.stop ≡ min s.count 4096 → HearsAfter name view t d bytes
   hears_after d limits start stop = record {
@@ -230,25 +241,27 @@ module _ (view : View) (name : List ℕ) (left : Option (List ℕ)) (given : IsG
       | inl less ↦ inr (all_bits own read.2.level range.stop (omega (arith, less, stop, read.2.count_is)))
       | inr more ↦ inl (omega (arith, more, stop, limits.delay_in_taps, limits.few_taps))
     ];
-    bytes_are = again ∙ ap (λ n. map (λ (bits : List Bool). slice_range bits n range.stop) own) start ∙ ap (λ n. map (λ (bits : List Bool). take n bits) own) whole;
+    frames = frame_number (stretch_of own range);
+    whole = whole_frames;
+    bytes_are = again ∙ ap (λ n. map (λ (bits : List Bool). slice_range bits n range.stop) own) start ∙ ap (λ n. map (λ (bits : List Bool). take n bits) own) to_stop;
   }
 
 -- ---- what is played between whole recordings
 -- the same is played between some channels and others
-pub record PlayTheSame (d : Decimator) (rate : ℕ) (before after other_before other_after : List (List Bool)) : Type 0 where
-  pub forth : (file bytes : List ℕ) → PlaysBetween d rate before after file bytes → PlaysBetween d rate other_before other_after file bytes
-  pub back : (file bytes : List ℕ) → PlaysBetween d rate other_before other_after file bytes → PlaysBetween d rate before after file bytes
+pub record PlayTheSame (head : WaveHead) (d : Decimator) (rate : ℕ) (before after other_before other_after : List (List Bool)) : Type 0 where
+  pub forth : (file bytes : List ℕ) → PlaysBetween head d rate before after file bytes → PlaysBetween head d rate other_before other_after file bytes
+  pub back : (file bytes : List ℕ) → PlaysBetween head d rate other_before other_after file bytes → PlaysBetween head d rate before after file bytes
 
-pub same_as_it_is : (d : Decimator) (rate : ℕ) (before after : List (List Bool)) → PlayTheSame d rate before after before after
-same_as_it_is d rate before after = record { forth = λ file bytes plays. plays; back = λ file bytes plays. plays }
+pub same_as_it_is : (head : WaveHead) (d : Decimator) (rate : ℕ) (before after : List (List Bool)) → PlayTheSame head d rate before after before after
+same_as_it_is head d rate before after = record { forth = λ file bytes plays. plays; back = λ file bytes plays. plays }
 
-pub same_as_both : (d : Decimator) (rate : ℕ) (b a c e f g : List (List Bool)) → PlayTheSame d rate b a c e → PlayTheSame d rate c e f g → PlayTheSame d rate b a f g
-same_as_both d rate b a c e f g one two = record { forth = λ file bytes plays. two.forth file bytes (one.forth file bytes plays); back = λ file bytes plays. one.back file bytes (two.back file bytes plays) }
+pub same_as_both : (head : WaveHead) (d : Decimator) (rate : ℕ) (b a c e f g : List (List Bool)) → PlayTheSame head d rate b a c e → PlayTheSame head d rate c e f g → PlayTheSame head d rate b a f g
+same_as_both head d rate b a c e f g one two = record { forth = λ file bytes plays. two.forth file bytes (one.forth file bytes plays); back = λ file bytes plays. one.back file bytes (two.back file bytes plays) }
 
 -- it is so if the samples are the same
-module _ (d : Decimator) (rate : ℕ) (before after other_before other_after : List (List Bool)) (long_before : length other_before ≡ length before) (long_after : length other_after ≡ length after)
+module _ (head : WaveHead) (d : Decimator) (rate : ℕ) (before after other_before other_after : List (List Bool)) (long_before : length other_before ≡ length before) (long_after : length other_after ≡ length after)
     (same : (r : Content) → IsLevel r.channels → 1 ≤ length r.channels → length before ≡ length r.channels → length after ≡ length r.channels → between_pcm r d before after ≡ between_pcm r d other_before other_after) where
-  pub same_samples : PlayTheSame d rate before after other_before other_after
+  pub same_samples : PlayTheSame head d rate before after other_before other_after
   same_samples = record {
     forth = λ file bytes plays.
         let own = holds_level file plays.recording plays.file_holds in
@@ -260,7 +273,7 @@ module _ (d : Decimator) (rate : ℕ) (before after other_before other_after : L
           number_after = long_after ∙ plays.number_after;
           whole = plays.whole;
           rate_divided = plays.rate_divided;
-          text = ap wave_text (sym (same plays.recording own.0 own.1 plays.number_before plays.number_after)) ∙ plays.text;
+          text = ap (text_in head) (sym (same plays.recording own.0 own.1 plays.number_before plays.number_after)) ∙ plays.text;
         };
     back = λ file bytes plays.
         let own = holds_level file plays.recording plays.file_holds in
@@ -272,7 +285,7 @@ module _ (d : Decimator) (rate : ℕ) (before after other_before other_after : L
           number_after = sym long_after ∙ plays.number_after;
           whole = plays.whole;
           rate_divided = plays.rate_divided;
-          text = ap wave_text (same plays.recording own.0 own.1 (sym long_before ∙ plays.number_before) (sym long_after ∙ plays.number_after)) ∙ plays.text;
+          text = ap (text_in head) (same plays.recording own.0 own.1 (sym long_before ∙ plays.number_before) (sym long_after ∙ plays.number_after)) ∙ plays.text;
         };
   }
 
@@ -283,12 +296,12 @@ pub record IsWholeBefore (around : Option (Bor (List ℕ))) (old : View) (t : So
   pub are : AreChannelsOf around old t.rate before
   pub number : length before ≡ t.channels
   pub level : IsLevel before
-  pub same : (after : List (List Bool)) → PlayTheSame d t.rate (unlaced_all bytes t.channels) after before after
+  pub same : (head : WaveHead) (after : List (List Bool)) → PlayTheSame head d t.rate (unlaced_all bytes t.channels) after before after
 
 pub record IsWholeAfter (around : Option (Bor (List ℕ))) (old : View) (t : Sound) (d : Decimator) (bytes : List ℕ) : Type 0 where
   pub after : List (List Bool)
   pub are : AreChannelsOf around old t.rate after
-  pub same : (before : List (List Bool)) → IsLevel before → length before ≡ t.channels → PlayTheSame d t.rate before (unlaced_all bytes t.channels) before after
+  pub same : (head : WaveHead) (before : List (List Bool)) → IsLevel before → length before ≡ t.channels → PlayTheSame head d t.rate before (unlaced_all bytes t.channels) before after
 
 -- no bits
 no_frames : (n : ℕ) → 8 * (0 / n) ≡ 0
@@ -301,10 +314,10 @@ none_long n k d less =
     ∙ length-map-range_with_len (laced_bit [] n k) 0 (8 * (0 / n))
     ∙ no_frames n
 
-none_level : (n : ℕ) → IsLevel (unlaced_all [] n)
+pub none_level : (n : ℕ) → IsLevel (unlaced_all [] n)
 none_level n = record { same = λ k d less. none_long n k d less ∙ sym (none_long n 0 [] (omega (arith, less))) }
 
-none_silent : (n : ℕ) → unlaced_all [] n ≡ replicate (length (unlaced_all [] n)) []
+pub none_silent : (n : ℕ) → unlaced_all [] n ≡ replicate (length (unlaced_all [] n)) []
 none_silent n =
     let all = unlaced_all [] n in
     ext_get_or [] all (replicate (length all) []) (sym (length-replicate (length all) [])) (λ k h.
@@ -318,7 +331,7 @@ whole_before None old t d limits bytes is =
       are = subst (λ xs. unlaced_all xs t.channels ≡ replicate (length (unlaced_all xs t.channels)) []) (sym is) (none_silent t.channels);
       number = length-map-range_with_len (unlaced bytes t.channels) 0 t.channels;
       level = subst (λ xs. IsLevel (unlaced_all xs t.channels)) (sym is) (none_level t.channels);
-      same = λ after. same_as_it_is d t.rate all after;
+      same = λ head after. same_as_it_is head d t.rate all after;
     }
 whole_before (Some name) old t d limits bytes is =
     let near = unlaced_all bytes t.channels in
@@ -327,7 +340,7 @@ whole_before (Some name) old t d limits bytes is =
       are = is.holds;
       number = is.number;
       level = is.level;
-      same = λ after. same_samples d t.rate near after is.before after (is.number ∙ sym (length-map-range_with_len (unlaced bytes t.channels) 0 t.channels)) refl
+      same = λ head after. same_samples head d t.rate near after is.before after (is.number ∙ sym (length-map-range_with_len (unlaced bytes t.channels) 0 t.channels)) refl
           (λ r level some number_before number_after.
           let number : length is.before ≡ length r.channels = is.number ∙ sym (length-map-range_with_len (unlaced bytes t.channels) 0 t.channels) ∙ number_before in
           ap (λ cs. between_pcm r d cs after) is.bytes_are ∙ tail_is_enough d r is.before after is.m (omega (arith, limits.least_factor)) some is.level number level is.few is.far);
@@ -339,7 +352,7 @@ whole_after None old t d limits bytes is =
     record {
       after = all;
       are = subst (λ xs. unlaced_all xs t.channels ≡ replicate (length (unlaced_all xs t.channels)) []) (sym is) (none_silent t.channels);
-      same = λ before level number. same_as_it_is d t.rate before all;
+      same = λ head before level number. same_as_it_is head d t.rate before all;
     }
 whole_after (Some name) old t d limits bytes is =
     let near = unlaced_all bytes t.channels in
@@ -347,7 +360,7 @@ whole_after (Some name) old t d limits bytes is =
     record {
       after = is.after;
       are = is.holds;
-      same = λ before before_level before_number. same_samples d t.rate before near before is.after refl (is.number ∙ sym near_long)
+      same = λ head before before_level before_number. same_samples head d t.rate before near before is.after refl (is.number ∙ sym near_long)
           (λ r level some number_before number_after.
           let number : length is.after ≡ length r.channels = is.number ∙ sym near_long ∙ number_after in
           ap (λ cs. between_pcm r d before cs) is.bytes_are ∙ elim is.enough [
@@ -362,7 +375,7 @@ pub record AreWhole (around : NeighbourNames) (old : View) (rate : ℕ) (d : Dec
   pub after : List (List Bool)
   pub before_are : AreChannelsOf around.previous old rate before
   pub after_are : AreChannelsOf around.next old rate after
-  pub same : PlayTheSame d rate near_before near_after before after
+  pub same : (head : WaveHead) → PlayTheSame head d rate near_before near_after before after
 
 pub whole_around : (around : NeighbourNames) (old : View) (t : Sound) (d : Decimator) → IsWithinLimits d → (e : Edges) → AreHeard around old t d e → AreWhole around old e.rate d (unlaced_all e.before.items e.channels) (unlaced_all e.after.items e.channels)
 whole_around around old t d limits e heard =
@@ -376,5 +389,5 @@ whole_around around old t d limits e heard =
       after = a.after;
       before_are = b.are;
       after_are = a.are;
-      same = same_as_both d t.rate (unlaced_all e.before.items t.channels) near b.before near b.before a.after (b.same near) (a.same b.before b.level b.number);
+      same = λ head. same_as_both head d t.rate (unlaced_all e.before.items t.channels) near b.before near b.before a.after (b.same head near) (a.same head b.before b.level b.number);
     }))

@@ -1,5 +1,6 @@
 pub mod ConvertLaws
 pub mod DigestLaws
+pub mod DopFileLaws
 pub mod DopLaws
 pub mod ExcerptLaws
 pub mod FindingLaws
@@ -19,4 +20,6 @@ pub mod HeldLaws
 pub mod NeighbourLaws
 pub mod EdgeLaws
 pub mod BetweenLaws
+pub mod OrderLaws
+pub mod BetweenSpeaking
 pub mod SpokenLaws

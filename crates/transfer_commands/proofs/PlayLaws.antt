@@ -4,7 +4,7 @@ use Rattle.std.specs.Prelude.{IfErr}
 use Rattle.std.specs.Io.KnownBytes.{prepend_known}
 use Rattle.player_core.specs.Playing.{PlaysFile, WritesPrefix}
 use Rattle.player_core.specs.Ranges.{whole_range}
-use Rattle.player_core.specs.declared.range.FrameRange.{FrameRange}
+use Rattle.player_core.specs.declared.range.WaveRange.{WaveRange}
 use Rattle.transfer_core.specs.Laws.{WholePlays}
 use Rattle.request_core.specs.declared.fault.Fault as calls
 use Rattle.request_core.specs.declared.fault.Fault.TheVariants.{FileRefused}
@@ -29,7 +29,7 @@ none_read None = refl
 none_read (Some file) = refl
 
 -- ---- a reader's file
-pub plays_to : {W : Type 0} (held : W → Option (List ℕ)) (project : List ℕ) (range : FrameRange) (left : Option (List ℕ)) (old new : W) (came : Result ℕ calls.Fault) → IfOk came (PlaysFile left (PlaysRange project range) (held old) (held new)) → IfOk came (PlaysSome project range)
+pub plays_to : {W : Type 0} (held : W → Option (List ℕ)) (project : List ℕ) (range : WaveRange) (left : Option (List ℕ)) (old new : W) (came : Result ℕ calls.Fault) → IfOk came (PlaysFile left (PlaysRange project range) (held old) (held new)) → IfOk came (PlaysSome project range)
     → IfErr came (StreamApplies left project range) → IfErr came (λ fault. IfNamed fault (IsFirstFault left)) → IfErr came (OnlyFromOutside left project range) → OnErr came (WritesPrefix left (PlaysRange project range) (held old) (held new))
     → IfErr came (λ fault. FailsBeforeWriting fault → held new ≡ held old) → PlaysTo held project range left old new came
 plays_to held project range left old new (Ok n) plays some stands named outside prefix none = record { plays = plays; some = some }
@@ -47,7 +47,7 @@ named_read view name left fault given first = tt
 
 -- ---- a file that is played
 -- all of it was written, and handed back
-pub played : (project : List ℕ) (range : FrameRange) (input output : List ℕ) (old new : View) (remaining held written : Option (List ℕ)) → IsGiven old input remaining → (IsTrue old.is_known → held ≡ Some []) → KeepsOthers output old new → (IsTrue old.is_known → new.file output ≡ written)
+pub played : (project : List ℕ) (range : WaveRange) (input output : List ℕ) (old new : View) (remaining held written : Option (List ℕ)) → IsGiven old input remaining → (IsTrue old.is_known → held ≡ Some []) → KeepsOthers output old new → (IsTrue old.is_known → new.file output ≡ written)
     → (n : ℕ) → WritesRange project range remaining held written n → PlayedComesTo project range input output old new (Ok n)
 played project range input output old new remaining held written given empty others stands n made = by old.is_known refl
   where
@@ -63,7 +63,7 @@ played project range input output old new remaining held written given empty oth
     by false is = (made.some.0, made.some.1, unknown_view old.is_known is, unknown_view new.is_known (others.same_known ∙ is), made.some.2, made.some.3, others)
 
 -- a fault ended it, and what was written is given up
-pub ended : (project : List ℕ) (range : FrameRange) (output : List ℕ) (old new : View) (remaining held written : Option (List ℕ)) → IsGivenUp output old new written
+pub ended : (project : List ℕ) (range : WaveRange) (output : List ℕ) (old new : View) (remaining held written : Option (List ℕ)) → IsGivenUp output old new written
     → (fault : calls.Fault) → StopsRange project range remaining held written fault → (file : List ℕ) → remaining ≡ Some file → held ≡ Some [] → EndsPlaying project range file output old new fault
 ended project range output old new remaining held written stays fault stops file left empty = record {
   stands = own.stands;

@@ -12,7 +12,7 @@ use Rattle.folder_core.proofs.ZeroLaws.{other_place, zeroed_at, zeroed_by_none, 
 use Rattle.form_core.specs.Opening.{opened_of}
 use Rattle.form_core.specs.declared.fault.ReadFault.{ReadFault}
 use Rattle.player_core.specs.Playing.{Applies}
-use Rattle.player_core.specs.declared.range.FrameRange.{FrameRange}
+use Rattle.player_core.specs.declared.range.WaveRange.{WaveRange}
 use Rattle.toml.specs.Data.{Data}
 use Rattle.project_core.specs.Meaning.{IsDecimate, SaysOptional}
 use Rattle.request_core.specs.Faults.{IfNamed}
@@ -76,7 +76,7 @@ module _ (prefix rest other : List ℕ) (s : Sound) (states : LeadsToSound prefi
   states_own : (begin after : List ℕ) (t : Sound) → prefix ++ rest ≡ begin ++ after → LeadsToSound begin t → LeadsToSound prefix t
   states_own begin after t is also = subst (LeadsToSound prefix) (sym (stated_same prefix begin rest after is s t states also)) states
 
-  applies_other : (d : Decimator) (range : FrameRange) (f : StreamFault) → Applies d range (prefix ++ rest) f → Applies d range (prefix ++ other) f
+  applies_other : (d : Decimator) (range : WaveRange) (f : StreamFault) → Applies d range (prefix ++ rest) f → Applies d range (prefix ++ other) f
   applies_other d range streams.FileRefused (inl none) = inl (none_held none)
   applies_other d range streams.FileRefused (inr h) =
       inr (record { prefix = prefix; rest = other; sound = h.sound; file_is = refl; states = states_own h.prefix h.rest h.sound h.file_is h.states; outside = h.outside })
@@ -101,7 +101,7 @@ module _ (prefix rest other : List ℕ) (s : Sound) (states : LeadsToSound prefi
   refused_other (answers.Refused e) h = first_fault prefix rest other s states same e h
   refused_other (answers.Stream f) h = tt
 
-  stream_other : (project : List ℕ) (range : FrameRange) (fault : calls.Fault) → StreamApplies (Some (prefix ++ rest)) project range fault → StreamApplies (Some (prefix ++ other)) project range fault
+  stream_other : (project : List ℕ) (range : WaveRange) (fault : calls.Fault) → StreamApplies (Some (prefix ++ rest)) project range fault → StreamApplies (Some (prefix ++ other)) project range fault
   stream_other project range fault (inl first) = inl first
   stream_other project range fault (inr (d, says, h)) =
       inr (d, says, (h.0, h.1, record { applies = applies_other d range (plain h.0) h.2.applies; first = refused_other h.0 h.2.first; exact = h.2.exact }))
@@ -128,7 +128,7 @@ joined xs prefix seen pos gaps rest left is same none later also =
     ∙ appended prefix (zeroed_known gaps (length prefix) left)
 
 -- ---- what is played
-module _ (project : List ℕ) (range : FrameRange) (prefix rest : List ℕ) (s : Sound) (gaps : Gaps) (unread : AreUnread project range prefix s gaps) where
+module _ (project : List ℕ) (range : WaveRange) (prefix rest : List ℕ) (s : Sound) (gaps : Gaps) (unread : AreUnread project range prefix s gaps) where
   but_unread : (d : Decimator) → SaysDecimator project d → AreSameBut (IsUnreadBy d s range) (filled prefix rest gaps) (own prefix rest gaps)
   but_unread d says = same_but prefix rest gaps (IsUnreadBy d s range) (λ place within. (unread.in_sound place within, unread.unread d says place within))
 
@@ -158,7 +158,7 @@ none_filled : (prefix rest : List ℕ) (gaps : Gaps) → AreEmpty gaps → fille
 none_filled prefix rest gaps empty = ap (λ bytes. prefix ++ bytes) (zeroed_by_none gaps (length prefix) rest empty)
 
 -- a file that is played but for bytes that are not needed
-pub played_without : {W : Type 0} (held : W → Option (List ℕ)) (project : List ℕ) (range : FrameRange) (prefix : List ℕ) (gaps : Gaps) → AreNotNeeded project range prefix gaps → (left : Option (List ℕ)) (old new : W) (came : Result ℕ calls.Fault)
+pub played_without : {W : Type 0} (held : W → Option (List ℕ)) (project : List ℕ) (range : WaveRange) (prefix : List ℕ) (gaps : Gaps) → AreNotNeeded project range prefix gaps → (left : Option (List ℕ)) (old new : W) (came : Result ℕ calls.Fault)
     → PlaysTo held project range (prepend_known prefix (zeroed_known gaps (length prefix) left)) old new came → PlaysTo held project range (prepend_known prefix left) old new came
 played_without held project range prefix gaps unneeded None old new came h = h
 played_without held project range prefix gaps (inl empty) (Some rest) old new came h = subst (λ file. PlaysTo held project range (Some file) old new came) (none_filled prefix rest gaps empty) h

@@ -7,7 +7,7 @@ use lib.Seq.{drop-append_seam, take-append_seam}
 use Rattle.dsd_bits.specs.declared.sound.Sound.{Sound}
 use Rattle.player_core.specs.Groups.{part_size}
 use Rattle.player_core.specs.Playing.{PlaysFile}
-use Rattle.player_core.specs.declared.range.FrameRange.{FrameRange}
+use Rattle.player_core.specs.declared.range.WaveRange.{WaveRange}
 use Rattle.request_core.specs.declared.fault.Fault as calls
 use Rattle.sound_core.specs.Files.{LeadsToSound}
 use Rattle.speaker_core.specs.Speakers.{moved_groups}
@@ -106,7 +106,7 @@ module _ {R : Type 0} (left : R → Option (List ℕ)) (spoken : Spoken R) (inpu
 
 -- ---- a part that is played
 -- a fault after the part was found
-pub speech_failed : (project : List ℕ) (range : FrameRange) (own : List ℕ → List ℕ) (input output : List ℕ) (old mid new : View) → mid ≡ old → (fault : CommandFault) → SpokenComesTo project range own input output mid new (Err fault)
+pub speech_failed : (project : List ℕ) (range : WaveRange) (own : List ℕ → List ℕ) (input output : List ℕ) (old mid new : View) → mid ≡ old → (fault : CommandFault) → SpokenComesTo project range own input output mid new (Err fault)
     → KeepsOthers output old new × LeavesOld output old new
 speech_failed project range own input output old mid new same (Call fault) h =
     subst (λ (v : View). KeepsOthers output v new × LeavesOld output v new) same (h.others, h.left)
@@ -127,7 +127,7 @@ speech_ends is_wide project_name file_name output_name project span old mid new 
     ap₂ (λ o k. with_order o k (reordering_groups spoken.reordering) (length spoken.before.items)) is.order_is is.size_is ∙ ap₂ (λ k m. with_order speakers.order.items size k m) is.groups_are is.start_is in
     let ended = subst (λ (v : View). SpeaksFile spoken.project.now spoken.range own file_name output_name v new n) same h in
     let named = subst (λ p. SpeaksFile p spoken.range own file_name output_name old new n) is.project_is ended in
-    let ranged = subst (λ (r : FrameRange). SpeaksFile project r own file_name output_name old new n) is.range_is named in
+    let ranged = subst (λ (r : WaveRange). SpeaksFile project r own file_name output_name old new n) is.range_is named in
     record {
       project = project;
       start = start;

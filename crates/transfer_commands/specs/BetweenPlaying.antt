@@ -24,6 +24,7 @@ use Rattle.transfer_commands.specs.declared.fault.CommandFault.{CommandFault}
 use Rattle.transfer_commands.specs.declared.fault.CommandFault.TheVariants.{Call, ReadFailed, WriteFailed}
 use Rattle.transfer_commands.specs.declared.neighbour.NeighbourFault.{NeighbourFault}
 use Rattle.transfer_commands.specs.declared.neighbour.NeighbourFault.TheVariants as neighbours
+use Rattle.wave_core.specs.declared.head.WaveHead.{WaveHead}
 
 -- ---- a neighbour
 -- bytes that were read of a file hold a recording with this rate and these channels
@@ -77,9 +78,9 @@ IsNotOpened input old ReadFailed = ⊤
 IsNotOpened input old WriteFailed = ⊥
 
 -- ---- the files
--- the output holds `count` bytes now: the WAVE file of the frames whose place lies in the input, of the recording that it
--- makes with its neighbours; no other file changed
-pub record PlaysBetweenFiles (project_name file_name output_name : List ℕ) (around : NeighbourNames) (old new : View) (count : ℕ) : Type 0 where
+-- the output holds `count` bytes now: the WAVE file with this head of the frames whose place lies in the input, of the
+-- recording that it makes with its neighbours; no other file changed
+pub record PlaysBetweenFiles (head : WaveHead) (project_name file_name output_name : List ℕ) (around : NeighbourNames) (old new : View) (count : ℕ) : Type 0 where
   pub project : List ℕ
   pub decimator : Decimator
   pub file : List ℕ
@@ -92,7 +93,7 @@ pub record PlaysBetweenFiles (project_name file_name output_name : List ℕ) (ar
   pub before_are : AreChannelsOf around.previous old rate before
   pub after_are : AreChannelsOf around.next old rate after
   pub file_read : IsReadOf old file_name file
-  pub plays : PlaysBetween decimator rate before after file bytes
+  pub plays : PlaysBetween head decimator rate before after file bytes
   pub output_put : IsPut new output_name bytes
   pub counted : count ≡ length bytes
   pub others : KeepsOthers output_name old new
@@ -106,12 +107,12 @@ pub record IsBetweenRefused (project_name file_name : List ℕ) (old new : View)
 
 -- a file is unchanged, or no old one had to be kept and it holds a prefix of what is played of a recording between its
 -- neighbours, if anything is
-abbrev pub LeavesPrefixBetween : Decimator → ℕ → List (List Bool) → List (List Bool) → List ℕ → List ℕ → View → View → Type 0
-LeavesPrefixBetween d rate before after file output old new = (new.file output ≡ old.file output)
-    ⊎ (((bytes : List ℕ) → PlaysBetween d rate before after file bytes → (prefix : List ℕ) × (rest : List ℕ) × (new.file output ≡ Some prefix) × (bytes ≡ prefix ++ rest)) × HadNone output old)
+abbrev pub LeavesPrefixBetween : WaveHead → Decimator → ℕ → List (List Bool) → List (List Bool) → List ℕ → List ℕ → View → View → Type 0
+LeavesPrefixBetween head d rate before after file output old new = (new.file output ≡ old.file output)
+    ⊎ (((bytes : List ℕ) → PlaysBetween head d rate before after file bytes → (prefix : List ℕ) × (rest : List ℕ) × (new.file output ≡ Some prefix) × (bytes ≡ prefix ++ rest)) × HadNone output old)
 
 -- the neighbours were read, and a fault ended the playing: the output has such a prefix, and no other file changed
-pub record LeavesBetween (project_name file_name output_name : List ℕ) (around : NeighbourNames) (old new : View) (fault : calls.Fault) : Type 0 where
+pub record LeavesBetween (head : WaveHead) (project_name file_name output_name : List ℕ) (around : NeighbourNames) (old new : View) (fault : calls.Fault) : Type 0 where
   pub project : List ℕ
   pub decimator : Decimator
   pub rate : ℕ
@@ -121,7 +122,7 @@ pub record LeavesBetween (project_name file_name output_name : List ℕ) (around
   pub project_says : SaysDecimator project decimator
   pub before_are : AreChannelsOf around.previous old rate before
   pub after_are : AreChannelsOf around.next old rate after
-  pub ended : IsTrue old.is_known → (file : List ℕ) × OpensAs old file_name file × LeavesPrefixBetween decimator rate before after file output_name old new
+  pub ended : IsTrue old.is_known → (file : List ℕ) × OpensAs old file_name file × LeavesPrefixBetween head decimator rate before after file output_name old new
   pub named : NamesRead file_name old fault
   pub others : KeepsOthers output_name old new
 
@@ -145,36 +146,37 @@ pub record IsNextRefused (file_name : List ℕ) (around : NeighbourNames) (old n
   pub refused : IsRefusedNeighbour EndsAfter around.next file_name old fault
   pub same : new ≡ old
 
--- the folder before and after the input was played to the output between its neighbours by the project came to this
-abbrev pub PlayBetweenComesTo : List ℕ → List ℕ → List ℕ → NeighbourNames → View → View → Result ℕ BetweenFault → Type 0
-PlayBetweenComesTo project input output around old new (Ok count) = PlaysBetweenFiles project input output around old new count
-PlayBetweenComesTo project input output around old new (Err (Command (Call fault))) = ((new ≡ old) × (fault ≡ Memory)) ⊎ (IsBetweenRefused project input old new fault ⊎ LeavesBetween project input output around old new fault)
-PlayBetweenComesTo project input output around old new (Err (Command ReadFailed)) = new ≡ old
-PlayBetweenComesTo project input output around old new (Err (Command WriteFailed)) = IsBetweenUnwritten project output around old new
-PlayBetweenComesTo project input output around old new (Err (Previous fault)) = IsRefusedNeighbour EndsBefore around.previous input old fault × (new ≡ old)
-PlayBetweenComesTo project input output around old new (Err (Next fault)) = IsNextRefused input around old new fault
+-- the folder before and after the input was played to the output, whose header is written so, between its neighbours by
+-- the project came to this
+abbrev pub PlayBetweenComesTo : WaveHead → List ℕ → List ℕ → List ℕ → NeighbourNames → View → View → Result ℕ BetweenFault → Type 0
+PlayBetweenComesTo head project input output around old new (Ok count) = PlaysBetweenFiles head project input output around old new count
+PlayBetweenComesTo head project input output around old new (Err (Command (Call fault))) = ((new ≡ old) × (fault ≡ Memory)) ⊎ (IsBetweenRefused project input old new fault ⊎ LeavesBetween head project input output around old new fault)
+PlayBetweenComesTo head project input output around old new (Err (Command ReadFailed)) = new ≡ old
+PlayBetweenComesTo head project input output around old new (Err (Command WriteFailed)) = IsBetweenUnwritten project output around old new
+PlayBetweenComesTo head project input output around old new (Err (Previous fault)) = IsRefusedNeighbour EndsBefore around.previous input old fault × (new ≡ old)
+PlayBetweenComesTo head project input output around old new (Err (Next fault)) = IsNextRefused input around old new fault
 
 -- ---- stages
 -- a reader's file was played between these channels, if it is known, and some bytes otherwise: its WAVE file of n bytes
 -- was written
-pub record WritesBetween (d : Decimator) (rate : ℕ) (before after : List (List Bool)) (left held written : Option (List ℕ)) (n : ℕ) : Type 0 where
-  pub plays : PlaysFile left (PlaysBetween d rate before after) held written n
-  pub some : (read : List ℕ) × (bytes : List ℕ) × PlaysBetween d rate before after read bytes × (n ≡ length bytes)
+pub record WritesBetween (head : WaveHead) (d : Decimator) (rate : ℕ) (before after : List (List Bool)) (left held written : Option (List ℕ)) (n : ℕ) : Type 0 where
+  pub plays : PlaysFile left (PlaysBetween head d rate before after) held written n
+  pub some : (read : List ℕ) × (bytes : List ℕ) × PlaysBetween head d rate before after read bytes × (n ≡ length bytes)
 
 -- a fault ended the playing of a reader's file: what was written is a prefix
-pub record StopsBetween (d : Decimator) (rate : ℕ) (before after : List (List Bool)) (left held written : Option (List ℕ)) (fault : calls.Fault) : Type 0 where
+pub record StopsBetween (head : WaveHead) (d : Decimator) (rate : ℕ) (before after : List (List Bool)) (left held written : Option (List ℕ)) (fault : calls.Fault) : Type 0 where
   pub named : IfNamed fault (IsFirstFault left)
-  pub prefix : WritesPrefix left (PlaysBetween d rate before after) held written
+  pub prefix : WritesPrefix left (PlaysBetween head d rate before after) held written
 
 -- how playing a reader's file between these channels ends
-abbrev pub WritesTo : Decimator → ℕ → List (List Bool) → List (List Bool) → Option (List ℕ) → Option (List ℕ) → Option (List ℕ) → Result ℕ calls.Fault → Type 0
-WritesTo d rate before after left held written (Ok n) = WritesBetween d rate before after left held written n
-WritesTo d rate before after left held written (Err fault) = StopsBetween d rate before after left held written fault
+abbrev pub WritesTo : WaveHead → Decimator → ℕ → List (List Bool) → List (List Bool) → Option (List ℕ) → Option (List ℕ) → Option (List ℕ) → Result ℕ calls.Fault → Type 0
+WritesTo head d rate before after left held written (Ok n) = WritesBetween head d rate before after left held written n
+WritesTo head d rate before after left held written (Err fault) = StopsBetween head d rate before after left held written fault
 
 -- how playing a file that was opened under a name to an empty one, between these channels, ends: it is handed back, or
 -- given up after a fault
-abbrev pub JoinedComesTo : Decimator → ℕ → List (List Bool) → List (List Bool) → List ℕ → List ℕ → View → View → Result ℕ CommandFault → Type 0
-JoinedComesTo d rate before after input output old new (Ok count) = (file : List ℕ) × (bytes : List ℕ) × IsReadOf old input file × IsPut new output bytes × PlaysBetween d rate before after file bytes × (count ≡ length bytes) × KeepsOthers output old new
-JoinedComesTo d rate before after input output old new (Err (Call fault)) = (IsTrue old.is_known → (file : List ℕ) × OpensAs old input file × LeavesPrefixBetween d rate before after file output old new) × NamesRead input old fault × KeepsOthers output old new
-JoinedComesTo d rate before after input output old new (Err WriteFailed) = KeepsOthers output old new × (new.file output ≡ old.file output)
-JoinedComesTo d rate before after input output old new (Err ReadFailed) = ⊥
+abbrev pub JoinedComesTo : WaveHead → Decimator → ℕ → List (List Bool) → List (List Bool) → List ℕ → List ℕ → View → View → Result ℕ CommandFault → Type 0
+JoinedComesTo head d rate before after input output old new (Ok count) = (file : List ℕ) × (bytes : List ℕ) × IsReadOf old input file × IsPut new output bytes × PlaysBetween head d rate before after file bytes × (count ≡ length bytes) × KeepsOthers output old new
+JoinedComesTo head d rate before after input output old new (Err (Call fault)) = (IsTrue old.is_known → (file : List ℕ) × OpensAs old input file × LeavesPrefixBetween head d rate before after file output old new) × NamesRead input old fault × KeepsOthers output old new
+JoinedComesTo head d rate before after input output old new (Err WriteFailed) = KeepsOthers output old new × (new.file output ≡ old.file output)
+JoinedComesTo head d rate before after input output old new (Err ReadFailed) = ⊥

@@ -6,7 +6,7 @@ use Rattle.fir_core.specs.Decimator.{Decimator, IsWithinLimits}
 use Rattle.folder_core.specs.GappedFiles.{LiesInGap}
 use Rattle.folder_core.specs.declared.gapped_file.Gaps.{Gaps}
 use Rattle.player_core.specs.Groups.{place_in}
-use Rattle.player_core.specs.declared.range.FrameRange.{FrameRange}
+use Rattle.player_core.specs.declared.range.WaveRange.{WaveRange}
 use Rattle.request_core.specs.Projects.{SaysDecimator}
 use Rattle.sound_core.specs.Files.{LeadsToSound}
 use Rattle.transfer_core.specs.Unread.{IsOfSound, IsReadBy, ReadsBit, byte_of_bit}
@@ -30,13 +30,13 @@ HoldNoBitIn s range gaps = (i c : ℕ) → range.start ≤ i → i < range.stop 
 
 -- the prefix of a file leads to a sound, and the gaps hold only bytes of it, none of which holds a bit that the range's
 -- frames read by the project's filter
-pub record AreUnread (project : List ℕ) (range : FrameRange) (prefix : List ℕ) (s : Sound) (gaps : Gaps) : Type 0 where
+pub record AreUnread (project : List ℕ) (range : WaveRange) (prefix : List ℕ) (s : Sound) (gaps : Gaps) : Type 0 where
   pub leads : LeadsToSound prefix s
   pub in_sound : LieInSound s gaps
   pub unread : (d : Decimator) → SaysDecimator project d → (place : ℕ) → LiesInGap gaps place 1 → IsReadBy d s range place → ⊥
 
 -- a file without its gaps is enough to play the range: they hold no byte, or only such as no frame reads
-abbrev pub AreNotNeeded : List ℕ → FrameRange → List ℕ → Gaps → Type 0
+abbrev pub AreNotNeeded : List ℕ → WaveRange → List ℕ → Gaps → Type 0
 AreNotNeeded project range prefix gaps = AreEmpty gaps ⊎ ((s : Sound) × AreUnread project range prefix s gaps)
 
 -- this is the factor of the project's filter

@@ -1,4 +1,5 @@
 pub mod BetweenPlaying
+pub mod BetweenSpeaking
 pub mod Converting
 pub mod Digesting
 pub mod DopConverting

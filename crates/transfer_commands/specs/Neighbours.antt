@@ -28,6 +28,7 @@ use Rattle.transfer_commands.specs.declared.fault.CommandFault.TheVariants.{Call
 use Rattle.transfer_commands.specs.declared.neighbour.NeighbourFault.{NeighbourFault}
 use Rattle.transfer_commands.specs.declared.neighbour.NeighbourFault.TheVariants as neighbours
 use Rattle.transfer_commands.specs.declared.opened.OpenedFile.{OpenedFile}
+use Rattle.wave_core.specs.declared.head.WaveHead.{WaveHead}
 
 -- a sound has the rate and the number of channels of another
 abbrev pub AreAlike : Sound → Sound → Type 0
@@ -47,6 +48,8 @@ pub record HearsBefore (name : List ℕ) (old : View) (t : Sound) (d : Decimator
   pub level : IsLevel before
   pub few : m * d.factor ≤ count_of before
   pub far : IsFarEnough d (count_of before) m
+  pub frames : ℕ
+  pub whole : length bytes ≡ frames * t.channels
   pub bytes_are : unlaced_all bytes t.channels ≡ from_frame d m before
 
 -- these are sound bytes of the beginning of a recording that was read of a file, with the rate and channels of a sound:
@@ -58,6 +61,8 @@ pub record HearsAfter (name : List ℕ) (old : View) (t : Sound) (d : Decimator)
   pub number : length after ≡ t.channels
   pub level : IsLevel after
   pub enough : (d.delay ≤ count) ⊎ (first_bits count after ≡ after)
+  pub frames : ℕ
+  pub whole : length bytes ≡ frames * t.channels
   pub bytes_are : unlaced_all bytes t.channels ≡ first_bits count after
 
 -- ---- a range of bits
@@ -150,9 +155,9 @@ abbrev pub edge_channels : Edges → List ℕ → List (List Bool)
 edge_channels e bytes = unlaced_all bytes e.channels
 
 -- how playing a reader's file between what was kept ends
-abbrev pub JoinsTo : Decimator → Edges → Option (List ℕ) → Option (List ℕ) → Option (List ℕ) → Result ℕ calls.Fault → Type 0
-JoinsTo d e left held written came = WritesTo d e.rate (edge_channels e e.before.items) (edge_channels e e.after.items) left held written came
+abbrev pub JoinsTo : WaveHead → Decimator → Edges → Option (List ℕ) → Option (List ℕ) → Option (List ℕ) → Result ℕ calls.Fault → Type 0
+JoinsTo head d e left held written came = WritesTo head d e.rate (edge_channels e e.before.items) (edge_channels e e.after.items) left held written came
 
 -- the same of a file that was opened, whichever name that was under
-abbrev pub JoinComesTo : {R : Type 0} → (R → Option (List ℕ)) → Decimator → Edges → OpenedFile R → List ℕ → View → View → Result ℕ CommandFault → Type 0
-JoinComesTo left d e opened output old new came = (input : List ℕ) → IsGiven old input (left_of left opened) → JoinedComesTo d e.rate (edge_channels e e.before.items) (edge_channels e e.after.items) input output old new came
+abbrev pub JoinComesTo : {R : Type 0} → (R → Option (List ℕ)) → WaveHead → Decimator → Edges → OpenedFile R → List ℕ → View → View → Result ℕ CommandFault → Type 0
+JoinComesTo left head d e opened output old new came = (input : List ℕ) → IsGiven old input (left_of left opened) → JoinedComesTo head d e.rate (edge_channels e e.before.items) (edge_channels e e.after.items) input output old new came

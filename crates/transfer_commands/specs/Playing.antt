@@ -4,7 +4,7 @@ use Rattle.std.specs.Io.KnownBytes.{prepend_known}
 use Rattle.form_core.specs.Opening.{opened_of}
 use Rattle.player_core.specs.Playing.{PlaysFile, WritesPrefix}
 use Rattle.player_core.specs.Ranges.{whole_range}
-use Rattle.player_core.specs.declared.range.FrameRange.{FrameRange}
+use Rattle.player_core.specs.declared.range.WaveRange.{WaveRange}
 use Rattle.request_core.specs.declared.fault.Fault as calls
 use Rattle.request_core.specs.declared.fault.Fault.TheVariants.{Memory}
 use Rattle.request_core.specs.Faults.{IfNamed}
@@ -32,17 +32,17 @@ pub record PlaysFiles (project_name file_name output_name : List ℕ) (old new :
 
 -- a file that was given up holds a prefix of what project and file play of a range, if they play anything, and nothing
 -- if the fault comes before the first write
-pub record HoldsPlayed (project : List ℕ) (range : FrameRange) (file : List ℕ) (fault : calls.Fault) (held : Option (List ℕ)) : Type 0 where
+pub record HoldsPlayed (project : List ℕ) (range : WaveRange) (file : List ℕ) (fault : calls.Fault) (held : Option (List ℕ)) : Type 0 where
   pub prefix : (bytes : List ℕ) → PlaysRange project range file bytes → (prefix : List ℕ) × (rest : List ℕ) × (held ≡ Some prefix) × (bytes ≡ prefix ++ rest)
   pub none : FailsBeforeWriting fault → held ≡ Some []
 
 -- the output is unchanged, or no old one had to be kept and it holds such a prefix
-abbrev pub LeavesPrefix : List ℕ → FrameRange → List ℕ → calls.Fault → List ℕ → View → View → Type 0
+abbrev pub LeavesPrefix : List ℕ → WaveRange → List ℕ → calls.Fault → List ℕ → View → View → Type 0
 LeavesPrefix project range file fault output old new = (new.file output ≡ old.file output) ⊎ (HoldsPlayed project range file fault (new.file output) × HadNone output old)
 
 -- a fault ended the playing of a file, and it is right; a file that can be played is refused only for memory, a device
 -- or the number of reads
-pub record EndsPlaying (project : List ℕ) (range : FrameRange) (file output_name : List ℕ) (old new : View) (fault : calls.Fault) : Type 0 where
+pub record EndsPlaying (project : List ℕ) (range : WaveRange) (file output_name : List ℕ) (old new : View) (fault : calls.Fault) : Type 0 where
   pub stands : StreamApplies (Some file) project range fault
   pub outside : OnlyFromOutside (Some file) project range fault
   pub prefix : LeavesPrefix project range file fault output_name old new
@@ -60,7 +60,7 @@ pub record LeavesOutput (project_name file_name output_name : List ℕ) (old new
   pub others : KeepsOthers output_name old new
 
 -- how playing a file that was opened under a name to an empty one ends: it is handed back, or given up after a fault
-abbrev pub PlayedComesTo : List ℕ → FrameRange → List ℕ → List ℕ → View → View → Result ℕ CommandFault → Type 0
+abbrev pub PlayedComesTo : List ℕ → WaveRange → List ℕ → List ℕ → View → View → Result ℕ CommandFault → Type 0
 PlayedComesTo project range input output old new (Ok count) = (file : List ℕ) × (bytes : List ℕ) × IsReadOf old input file × IsPut new output bytes × PlaysRange project range file bytes × (count ≡ length bytes) × KeepsOthers output old new
 PlayedComesTo project range input output old new (Err (Call fault)) = (IsTrue old.is_known → (file : List ℕ) × OpensAs old input file × EndsPlaying project range file output old new fault) × NamesRead input old fault × KeepsOthers output old new
 PlayedComesTo project range input output old new (Err WriteFailed) = KeepsOthers output old new × (new.file output ≡ old.file output)
@@ -97,17 +97,17 @@ PlayComesTo project input output old new (Err WriteFailed) = IsUnwritten project
 
 -- ---- a reader's file
 -- some bytes play n bytes of a range
-abbrev pub PlaysSome : List ℕ → FrameRange → ℕ → Type 0
+abbrev pub PlaysSome : List ℕ → WaveRange → ℕ → Type 0
 PlaysSome project range n = (read : List ℕ) × (bytes : List ℕ) × PlaysRange project range read bytes × (n ≡ length bytes)
 
 -- a reader's file was played, if it is known, and some bytes otherwise: its WAVE file of n bytes was written
-pub record WritesRange (project : List ℕ) (range : FrameRange) (left held written : Option (List ℕ)) (n : ℕ) : Type 0 where
+pub record WritesRange (project : List ℕ) (range : WaveRange) (left held written : Option (List ℕ)) (n : ℕ) : Type 0 where
   pub plays : PlaysFile left (PlaysRange project range) held written n
   pub some : PlaysSome project range n
 
 -- a fault ended the playing of a reader's file, and is right: what was written is a prefix, or nothing if it comes
 -- before the first write
-pub record StopsRange (project : List ℕ) (range : FrameRange) (left held written : Option (List ℕ)) (fault : calls.Fault) : Type 0 where
+pub record StopsRange (project : List ℕ) (range : WaveRange) (left held written : Option (List ℕ)) (fault : calls.Fault) : Type 0 where
   pub stands : StreamApplies left project range fault
   pub named : IfNamed fault (IsFirstFault left)
   pub outside : OnlyFromOutside left project range fault
@@ -115,6 +115,6 @@ pub record StopsRange (project : List ℕ) (range : FrameRange) (left held writt
   pub none : FailsBeforeWriting fault → written ≡ held
 
 -- how playing a reader's file to a writer ends
-abbrev pub PlaysTo : {W : Type 0} → (W → Option (List ℕ)) → List ℕ → FrameRange → Option (List ℕ) → W → W → Result ℕ calls.Fault → Type 0
+abbrev pub PlaysTo : {W : Type 0} → (W → Option (List ℕ)) → List ℕ → WaveRange → Option (List ℕ) → W → W → Result ℕ calls.Fault → Type 0
 PlaysTo held project range left old new (Ok n) = WritesRange project range left (held old) (held new) n
 PlaysTo held project range left old new (Err fault) = StopsRange project range left (held old) (held new) fault

@@ -1,11 +1,11 @@
 -- What becomes of a file that another is played to so that it names the loudspeakers of its channels.
-use Rattle.std.specs.Prelude.{◌≡◌, ◌⊎◌, ℕ, ◌*◌, ◌/◌, Bool, true, false, List, [], ◌++◌, drop, length, take, IsTrue, Option, Some, Result, Ok, Err}
+use Rattle.std.specs.Prelude.{◌≡◌, ◌⊎◌, ℕ, ◌*◌, ◌/◌, Bool, true, false, List, ◌++◌, drop, length, take, IsTrue, Option, Some, Result, Ok, Err}
 use Rattle.std.specs.Io.KnownBytes.{prepend_known}
 use Rattle.dsd_bits.specs.declared.sound.Sound.{Sound}
 use Rattle.form_core.specs.declared.form.Form.{Form}
 use Rattle.form_core.specs.declared.form.Form.TheVariants as forms
 use Rattle.player_core.specs.Groups.{part_size}
-use Rattle.player_core.specs.declared.range.FrameRange.{FrameRange}
+use Rattle.player_core.specs.declared.range.WaveRange.{WaveRange}
 use Rattle.request_core.specs.declared.fault.Fault as calls
 use Rattle.sound_core.specs.Files.{LeadsToSound}
 use Rattle.speaker_core.specs.Reordered.{reordered_known, reordering_groups, reordering_order, reordering_size}
@@ -67,7 +67,7 @@ abbrev pub IsOrdered : View → List ℕ → (List ℕ → List ℕ) → List �
 IsOrdered old input order spoken = IsTrue old.is_known → (file : List ℕ) × OpensAs old input file × (spoken ≡ order file)
 
 -- the output has `count` bytes now: the WAVE file of these frames; no other file changed
-pub record SpeaksFile (project : List ℕ) (range : FrameRange) (order : List ℕ → List ℕ) (input output : List ℕ) (old new : View) (count : ℕ) : Type 0 where
+pub record SpeaksFile (project : List ℕ) (range : WaveRange) (order : List ℕ → List ℕ) (input output : List ℕ) (old new : View) (count : ℕ) : Type 0 where
   pub spoken : List ℕ
   pub bytes : List ℕ
   pub is_ordered : IsOrdered old input order spoken
@@ -82,13 +82,13 @@ LeavesOld output old new = IsTrue old.is_known → (new.file output ≡ old.file
 
 -- a fault ended it, and it is right: a file that can be played is refused only for memory, a device or the number of
 -- reads; an old file is kept
-pub record StopsSpeaking (project : List ℕ) (range : FrameRange) (order : List ℕ → List ℕ) (input output : List ℕ) (old new : View) (fault : calls.Fault) : Type 0 where
+pub record StopsSpeaking (project : List ℕ) (range : WaveRange) (order : List ℕ → List ℕ) (input output : List ℕ) (old new : View) (fault : calls.Fault) : Type 0 where
   pub stands : IsTrue old.is_known → (file : List ℕ) × OpensAs old input file × StreamApplies (Some (order file)) project range fault × OnlyFromOutside (Some (order file)) project range fault
   pub left : LeavesOld output old new
   pub others : KeepsOthers output old new
 
 -- how playing it to an empty file ends
-abbrev pub SpokenComesTo : List ℕ → FrameRange → (List ℕ → List ℕ) → List ℕ → List ℕ → View → View → Result ℕ CommandFault → Type 0
+abbrev pub SpokenComesTo : List ℕ → WaveRange → (List ℕ → List ℕ) → List ℕ → List ℕ → View → View → Result ℕ CommandFault → Type 0
 SpokenComesTo project range order input output old new (Ok count) = SpeaksFile project range order input output old new count
 SpokenComesTo project range order input output old new (Err (Call fault)) = StopsSpeaking project range order input output old new fault
 SpokenComesTo project range order input output old new (Err WriteFailed) = KeepsOthers output old new × (new.file output ≡ old.file output)

@@ -2,6 +2,7 @@
 
 ghost use Rattle.std.specs.Prelude.{◌≡◌, IfErr, IfOk};
 ghost use Rattle.folder_core.specs.Files.{IsGiven};
+ghost use Rattle.wave_core.specs.Heads.{head_of};
 ghost use Rattle.transfer_commands.specs.BetweenPlaying.{IsNotOpened, PlayBetweenComesTo};
 ghost use Rattle.transfer_commands.specs.Faults.{of_file};
 ghost use Rattle.transfer_commands.specs.Neighbours.{AreHeard, AreUnheard, IsHeardAfter, IsHeardBefore, IsUnheardAfter, IsUnheardBefore, JoinComesTo, JoinsTo, fault_after, fault_before};
@@ -18,7 +19,7 @@ use chunk_core::{Inlet, Outlet};
 use dsd_bits::Sound;
 use fir_core::Taps;
 use folder_core::{FileFault, Folder, hand_back};
-use player_core::{Neighbours, play_between};
+use player_core::{Neighbours, WaveHead, play_between};
 use request_core::decimator_of;
 use std::alloc::Global;
 use std::io::{Cursor, Read, Write};
@@ -31,6 +32,15 @@ pub struct NeighbourNames<'a> {
     pub previous: Option<&'a str>,
     /// The recording after.
     pub next: Option<&'a str>,
+}
+
+/// Between which files a recording is played, and to which form of file.
+#[derive(Clone, Copy)]
+pub struct BetweenAsked<'a> {
+    /// The names of the files.
+    pub around: NeighbourNames<'a>,
+    /// Whether the header of the WAVE file has room for sizes of 64 bits (RF64, EBU Tech 3306).
+    pub is_wide: bool,
 }
 
 /// Why a command that plays a recording between its neighbours is refused.
@@ -81,6 +91,17 @@ pub(crate) struct Edges {
     pub(crate) after: Vec<u8>,
 }
 
+/// By what a file is played between its neighbours, and to which form of file.
+#[derive(Clone, Copy)]
+pub(crate) struct JoinedBy<'a> {
+    /// The filter.
+    pub(crate) taps: &'a Taps,
+    /// What it reaches of the neighbours.
+    pub(crate) edges: &'a Edges,
+    /// How the header of the WAVE file is written.
+    pub(crate) head: WaveHead,
+}
+
 /// Plays a recording as a part of the one that it makes with the recordings before and after it, one of them or both:
 /// the WAVE file has the frames whose place lies in the recording itself. So files that follow each other play without
 /// a gap. Returns how many bytes the WAVE file has. After a fault of playing it may hold a prefix of what was due, but
@@ -105,17 +126,25 @@ pub fn play_between_file<F: Folder>(
     project: &str,
     input: &str,
     output: &str,
-    around: NeighbourNames<'_>,
+    asked: BetweenAsked<'_>,
 ) -> Result<u64, BetweenFault>
-    ensures { PlayBetweenComesTo project.now input.now output.now around.entry
+    ensures { PlayBetweenComesTo (head_of asked.entry.is_wide 0) project.now input.now output.now asked.entry.around
         (F.view folder.old) (F.view folder.new) result }
 {
     let project = read_project(alloc, folder, project)?;
     let taps = decimator_of(alloc, &project)?;
     let opened = open_whole(alloc, folder, input)?;
-    let edges = edges_of(alloc, folder, &taps, &opened.sound, around)?;
+    let edges = edges_of(alloc, folder, &taps, &opened.sound, asked.around)?;
     folder.protect();
-    Ok(join_to(alloc, folder, &taps, &edges, opened, output)?)
+    let joined = JoinedBy {
+        taps: &taps,
+        edges: &edges,
+        head: WaveHead {
+            is_wide: asked.is_wide,
+            mask: 0,
+        },
+    };
+    Ok(join_to(alloc, folder, joined, opened, output)?)
 }
 
 // The recording that is played. It has to end with a whole byte of each channel.
@@ -136,8 +165,8 @@ fn open_whole<F: Folder>(
     Ok(opened)
 }
 
-// What a filter reaches of the neighbours of a recording with this sound.
-fn edges_of<F: Folder>(
+/// What a filter reaches of the neighbours of a recording with this sound.
+pub(crate) fn edges_of<F: Folder>(
     alloc: Global,
     folder: &mut F,
     taps: &Taps,
@@ -228,12 +257,11 @@ fn of_next(fault: NeighbourFault) -> BetweenFault
 fn join_to<F: Folder>(
     alloc: Global,
     folder: &mut F,
-    taps: &Taps,
-    edges: &Edges,
+    joined: JoinedBy<'_>,
     opened: OpenedFile<F::In>,
     output: &str,
 ) -> Result<u64, CommandFault>
-    ensures { JoinComesTo F.In.remaining taps.now edges.now opened output.now
+    ensures { JoinComesTo F.In.remaining joined.entry.head joined.entry.taps.now joined.entry.edges.now opened output.now
         (F.view folder.old) (F.view folder.new) result }
 {
     let Ok(wave) = folder.create(output) else {
@@ -244,7 +272,7 @@ fn join_to<F: Folder>(
         prefix,
         file,
     } = opened;
-    let (played, wave) = join(alloc, taps, edges, Cursor::new(prefix).chain(file), wave);
+    let (played, wave) = join(alloc, joined, Cursor::new(prefix).chain(file), wave);
     let handed = hand_back(folder, output, &played, wave);
     match played {
         Ok(count) => match handed {
@@ -255,16 +283,17 @@ fn join_to<F: Folder>(
     }
 }
 
-// Plays a reader's file to a writer between its neighbours, and returns that.
-fn join<R: Read + Drop, W: Write>(
+/// Plays a reader's file to a writer between its neighbours, and returns that.
+pub(crate) fn join<R: Read + Drop, W: Write>(
     alloc: Global,
-    taps: &Taps,
-    edges: &Edges,
+    joined: JoinedBy<'_>,
     reader: R,
     wave: W,
 ) -> (Result<u64, Fault>, W)
-    ensures { JoinsTo taps.now edges.now (R.remaining reader) (W.contents wave) (W.contents result.1) result.0 }
+    ensures { JoinsTo joined.entry.head joined.entry.taps.now joined.entry.edges.now
+        (R.remaining reader) (W.contents wave) (W.contents result.1) result.0 }
 {
+    let JoinedBy { taps, edges, head } = joined;
     let around = Neighbours {
         rate: edges.rate,
         channels: edges.channels,
@@ -273,7 +302,7 @@ fn join<R: Read + Drop, W: Write>(
     };
     let mut inlet = Inlet::new(reader);
     let mut outlet = Outlet::new(wave);
-    let played = play_between(alloc, taps, around, &mut inlet, &mut outlet);
+    let played = play_between(alloc, taps, around, head, &mut inlet, &mut outlet);
     let wave = outlet.into_inner();
     match played {
         Ok(count) => (Ok(count), wave),

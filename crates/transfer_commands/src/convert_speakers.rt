@@ -160,8 +160,8 @@ fn convert_opened<F: Folder, R: Read + Drop>(
     }
 }
 
-// The parts of a file that was opened.
-fn parts_of<R: Drop>(alloc: Global, opened: OpenedFile<R>) -> Result<Parts<R>, Fault>
+/// The parts of a file that was opened.
+pub(crate) fn parts_of<R: Drop>(alloc: Global, opened: OpenedFile<R>) -> Result<Parts<R>, Fault>
     requires within { opened.sound.start ≤ length opened.prefix.items }
     ensures start { IfOk result (λ p. length p.head.items ≡ opened.sound.start) }
     ensures left { IfOk result (λ p. (left : R → Option (List ℕ)) → left_parts left p ≡ left_of left opened) }

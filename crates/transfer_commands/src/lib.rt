@@ -4,7 +4,8 @@
 //! - [`play_file`] reads a project, opens a recording, and writes its WAVE file piece by piece.
 //! - [`play_part_file`] does so with a part of the recording, which it finds first by reading the recording through.
 //! - [`play_between_file`] does so with a recording between others, to which it is joined.
-//! - [`play_speakers_file`] does so too, and names the loudspeakers of the channels in the WAVE file.
+//! - [`play_speakers_file`] plays a part as `play_part_file` does, and names the loudspeakers of the channels in the WAVE
+//!   file; [`play_between_speakers_file`] names them in that of a recording between others.
 //! - [`convert_file`] reads a recording through, and only then creates the file in the other form. What can't be read
 //!   again it holds.
 //! - [`open_file`] reads a recording to report what it holds.
@@ -34,6 +35,7 @@
 #![tactic(auto)]
 
 mod between;
+mod between_speakers;
 mod convert_dop;
 mod convert_speakers;
 mod converting;
@@ -55,7 +57,8 @@ mod sources;
 mod speaking;
 mod summing;
 
-pub use between::{BetweenFault, NeighbourNames, play_between_file};
+pub use between::{BetweenAsked, BetweenFault, NeighbourNames, play_between_file};
+pub use between_speakers::play_between_speakers_file;
 pub use convert_dop::{DopConvertFault, convert_dop_file};
 pub use convert_speakers::{SpeakersFault, convert_speakers_file};
 pub use converting::convert_file;

@@ -21,7 +21,7 @@ use crate::reporting::open_past_sound;
 use dsd_bits::Sound;
 use folder_core::{FileFault, Folder};
 use place_core::Place;
-use player_core::{FrameRange, WaveHead};
+use player_core::{WaveHead, WaveRange};
 use std::alloc::Global;
 use transfer_core::{Fault, Span, SpanFault, frames_of, span_of};
 
@@ -89,10 +89,10 @@ impl Part<'_> {
     ghost use Rattle.transfer_core.specs.Streaming.{part_range};
 
     /// The frames of the part, with this head of their WAVE file.
-    pub(crate) fn range(&self, head: WaveHead) -> FrameRange
+    pub(crate) fn range(&self, head: WaveHead) -> WaveRange
         ensures { result ≡ part_range head self.now.start self.now.stop }
     {
-        FrameRange {
+        WaveRange {
             start: self.start,
             stop: Some(self.stop),
             head,

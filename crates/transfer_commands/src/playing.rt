@@ -8,7 +8,7 @@ use crate::fault::CommandFault;
 use crate::gaps::{no_gaps, rest_but};
 use chunk_core::{Inlet, Outlet};
 use folder_core::{FileFault, Folder, Gaps, hand_back, read_file};
-use player_core::FrameRange;
+use player_core::WaveRange;
 use std::alloc::Global;
 use std::io::{Cursor, Read, Write};
 use transfer_core::{Fault, play_stream, whole_plays};
@@ -19,7 +19,7 @@ pub(crate) struct Source<'a, R> {
     /// The project's text.
     pub(crate) project: &'a [u8],
     /// The frames that are played.
-    pub(crate) range: FrameRange,
+    pub(crate) range: WaveRange,
     /// The first bytes of the file, which were read.
     pub(crate) prefix: Vec<u8>,
     /// The file, which has the others left.
@@ -47,7 +47,7 @@ pub fn play_file<F: Folder>(
     };
     let source = Source {
         project: &project,
-        range: FrameRange::whole(),
+        range: WaveRange::whole(),
         prefix: Vec::new(alloc),
         file,
         gaps: no_gaps(),
@@ -120,7 +120,7 @@ fn play_source<F: Folder>(
 pub(crate) fn play_reader<R: Read + Drop, W: Write>(
     alloc: Global,
     project: &[u8],
-    range: FrameRange,
+    range: WaveRange,
     reader: R,
     wave: W,
 ) -> (Result<u64, Fault>, W)

@@ -24,7 +24,7 @@ use crate::reporting::{Reported, open_past_sound, reported_by};
 use dsd_bits::Sound;
 use folder_core::{Folder, hand_back};
 use form_core::Form;
-use player_core::{FrameRange, WaveHead};
+use player_core::{WaveHead, WaveRange};
 use speaker_core::{ReorderedFile, Reordering, Speakers};
 use std::alloc::Global;
 use std::io::{Cursor, Read, Write};
@@ -39,7 +39,7 @@ pub(crate) struct Spoken<'a, R> {
     /// The project's text.
     pub(crate) project: &'a [u8],
     /// The frames that are played, and the head of their WAVE file, which has the mask.
-    pub(crate) range: FrameRange,
+    pub(crate) range: WaveRange,
     /// The bytes before the sound, which were read.
     pub(crate) before: Vec<u8>,
     /// The first bytes of the sound, as far as they were read.
@@ -169,8 +169,8 @@ fn part_by<'a>(
     })
 }
 
-// The loudspeakers of what is reported of a file.
-fn named_by(alloc: Global, reported: &Reported) -> Result<Speakers, Fault>
+/// The loudspeakers of what is reported of a file.
+pub(crate) fn named_by(alloc: Global, reported: &Reported) -> Result<Speakers, Fault>
     ensures mask { IfOk result (λ s. s.mask ≡ mask_of reported.now) }
     ensures order { IfOk result (λ s. s.order.items ≡ order_of reported.now) }
     ensures channels { IfOk result (λ s. NamesChannels s.order.items) }
@@ -221,8 +221,12 @@ fn spoken_of<'a, R: Drop>(
     })
 }
 
-// The order in which the channels of a sound come.
-fn reordering_of(alloc: Global, sound: &Sound, speakers: Speakers) -> Result<Reordering, Fault>
+/// The order in which the channels of a sound come.
+pub(crate) fn reordering_of(
+    alloc: Global,
+    sound: &Sound,
+    speakers: Speakers,
+) -> Result<Reordering, Fault>
     requires sound { IsSound sound.now }
     requires channels { NamesChannels speakers.order.items }
     requires number { length speakers.order.items ≡ sound.now.channels }

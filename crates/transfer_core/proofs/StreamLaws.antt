@@ -15,7 +15,7 @@ use Rattle.sound_core.specs.Sinks.{sound_given}
 use Rattle.player_core.specs.Pace.{WritesFrames}
 use Rattle.player_core.specs.Playing as streams
 use Rattle.player_core.specs.Playing.{IsLackedBySome, PlaysBy, PlaysFile, PlaysGiven, WholeIsAll, WritesPrefix}
-use Rattle.player_core.specs.declared.range.FrameRange.{FrameRange}
+use Rattle.player_core.specs.declared.range.WaveRange.{WaveRange}
 use Rattle.wave_core.specs.Texts.{wave_text}
 use Rattle.sound_core.specs.declared.fault.StreamFault.{StreamFault}
 use Rattle.sound_core.specs.declared.fault.StreamFault.TheVariants as faults
@@ -53,7 +53,7 @@ recording_held file forms.Dsf r is = inr (LeastFirst, is)
 recording_held file forms.Dsf8 r is = inr (MostFirst, is)
 
 -- ---- by a project's decimator
-module _ (project : List ℕ) (range : FrameRange) (d : Decimator) (says : SaysDecimator project d) where
+module _ (project : List ℕ) (range : WaveRange) (d : Decimator) (says : SaysDecimator project d) where
   plays : (file bytes : List ℕ) → PlaysBy d range file bytes → PlaysRange project range file bytes
   plays file bytes by =
       let held = form_held file by.recording by.file_holds in
@@ -89,7 +89,7 @@ module _ (project : List ℕ) (range : FrameRange) (d : Decimator) (says : SaysD
   stands left i j u applies named exact = inr (d, says, (u, refl, record { applies = applies; first = first_of left i j u named; exact = exact }))
 
 -- ---- of the one decimator that a project says
-module _ (project : List ℕ) (range : FrameRange) (d : Decimator) (is_said : decimator_of_text project ≡ Ok d) where
+module _ (project : List ℕ) (range : WaveRange) (d : Decimator) (is_said : decimator_of_text project ≡ Ok d) where
   played : (file bytes : List ℕ) → PlaysRange project range file bytes → PlaysBy d range file bytes
   played file bytes is =
       let said = says_decimator project is.decimator is.project_says in
@@ -202,7 +202,7 @@ unread_named P (answers.Stream faults.Memory) named = tt
 unread_named P (answers.Stream f) named = tt
 
 -- ---- a project that is refused
-pub project_outside : (left : Option (List ℕ)) (project : List ℕ) (range : FrameRange) (e : Fault) → (e ≡ fault.Memory) ⊎ (decimator_of_text project ≡ Err e) → OnlyFromOutside left project range e
+pub project_outside : (left : Option (List ℕ)) (project : List ℕ) (range : WaveRange) (e : Fault) → (e ≡ fault.Memory) ⊎ (decimator_of_text project ≡ Err e) → OnlyFromOutside left project range e
 project_outside None project range e h = tt
 project_outside (Some file) project range e (inl is) = λ bytes plays. (faults.Memory, is, tt)
 project_outside (Some file) project range e (inr is) = λ bytes plays. let says = says_decimator project plays.decimator plays.project_says in absurd cc
@@ -213,7 +213,7 @@ stops_elsewhere faults.TurnLimit stop is = is
 stops_elsewhere f stop is = stop
 
 -- it stops no reading, and counts no device's failure
-pub project_keeps_up : (left a b : Option (List ℕ)) (project : List ℕ) (range : FrameRange) (n : ℕ) (e : Fault) → IsOfDecimator e → OfStream reading.StopsReading e → KeepsUp left project range n a b
+pub project_keeps_up : (left a b : Option (List ℕ)) (project : List ℕ) (range : WaveRange) (n : ℕ) (e : Fault) → IsOfDecimator e → OfStream reading.StopsReading e → KeepsUp left project range n a b
 project_keeps_up left a b project range n e is stop = absurd (stops_elsewhere stop.0 stop.2 (subst IsOfDecimator stop.1 is))
 
 pub project_stream : {X : Type 0} (e : Fault) → IsOfDecimator e → as_stream {X = X} (Err e) ≡ Err faults.Memory

@@ -6,7 +6,7 @@ use Rattle.dsd_bits.specs.declared.sound.Sound.{Sound}
 use Rattle.dsd_bits.specs.Sounds.{sound_bytes}
 use Rattle.fir_core.specs.Decimator.{Decimator}
 use Rattle.player_core.specs.Groups.{place_in}
-use Rattle.player_core.specs.declared.range.FrameRange.{FrameRange}
+use Rattle.player_core.specs.declared.range.WaveRange.{WaveRange}
 use Rattle.request_core.proofs.ProjectLaws.{says_decimator}
 use Rattle.request_core.specs.Projects.{SaysDecimator}
 use Rattle.request_core.specs.declared.fault.Fault.{Fault}
@@ -22,7 +22,7 @@ pub one_decimator : (project : List ℕ) (d e : Decimator) → SaysDecimator pro
 one_decimator project d e one other = let same : said d ≡ said e = sym (says_decimator project d one) ∙ says_decimator project e other in cc
 
 -- bytes that lie outside the sound are the same
-pub only_sound : (d : Decimator) (s : Sound) (range : FrameRange) (file other : List ℕ) → AreSameBut (IsUnreadBy d s range) file other → AreSameBut (IsOfSound s) file other
+pub only_sound : (d : Decimator) (s : Sound) (range : WaveRange) (file other : List ℕ) → AreSameBut (IsUnreadBy d s range) file other → AreSameBut (IsOfSound s) file other
 only_sound d s range file other same = record { long = same.long; same = λ place none. same.same place (λ unread. none unread.0) }
 
 -- sound bytes by their places in a file

@@ -25,7 +25,7 @@ use Rattle.player_core.specs.Frames.{frame, frame_count, frames}
 use Rattle.player_core.specs.Groups.{channel_byte, in_order, place_in}
 use Rattle.player_core.specs.Playing.{part_pcm, range_pcm}
 use Rattle.player_core.specs.Ranges.{HasFrame, IsInside, stop_of}
-use Rattle.player_core.specs.declared.range.FrameRange.{FrameRange}
+use Rattle.player_core.specs.declared.range.WaveRange.{WaveRange}
 use Rattle.player_core.proofs.FinishLaws.{channels_are, known_whole}
 use Rattle.player_core.proofs.FrameLaws.{moved}
 use Rattle.player_core.proofs.SliceLaws.{slice_flat, slice_of_range}
@@ -105,7 +105,7 @@ before_stop None total j low = tt
 before_stop (Some n) total j low = low
 
 -- two files that hold recordings with the same sound, whose bytes are the same wherever taps of a range's frames lie
-module _ (d : Decimator) (s : Sound) (is : IsSound s) (whole : s.interleaving ≡ Bytes → s.count % 8 ≡ 0) (file other : List ℕ) (r t : Content) (has : HasSound file r s) (also : HasSound other t s) (range : FrameRange) where
+module _ (d : Decimator) (s : Sound) (is : IsSound s) (whole : s.interleaving ≡ Bytes → s.count % 8 ≡ 0) (file other : List ℕ) (r t : Content) (has : HasSound file r s) (also : HasSound other t s) (range : WaveRange) where
   abbrev total : ℕ
   total = frame_count d r.channels
 

@@ -6,7 +6,7 @@ use Rattle.chunk_core.specs.declared.inlet.Inlet.{Inlet}
 use Rattle.chunk_core.specs.declared.outlet.Outlet.{Outlet}
 use Rattle.form_core.specs.declared.form.Form.{Form}
 use Rattle.player_core.specs.Playing.{PlaysFile, PlaysGiven, WritesPrefix}
-use Rattle.player_core.specs.declared.range.FrameRange.{FrameRange}
+use Rattle.player_core.specs.declared.range.WaveRange.{WaveRange}
 use Rattle.sound_core.specs.Outlines.{around_of}
 use Rattle.sound_core.specs.Readers.{CanFail, RunsOut}
 use Rattle.sound_core.specs.declared.outline.Outline.{Outline}
@@ -40,7 +40,7 @@ abbrev pub Starts : {R W : Type 0} → (R → Option (List ℕ)) → Inlet R →
 Starts left inlet Plays contents old new = WritesPrefix (left_in left inlet) Plays (contents (outlet_writer old)) (contents (outlet_writer new))
 
 -- what was written lags the sound that was read by at most 131,072 bytes, if the inlet's file can be played
-abbrev pub LagsLittle : {R W : Type 0} → (R → Option (List ℕ)) → Inlet R → Inlet R → List ℕ → FrameRange → (W → Option (List ℕ)) → Outlet W → Outlet W → Type 0
+abbrev pub LagsLittle : {R W : Type 0} → (R → Option (List ℕ)) → Inlet R → Inlet R → List ℕ → WaveRange → (W → Option (List ℕ)) → Outlet W → Outlet W → Type 0
 LagsLittle left inlet_old inlet_new project range contents old new = KeepsUp (left_in left inlet_old) project range (inlet_given inlet_new - inlet_given inlet_old) (contents (outlet_writer old)) (contents (outlet_writer new))
 
 -- ---- what an inlet's file is converted to

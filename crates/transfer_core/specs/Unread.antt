@@ -6,7 +6,7 @@ use Rattle.form_core.specs.Opening.{opened_of}
 use Rattle.form_core.specs.declared.fault.ReadFault.{ReadFault}
 use Rattle.player_core.specs.Groups.{place_in}
 use Rattle.player_core.specs.Ranges.{HasFrame}
-use Rattle.player_core.specs.declared.range.FrameRange.{FrameRange}
+use Rattle.player_core.specs.declared.range.WaveRange.{WaveRange}
 use Rattle.request_core.specs.Projects.{SaysDecimator}
 use Rattle.sound_core.specs.Files.{LeadsToSound}
 use Rattle.sound_core.specs.Outlines.{AreAround, AreStated, Surroundings}
@@ -25,11 +25,11 @@ abbrev pub IsOfSound : Sound → ℕ → Type 0
 IsOfSound s place = (s.start ≤ place) × (place < s.start + s.size)
 
 -- the byte at this place holds a bit that a frame of the range reads
-abbrev pub IsReadBy : Decimator → Sound → FrameRange → ℕ → Type 0
+abbrev pub IsReadBy : Decimator → Sound → WaveRange → ℕ → Type 0
 IsReadBy d s range place = (j : ℕ) × (i : ℕ) × (c : ℕ) × HasFrame range j × ReadsBit d j i × (i < s.count) × (c < s.channels) × (place ≡ byte_of_bit s c i)
 
 -- the byte at this place is one of the sound, and holds no bit that a frame of the range reads
-abbrev pub IsUnreadBy : Decimator → Sound → FrameRange → ℕ → Type 0
+abbrev pub IsUnreadBy : Decimator → Sound → WaveRange → ℕ → Type 0
 IsUnreadBy d s range place = IsOfSound s place × (IsReadBy d s range place → ⊥)
 
 -- two files are as long, and the same but for bytes at such places
@@ -41,7 +41,7 @@ pub record AreSameBut (P : ℕ → Type 0) (file other : List ℕ) : Type 0 wher
 
 -- of two files that differ only in bytes that no frame of a range reads, that range plays the same
 abbrev pub UnreadDoNotMatter : Type 0
-UnreadDoNotMatter = (project prefix rest other bytes : List ℕ) (d : Decimator) (s : Sound) (range : FrameRange) → LeadsToSound prefix s → SaysDecimator project d → AreSameBut (IsUnreadBy d s range) (prefix ++ rest) (prefix ++ other)
+UnreadDoNotMatter = (project prefix rest other bytes : List ℕ) (d : Decimator) (s : Sound) (range : WaveRange) → LeadsToSound prefix s → SaysDecimator project d → AreSameBut (IsUnreadBy d s range) (prefix ++ rest) (prefix ++ other)
     → PlaysRange project range (prefix ++ rest) bytes → PlaysRange project range (prefix ++ other) bytes
 
 -- two files that differ only in their sound have the same first fault, and the same outlines

@@ -33,7 +33,7 @@ mod spans;
 pub use converting::{Converted, convert, convert_stream};
 pub use frames::PlayedFrames;
 pub use laws::{converted_is_kept, sound_does_not_matter, unread_bytes_do_not_matter};
-pub use player_core::{FrameRange, WaveHead};
+pub use player_core::{WaveHead, WaveRange};
 pub use playing::{play, play_stream, whole_plays};
 pub use request_core::{Fault, SpanFault, splice_of, take_names};
 pub use spans::{Span, frames_of, span_of};

@@ -14,7 +14,7 @@ ghost use Rattle.transfer_core.specs.Streaming.{FailsBeforeWriting, OnlyFromOuts
 
 use chunk_core::{Inlet, Outlet};
 use form_core::{Opened, read_any};
-use player_core::{FrameRange, wave_of, whole_is_all};
+use player_core::{WaveRange, wave_of, whole_is_all};
 use request_core::{Fault, decimator_of};
 use sound_core::StreamFault;
 use std::alloc::Global;
@@ -70,7 +70,7 @@ pub fn play(alloc: Global, project: &[u8], file: &[u8]) -> Result<Vec<u8>, Fault
 pub fn play_stream<R: Read, W: Write>(
     alloc: Global,
     project: &[u8],
-    range: FrameRange,
+    range: WaveRange,
     inlet: &mut Inlet<R>,
     outlet: &mut Outlet<W>,
 ) -> Result<u64, Fault>

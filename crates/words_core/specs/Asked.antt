@@ -19,7 +19,7 @@ use Rattle.words_core.specs.declared.task.Task.TheVariants.{Check, Convert, Conv
 -- it or one after it, or both
 abbrev pub HasPlaces : Task → Type 0
 HasPlaces (PlayPart project input output from to speakers rf64) = from ≡ None → to ≡ None → ⊥
-HasPlaces (PlayBetween project input output previous next) = previous ≡ None → next ≡ None → ⊥
+HasPlaces (PlayBetween project input output previous next speakers rf64) = previous ≡ None → next ≡ None → ⊥
 HasPlaces _ = ⊤
 
 -- ---- what is asked for
@@ -54,7 +54,7 @@ pub record AreGiven (line : Line) (given : Options) : Type 0 where
 abbrev pub command_of : Task → List ℕ
 command_of (Play project input output speakers rf64) = codes "play"
 command_of (PlayPart project input output from to speakers rf64) = codes "play"
-command_of (PlayBetween project input output previous next) = codes "play"
+command_of (PlayBetween project input output previous next speakers rf64) = codes "play"
 command_of (PlayDop input output) = codes "play"
 command_of (Convert form input output speakers) = codes "convert"
 command_of (ConvertDop form input output) = codes "convert"
@@ -68,7 +68,7 @@ command_of (Sum is_check files) = codes "sum"
 abbrev pub AreNamesOf : Task → List (List ℕ) → Type 0
 AreNamesOf (Play project input output speakers rf64) names = names ≡ project.now ∷ input.now ∷ output.now ∷ []
 AreNamesOf (PlayPart project input output from to speakers rf64) names = names ≡ project.now ∷ input.now ∷ output.now ∷ []
-AreNamesOf (PlayBetween project input output previous next) names = names ≡ project.now ∷ input.now ∷ output.now ∷ []
+AreNamesOf (PlayBetween project input output previous next speakers rf64) names = names ≡ project.now ∷ input.now ∷ output.now ∷ []
 AreNamesOf (PlayDop input output) names = names ≡ input.now ∷ output.now ∷ []
 AreNamesOf (Convert form input output speakers) names = (name : List ℕ) × (names ≡ name ∷ input.now ∷ output.now ∷ []) × (form_named name ≡ Some form)
 AreNamesOf (ConvertDop form input output) names = (name : List ℕ) × (names ≡ name ∷ input.now ∷ output.now ∷ []) × (form_named name ≡ Some form)
@@ -93,7 +93,7 @@ pub record AreOfPlay (given : Options) (start stop : Option Place) (before after
 abbrev pub AreOptionsOf : Task → Options → Type 0
 AreOptionsOf (Play project input output speakers rf64) given = AreOfPlay given None None None None speakers rf64 false
 AreOptionsOf (PlayPart project input output from to speakers rf64) given = AreOfPlay given from to None None speakers rf64 false
-AreOptionsOf (PlayBetween project input output previous next) given = AreOfPlay given None None previous next false false false
+AreOptionsOf (PlayBetween project input output previous next speakers rf64) given = AreOfPlay given None None previous next speakers rf64 false
 AreOptionsOf (PlayDop input output) given = AreOfPlay given None None None None false false true
 AreOptionsOf (Convert form input output speakers) given = (given.speakers ≡ speakers) × (given.dop ≡ false)
 AreOptionsOf (ConvertDop form input output) given = (given.speakers ≡ false) × (given.dop ≡ true)

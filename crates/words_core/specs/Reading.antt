@@ -135,11 +135,10 @@ HasNoNeighbour given = (given.previous ≡ None) × (given.next ≡ None)
 abbrev pub HasPlainHeader : Options → Type 0
 HasPlainHeader given = (given.speakers ≡ false) × (given.rf64 ≡ false)
 
--- options may be together: of places and files only one kind is there, with files none of the header, and with `--dop`
--- none of them
+-- options may be together: of places and files only one kind is there, and with `--dop` none of them, and none of the
+-- header
 pub record AreTogether (given : Options) : Type 0 where
   pub alone : HasNoPart given ⊎ HasNoNeighbour given
-  pub header : HasNoNeighbour given ⊎ HasPlainHeader given
   pub dop : given.dop ≡ true → HasNoPart given × HasNoNeighbour given × HasPlainHeader given
 
 -- what was read asks for a task of this command

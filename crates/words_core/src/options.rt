@@ -98,8 +98,8 @@ impl<'a> Options<'a> {
         }
     }
 
-    /// Two options that can't be together, if there are such: neither a part nor another header is played between
-    /// others, and with `--dop` nothing else is asked for.
+    /// Two options that can't be together, if there are such: no part is played between others, and with `--dop` nothing
+    /// else is asked for.
     pub(crate) fn apart(&self) -> Option<(OptionName, OptionName)>
         ensures { IfNone result (AreTogether self.now) }
     {
@@ -107,10 +107,9 @@ impl<'a> Options<'a> {
             (Some(part), Some(neighbour), _, _) => Some((part, neighbour)),
             (Some(part), None, _, true) => Some((OptionName::Dop, part)),
             (None, Some(neighbour), _, true) => Some((OptionName::Dop, neighbour)),
-            (None, Some(neighbour), Some(header), false) => Some((neighbour, header)),
             (None, None, Some(header), true) => Some((OptionName::Dop, header)),
             (Some(_), None, _, false) => None,
-            (None, Some(_), None, false) => None,
+            (None, Some(_), _, false) => None,
             (None, None, _, false) => None,
             (None, None, None, true) => None,
         }

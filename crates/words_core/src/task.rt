@@ -32,6 +32,8 @@ pub enum Task<'a> {
         output: &'a str,
         previous: Option<&'a str>,
         next: Option<&'a str>,
+        speakers: bool,
+        rf64: bool,
     },
     /// `play --dop IN OUT`
     PlayDop {

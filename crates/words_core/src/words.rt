@@ -264,6 +264,8 @@ impl Words<'_> {
                 output,
                 previous,
                 next,
+                speakers,
+                rf64,
             },
         }
     }

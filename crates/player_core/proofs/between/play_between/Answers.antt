@@ -6,4 +6,4 @@ use Rattle.player_core.proofs.between.play_between.Goals as goal
 
 pub returns-then-not-can_fail-clause-prefix : goal.returns-then-not-can_fail-clause-prefix
 returns-then-not-can_fail-clause-prefix g c =
-    none_prefix (g.R.Read.remaining (inlet_reader c.args.inlet.now)) (PlaysBetween c.args.taps.now c.args.around.rate (channels_before c.args.around) (channels_after c.args.around)) (g.W.Write.contents (outlet_writer c.args.outlet.now))
+    none_prefix (g.R.Read.remaining (inlet_reader c.args.inlet.now)) (PlaysBetween c.args.head c.args.taps.now c.args.around.rate (channels_before c.args.around) (channels_after c.args.around)) (g.W.Write.contents (outlet_writer c.args.outlet.now))

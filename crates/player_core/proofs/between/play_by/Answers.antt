@@ -21,11 +21,11 @@ returns g c =
     record {
       same = subst (λ (p : _). p.outlet.ghost_name ≡ old.outlet.ghost_name) is same.1;
       ok = on_value r _ _ (λ n h.
-          subst (λ (p : _). PlaysFile (left (inlet_reader i)) (PlaysBetween d around.rate (channels_before around) (channels_after around)) (held (outlet_writer old.outlet.now)) (held (outlet_writer p.outlet.now)) n) is h) c.play_joined.ensures.ok;
+          subst (λ (p : _). PlaysFile (left (inlet_reader i)) (PlaysBetween old.range.head d around.rate (channels_before around) (channels_after around)) (held (outlet_writer old.outlet.now)) (held (outlet_writer p.outlet.now)) n) is h) c.play_joined.ensures.ok;
       any_reader = on_value r _ _ (λ n h.
-          subst (λ (p : _). PlaysGiven left i j (PlaysBetween d around.rate (channels_before around) (channels_after around)) (held (outlet_writer old.outlet.now)) (held (outlet_writer p.outlet.now)) n) is h) c.play_joined.ensures.any_reader;
+          subst (λ (p : _). PlaysGiven left i j (PlaysBetween old.range.head d around.rate (channels_before around) (channels_after around)) (held (outlet_writer old.outlet.now)) (held (outlet_writer p.outlet.now)) n) is h) c.play_joined.ensures.any_reader;
       named = c.play_joined.ensures.named;
       prefix = on_err r _ _ (λ h.
-          subst (λ (p : _). WritesPrefix (left (inlet_reader i)) (PlaysBetween d around.rate (channels_before around) (channels_after around)) (held (outlet_writer old.outlet.now)) (held (outlet_writer p.outlet.now))) is h) c.play_joined.ensures.prefix;
+          subst (λ (p : _). WritesPrefix (left (inlet_reader i)) (PlaysBetween old.range.head d around.rate (channels_before around) (channels_after around)) (held (outlet_writer old.outlet.now)) (held (outlet_writer p.outlet.now))) is h) c.play_joined.ensures.prefix;
       reads = c.play_joined.ensures.reads;
     }

@@ -13,17 +13,18 @@ pub returns : goal.returns
 returns g c =
     let left = g.R.Read.remaining in
     let held = g.W.Write.contents in
-    let e = c.args.edges.now in
-    let d = c.args.taps.now in
+    let e = c.args.joined.edges.now in
+    let d = c.args.joined.taps.now in
+    let head = c.args.joined.head in
     let u = c.in-Err.unread in
     let own = left c.args.reader in
     let after = outlet_writer c.play_between-played.new.outlet in
-    let plays = PlaysBetween d e.rate (unlaced_all e.before.items e.channels) (unlaced_all e.after.items e.channels) in
+    let plays = PlaysBetween head d e.rate (unlaced_all e.before.items e.channels) (unlaced_all e.after.items e.channels) in
     record {
       named = subst (λ f. IfNamed f (IsFirstFault own)) (sym c.from.ensures) (unread_named (IsFirstFault own) u (first_of_reader left c.args.reader c.new-inlet.result c.play_between-played.new.inlet u c.new-inlet.ensures.reader c.in-Err.ensures.named));
       prefix = subst (λ w. WritesPrefix own plays (held c.args.wave) (held w)) (sym c.into_inner-wave.ensures)
           (subst (λ w. WritesPrefix own plays (held w) (held after)) c.new-outlet.ensures.writer
           (subst (λ r. WritesPrefix (left r) plays (held (outlet_writer c.new-outlet.result)) (held after)) c.new-inlet.ensures.reader
-          (subst (λ (xs : List ℕ). WritesPrefix (left c.new-inlet.result.reader) (PlaysBetween d e.rate (unlaced_all e.before.items e.channels) (unlaced_all xs e.channels)) (held (outlet_writer c.new-outlet.result)) (held after)) c.deref-2.ensures.value
-          (subst (λ (xs : List ℕ). WritesPrefix (left c.new-inlet.result.reader) (PlaysBetween d e.rate (unlaced_all xs e.channels) (unlaced_all c.deref-2.result.now e.channels)) (held (outlet_writer c.new-outlet.result)) (held after)) c.deref.ensures.value c.in-Err.ensures.prefix))));
+          (subst (λ (xs : List ℕ). WritesPrefix (left c.new-inlet.result.reader) (PlaysBetween head d e.rate (unlaced_all e.before.items e.channels) (unlaced_all xs e.channels)) (held (outlet_writer c.new-outlet.result)) (held after)) c.deref-2.ensures.value
+          (subst (λ (xs : List ℕ). WritesPrefix (left c.new-inlet.result.reader) (PlaysBetween head d e.rate (unlaced_all xs e.channels) (unlaced_all c.deref-2.result.now e.channels)) (held (outlet_writer c.new-outlet.result)) (held after)) c.deref.ensures.value c.in-Err.ensures.prefix))));
     }

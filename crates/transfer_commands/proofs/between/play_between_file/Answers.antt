@@ -3,6 +3,7 @@ use Rattle.std.proofs.lemmas.Result.{err_from_is_err_and}
 use Rattle.fir_core.specs.Decimator.{IsWithinLimits}
 use Rattle.folder_core.specs.Files.{IsGiven, View}
 use Rattle.request_core.specs.Projects.{SaysDecimator}
+use Rattle.wave_core.specs.Heads.{head_of}
 use Rattle.transfer_commands.specs.BetweenPlaying.{IsNotOpened, PlayBetweenComesTo}
 use Rattle.transfer_commands.specs.Neighbours.{AreHeard, AreUnheard, edge_channels}
 use Rattle.transfer_commands.specs.Opening.{left_of}
@@ -27,8 +28,8 @@ returns-in_err-opened g c =
     let fault = c.in_err-opened.field-0.0 in
     let e = err_from_is_err_and c.from_residual-in_err-opened.result c.from_residual-in_err-opened.ensures.1 in
     let read = c.read_project.ensures.same in
-    subst (PlayBetweenComesTo c.args.project.now c.args.input.now c.args.output.now c.args.around (view c.args.folder.now) (view c.open_whole.new.folder)) (sym (e.1 ∙ ap Err e.2))
-    (between_unopened c.args.project.now c.args.input.now c.args.output.now c.in_ok-project.project.items c.args.around (view c.args.folder.now) (view c.open_whole.new.folder) c.in_ok-project.ensures.bytes (c.open_whole.ensures.same ∙ read) fault
+    subst (PlayBetweenComesTo (head_of c.args.asked.is_wide 0) c.args.project.now c.args.input.now c.args.output.now c.args.asked.around (view c.args.folder.now) (view c.open_whole.new.folder)) (sym (e.1 ∙ ap Err e.2))
+    (between_unopened (head_of c.args.asked.is_wide 0) c.args.project.now c.args.input.now c.args.output.now c.in_ok-project.project.items c.args.asked.around (view c.args.folder.now) (view c.open_whole.new.folder) c.in_ok-project.ensures.bytes (c.open_whole.ensures.same ∙ read) fault
     (subst (λ (v : View). IsNotOpened c.args.input.now v fault) read c.in_err-opened.ensures.refused))
 
 pub returns-in_err-edges : goal.returns-in_err-edges
@@ -41,10 +42,10 @@ returns-in_err-edges g c =
     let opened = c.open_whole.ensures.same ∙ read in
     let sound = c.in_ok-opened.opened.sound in
     let taps = c.in_ok-taps.taps in
-    subst (PlayBetweenComesTo c.args.project.now c.args.input.now c.args.output.now c.args.around (view c.args.folder.now) (view c.edges_of.new.folder)) (sym (e.1 ∙ ap Err e.2))
-    (between_unheard c.args.project.now c.args.input.now c.args.output.now c.args.around (view c.args.folder.now) (view c.edges_of.new.folder) (c.edges_of.ensures.same ∙ opened) sound
+    subst (PlayBetweenComesTo (head_of c.args.asked.is_wide 0) c.args.project.now c.args.input.now c.args.output.now c.args.asked.around (view c.args.folder.now) (view c.edges_of.new.folder)) (sym (e.1 ∙ ap Err e.2))
+    (between_unheard (head_of c.args.asked.is_wide 0) c.args.project.now c.args.input.now c.args.output.now c.args.asked.around (view c.args.folder.now) (view c.edges_of.new.folder) (c.edges_of.ensures.same ∙ opened) sound
     (subst (λ (v : View). DescribesRead c.args.input.now v sound) read c.in_ok-opened.ensures.described) taps (limits g at) fault
-    (subst (λ (v : View). AreUnheard c.args.around v sound taps fault) opened c.in_err-edges.ensures.refused))
+    (subst (λ (v : View). AreUnheard c.args.asked.around v sound taps fault) opened c.in_err-edges.ensures.refused))
 
 -- nothing was changed before
 unchanged : (g : Over) (c : After-join_to g) → g.F.Folder.view c.protect.new.self ≡ g.F.Folder.view c.args.folder.now
@@ -54,15 +55,15 @@ unchanged g c = c.protect.ensures.same ∙ c.edges_of.ensures.same ∙ c.open_wh
 given : (g : Over) (c : After-join_to g) → IsGiven (g.F.Folder.view c.protect.new.self) c.args.input.now (left_of g.F.In.Read.remaining c.in_ok-opened.opened)
 given g c = subst (λ (v : View). IsGiven v c.args.input.now (left_of g.F.In.Read.remaining c.in_ok-opened.opened)) (sym (c.protect.ensures.same ∙ c.edges_of.ensures.same ∙ c.open_whole.ensures.same)) c.in_ok-opened.ensures.given
 
-whole : (g : Over) (c : After-join_to g) → (let e = c.in_ok-edges.edges in AreWhole c.args.around (g.F.Folder.view c.args.folder.now) e.rate c.in_ok-taps.taps (edge_channels e e.before.items) (edge_channels e e.after.items))
+whole : (g : Over) (c : After-join_to g) → (let e = c.in_ok-edges.edges in AreWhole c.args.asked.around (g.F.Folder.view c.args.folder.now) e.rate c.in_ok-taps.taps (edge_channels e e.before.items) (edge_channels e e.after.items))
 whole g c =
     let view = g.F.Folder.view in
     let taps = c.in_ok-taps.taps in
     let sound = c.in_ok-opened.opened.sound in
     let text = c.in_ok-project.project.items in
     let own = subst (λ text. SaysDecimator text taps) c.deref.ensures.value c.in_ok-taps.ensures.found in
-    whole_around c.args.around (view c.args.folder.now) sound taps (limits_said text taps own) c.in_ok-edges.edges
-    (subst (λ (v : View). AreHeard c.args.around v sound taps c.in_ok-edges.edges) (c.open_whole.ensures.same ∙ c.read_project.ensures.same) c.in_ok-edges.ensures.heard)
+    whole_around c.args.asked.around (view c.args.folder.now) sound taps (limits_said text taps own) c.in_ok-edges.edges
+    (subst (λ (v : View). AreHeard c.args.asked.around v sound taps c.in_ok-edges.edges) (c.open_whole.ensures.same ∙ c.read_project.ensures.same) c.in_ok-edges.ensures.heard)
 
 pub returns-in_err-join_to : goal.returns-in_err-join_to
 returns-in_err-join_to g c =
@@ -72,8 +73,8 @@ returns-in_err-join_to g c =
     let e = err_from_is_err_and c.from_residual-in_err-join_to.result c.from_residual-in_err-join_to.ensures.1 in
     let edges = c.in_ok-edges.edges in
     let own = subst (λ text. SaysDecimator text c.in_ok-taps.taps) c.deref.ensures.value c.in_ok-taps.ensures.found in
-    subst (PlayBetweenComesTo c.args.project.now c.args.input.now c.args.output.now c.args.around (view c.args.folder.now) (view c.join_to.new.folder)) (sym (e.1 ∙ ap Err e.2))
-    (between_fails c.args.project.now c.args.input.now c.args.output.now c.in_ok-project.project.items c.args.around (view c.args.folder.now) (view c.protect.new.self) (view c.join_to.new.folder) c.in_ok-taps.taps edges.rate (edge_channels edges edges.before.items) (edge_channels edges edges.after.items) c.in_ok-project.ensures.bytes own
+    subst (PlayBetweenComesTo (head_of c.args.asked.is_wide 0) c.args.project.now c.args.input.now c.args.output.now c.args.asked.around (view c.args.folder.now) (view c.join_to.new.folder)) (sym (e.1 ∙ ap Err e.2))
+    (between_fails (head_of c.args.asked.is_wide 0) c.args.project.now c.args.input.now c.args.output.now c.in_ok-project.project.items c.args.asked.around (view c.args.folder.now) (view c.protect.new.self) (view c.join_to.new.folder) c.in_ok-taps.taps edges.rate (edge_channels edges edges.before.items) (edge_channels edges edges.after.items) c.in_ok-project.ensures.bytes own
     (whole g at) (unchanged g at) fault (c.in_err-join_to.ensures c.args.input.now (given g at)))
 
 pub returns : goal.returns
@@ -82,5 +83,5 @@ returns g c =
     let view = g.F.Folder.view in
     let edges = c.in_ok-edges.edges in
     let own = subst (λ text. SaysDecimator text c.in_ok-taps.taps) c.deref.ensures.value c.in_ok-taps.ensures.found in
-    between_ends c.args.project.now c.args.input.now c.args.output.now c.in_ok-project.project.items c.args.around (view c.args.folder.now) (view c.protect.new.self) (view c.join_to.new.folder) c.in_ok-taps.taps edges.rate (edge_channels edges edges.before.items) (edge_channels edges edges.after.items) c.in_ok-project.ensures.bytes own
+    between_ends (head_of c.args.asked.is_wide 0) c.args.project.now c.args.input.now c.args.output.now c.in_ok-project.project.items c.args.asked.around (view c.args.folder.now) (view c.protect.new.self) (view c.join_to.new.folder) c.in_ok-taps.taps edges.rate (edge_channels edges edges.before.items) (edge_channels edges edges.after.items) c.in_ok-project.ensures.bytes own
     (whole g at) (unchanged g at) c.in_ok-join_to.field-0 (c.in_ok-join_to.ensures c.args.input.now (given g at))

@@ -59,7 +59,7 @@ READ = (
 )
 
 NO_PCM = "its samples are not integers of 24 bits, as those of DoP are: it is no DoP, or was changed"
-NO_MARKER = "does not have the marker of DoP: it is no DoP, or its samples were changed, as by a volume"
+NO_MARKER = "does not have the marker of DoP: it is no DoP, or its samples were changed, as by a volume control"
 NO_FORMAT = 'it has no whole chunk "fmt " before its samples: fetch it again'
 NO_COUNT = 'its chunk "DoPn" with the number of bits is not whole: fetch it again'
 NO_END = 'its chunk "DoPn" says that each channel has {} bits, which do not end in the last frame'

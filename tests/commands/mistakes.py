@@ -17,6 +17,7 @@ from tests.commands.small_files import (
     LEAST,
     MARKED,
     MASTER,
+    MENDED,
     NINE,
     RATE,
     TITLED,
@@ -56,12 +57,12 @@ FILES = (
         "UnknownForm",
         'it begins with "FRM8", but as a form of the type "DST ", not "DSD "',
     ),
-    (FILE[:126], "Dsdiff FormCut", "the file ends 2 bytes early, at byte 126: fetch it again"),
-    (LONG_CUT, "Dsdiff FormCut", "the file ends 153 kB early, at byte 2,000,000: fetch it again"),
+    (FILE[:126], "Dsdiff FormCut", f"the file ends 2 bytes early, at byte 126: {MENDED}"),
+    (LONG_CUT, "Dsdiff FormCut", f"the file ends 153 kB early, at byte 2,000,000: {MENDED}"),
     (
         changed(FILE, 125, 100),
         "Dsdiff Chunk DataCut 114",
-        'the chunk "DSD " at byte 114 has 100 bytes by its size, past the end of what holds it: fetch it again',
+        'the chunk "DSD " at byte 114 has 100 bytes by its size, past the end of what holds it: ' + MENDED,
     ),
     (
         changed(FILE, 96, ord("T")),
@@ -93,7 +94,7 @@ FILES = (
     (
         stereo(b"\xf0"),
         "Dsdiff PartFrame",
-        "its sound has 1 byte for 2 channels, which leaves 1 byte: fetch it again",
+        f"its sound has 1 byte for 2 channels, which leaves 1 byte: {MENDED}",
     ),
     (LEAST[:91], "Dsf HeadCut", "the file ends inside its headers, at byte 91: fetch it again"),
     (b"DSD ", "Dsf HeadCut", "the file ends inside its headers, at byte 4: fetch it again"),
@@ -104,17 +105,18 @@ FILES = (
     (
         dsf(1, 1, b"\x0f", size=4095),
         "Dsf DataCut",
-        "only the fill of the last block is missing (1 byte): tools/mend_dsf IN OUT writes a copy that can be read",
+        "only the fill of the last block is missing (1 byte): dsdarc-mend IN OUT writes a copy that can be read",
     ),
     (
         dsf(1, 32_768, b"\x0f", size=4000),
         "Dsf DataCut",
-        'its chunk "data" says that it holds 4,000 bytes, and its bits need 4,096 bytes',
+        f'its chunk "data" says that it holds 4,000 bytes, and its bits need 4,096 bytes: {MENDED}',
     ),
     (
         LEAST[:20] + struct.pack("<Q", 5000) + LEAST[28:],
         "Dsf BadPointer",
-        "its tag is said to begin at byte 5,000; the sound ends at 4,188, and the file at 4,188: write the tag anew",
+        "its tag is said to begin at byte 5,000; the sound ends at 4,188, and the file at 4,188: dsdarc-mend IN OUT looks "
+        "for it",
     ),
 )
 
@@ -419,7 +421,7 @@ SUMS: tuple[Any, ...] = (
         {"in": FILE[:126]},
         ["sum", "in"],
         "FileUnread Dsdiff FormCut  in",
-        "in (FILE): the file ends 2 bytes early, at byte 126: fetch it again",
+        f"in (FILE): the file ends 2 bytes early, at byte 126: {MENDED}",
         "",
     ),
     ({}, JUDGE, "ReadFailed  list", "list (LIST): No such file or directory", ""),
@@ -532,8 +534,7 @@ WRONG_USES: tuple[Any, ...] = (
     ),
     ("play --previous a --from 1 p.toml in.dff out", f"--from and --previous can't be together{PLAY_USAGE}"),
     ("play --next=a --dop in.dff out", f"--dop and --next can't be together{PLAY_USAGE}"),
-    ("play --next a --speakers p.toml in.dff out", f"--next and --speakers can't be together{PLAY_USAGE}"),
-    ("play --rf64 --previous a p.toml in.dff out", f"--previous and --rf64 can't be together{PLAY_USAGE}"),
+    ("play --rf64 --next a --to 1 p.toml in.dff out", f"--to and --next can't be together{PLAY_USAGE}"),
     ("play --rf64 --dop in.dff out", f"--dop and --rf64 can't be together{PLAY_USAGE}"),
     ("play --rf64 p.toml in.dff out --rf64", f"--rf64 is named twice{PLAY_USAGE}"),
     ("play --rf46 p.toml in.dff out", "--rf46 is no option of play; did you mean --rf64?"),
@@ -622,7 +623,7 @@ REJECTED = (
         FILE[:126],
         FREE,
         "MasterUnread",
-        "m.dff (MASTER): the file ends 2 bytes early, at byte 126: fetch it again",
+        f"m.dff (MASTER): the file ends 2 bytes early, at byte 126: {MENDED}",
     ),
     (
         splice([1, 1]),

@@ -4,6 +4,7 @@ from collections.abc import Iterator
 from dsdarc_scripts.dsdiffs import dsdiff
 from tests.commands.nulls import A, B, FIRST, FLIPPED, LOUD, PLAIN, RATE, accepted, bits_of, mix_text, stretch_line
 from tests.commands import nulls
+from tests.commands.small_files import MENDED
 
 # A mix, line by line.
 TEXT = b"""[mix]
@@ -246,7 +247,7 @@ def rejections() -> Iterator[Row]:
             text,
             ONE[:-2],
             "rejected MasterUnread",
-            "m.dff (MASTER): the file ends 2 bytes early, at byte 126: fetch it again",
+            f"m.dff (MASTER): the file ends 2 bytes early, at byte 126: {MENDED}",
         ),
     ):
         yield {"a.dff": ONE, "m.dff": master, "x.toml": mix}, TEST, 1, line, why

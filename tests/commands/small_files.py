@@ -9,6 +9,9 @@ from tests.fuzz.bases import LAYOUTS, chunk_bytes, decimate_text, splice_text
 
 RATE = 2_822_400
 
+# What is advised for a file that is not whole.
+MENDED = "fetch it again, or dsdarc-mend IN OUT keeps what is there"
+
 
 def mono(sound: bytes, more: bytes = b"") -> bytes:
     """A DSDIFF file of one channel."""

@@ -101,7 +101,8 @@ const CUT: &str = "its samples have {b0} by their size, and {b1} are there: fetc
 const PART: &str = "its samples do not end with a whole frame: fetch it again";
 
 const MARKER: &str =
-    "frame {c0} does not have the marker of DoP: it is no DoP, or its samples were changed, as by a volume";
+    "frame {c0} does not have the marker of DoP: it is no DoP, or its samples were changed, as by a volume \
+     control";
 
 const COUNT_CUT: &str = "its chunk \"DoPn\" with the number of bits is not whole: fetch it again";
 

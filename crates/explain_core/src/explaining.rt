@@ -226,4 +226,4 @@ const LARGE_PART: &str =
     " would make a WAVE file of more than 4,294 MB: make it RF64 by --rf64, or name shorter parts";
 
 const LARGE_BETWEEN: &str =
-    " would make a WAVE file of more than 4,294 MB: choose a filter for a lower rate or 16 bits";
+    " would make a WAVE file of more than 4,294 MB: make it RF64 by --rf64, or choose a filter for a lower rate or 16 bits";

@@ -107,8 +107,8 @@ fn said_of_cut(cut: CutSound) -> Said {
     let missing = cut.needed.saturating_sub(cut.there);
     let text = match cut.stated {
         _ if missing <= cut.fill => FILL,
-        true => "its chunk \"data\" says that it holds {b1}, and its bits need {b2}",
-        false => "the file ends {b0} early: fetch it again",
+        true => FEW,
+        false => SHORT,
     };
     (text, NO_ID, [missing, cut.there, cut.needed])
 }
@@ -123,18 +123,22 @@ const BITS_MOST: u64 = MOST_BITS as u64;
 
 const BLOCK: u64 = BLOCK_BYTES as u64;
 
-const NO_FORM: &str = "its form has {b0} by its size, so no chunk";
+const NO_FORM: &str =
+    "its form has {b0} by its size, so no chunk: dsdarc-mend IN OUT keeps what is there";
 
-const EARLY: &str = "the file ends {b0} early, at byte {c1}: fetch it again";
+const EARLY: &str =
+    "the file ends {b0} early, at byte {c1}: fetch it again, or dsdarc-mend IN OUT keeps what is there";
 
 const NO_VERSION: &str = "its first chunk is {i0}, not \"FVER\" with a version";
 
 const VERSION: &str = "its version is {v0}, and only 1 is known: write it anew as DSDIFF 1.5";
 
-const HEAD_CUT: &str = "the head of the chunk at byte {c0} is not whole: fetch it again";
+const HEAD_CUT: &str =
+    "the head of the chunk at byte {c0} is not whole: fetch it again, or dsdarc-mend IN OUT keeps what is there";
 
 const DATA_CUT: &str =
-    "the chunk {i0} at byte {c0} has {b1} by its size, past the end of what holds it: fetch it again";
+    "the chunk {i0} at byte {c0} has {b1} by its size, past the end of what holds it: fetch it again, \
+     or dsdarc-mend IN OUT keeps what is there";
 
 const MARK: &str = "a mark (MARK) is shorter than its fields or the text that it names";
 
@@ -154,7 +158,8 @@ const LONG: &str = "it has {c0} bits per channel, and {c1} are the most";
 
 const BEFORE: &str = "its sound is before the chunk \"PROP\": write it anew";
 
-const PART: &str = "its sound has {b0} for {n1} channels, which leaves {b2}: fetch it again";
+const PART: &str =
+    "its sound has {b0} for {n1} channels, which leaves {b2}: fetch it again, or dsdarc-mend IN OUT keeps what is there";
 
 const CUT: &str = "the file ends inside its headers, at byte {c0}: fetch it again";
 
@@ -173,10 +178,18 @@ const THIRD: &str = "its third chunk is {i0} with {b0}, not \"data\" with 12 or 
 const KIND: &str = "its format is {n0}, and only 0 (raw sound) is known";
 
 const TAG: &str =
-    "its tag is said to begin at byte {c0}; the sound ends at {c1}: write the tag anew";
+    "its tag is said to begin at byte {c0}; the sound ends at {c1}: dsdarc-mend IN OUT looks for it";
 
 const TAG_IN: &str =
-    "its tag is said to begin at byte {c0}; the sound ends at {c1}, and the file at {c2}: write the tag anew";
+    "its tag is said to begin at byte {c0}; the sound ends at {c1}, and the file at {c2}: dsdarc-mend IN OUT looks \
+     for it";
+
+const FEW: &str =
+    "its chunk \"data\" says that it holds {b1}, and its bits need {b2}: fetch it again, or dsdarc-mend IN OUT keeps \
+     what is there";
+
+const SHORT: &str =
+    "the file ends {b0} early: fetch it again, or dsdarc-mend IN OUT keeps what is there";
 
 const FILL: &str =
-    "only the fill of the last block is missing ({b0}): tools/mend_dsf IN OUT writes a copy that can be read";
+    "only the fill of the last block is missing ({b0}): dsdarc-mend IN OUT writes a copy that can be read";

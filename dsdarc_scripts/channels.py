@@ -16,6 +16,10 @@ from dsdarc_scripts.outputs import Refused
 BLOCK = 4096
 MOST_CHANNELS = 6
 TURNED = bytes(int(f"{byte:08b}"[::-1], 2) for byte in range(256))
+# The IDs that DSDIFF has for the loudspeakers of a DSF file's channels, and for those of its channel type 5.
+FRONT, BACK, LOW = ("MLFT", "MRGT", "C   "), ("LS  ", "RS  "), ("LFE ",)
+SPEAKERS = {1: FRONT[2:], 2: ("SLFT", "SRGT"), 3: FRONT, 4: FRONT[:2] + BACK, 5: FRONT + BACK, 6: FRONT + LOW + BACK}
+FRONT_TYPE = 5
 
 
 class Unread(Refused):
@@ -24,7 +28,8 @@ class Unread(Refused):
 
 @dataclasses.dataclass
 class Sound:
-    """What a file's sound is and where it is: `width` bits per sample in blocks, or `None` in DSDIFF."""
+    """What a file's sound is and where it is: `width` bits per sample in blocks, or `None` in DSDIFF. `ids` has the IDs of
+    its channels, four bytes each, of a DSF file those of its loudspeakers."""
 
     rate: int
     count: int
@@ -32,6 +37,7 @@ class Sound:
     width: int | None
     start: int
     stop: int
+    ids: bytes = b""
 
 
 def take(file: BinaryIO, count: int) -> bytes:
@@ -61,11 +67,11 @@ def chunks(data: bytes) -> Iterator[tuple[bytes, bytes]]:
         at += 12 + size + size % 2
 
 
-def property_of(data: bytes) -> tuple[int, int]:
-    """Rate and number of channels of a sound's PROP."""
+def property_of(data: bytes) -> tuple[int, int, bytes]:
+    """Rate, number of channels and their IDs of a sound's PROP."""
     found = dict(chunks(data[4:]))
-    rate = struct.unpack_from(">I", found[b"FS  "])[0]
-    return rate, struct.unpack_from(">H", found[b"CHNL"])[0]
+    rate, count = struct.unpack_from(">I", found[b"FS  "])[0], struct.unpack_from(">H", found[b"CHNL"])[0]
+    return rate, count, found[b"CHNL"][2 : 2 + 4 * count]
 
 
 def dsdiff_sound(file: BinaryIO) -> Sound:
@@ -86,8 +92,8 @@ def dsdiff_sound(file: BinaryIO) -> Sound:
             skip(file, size + size % 2)
     if shape is None:
         raise Unread("the sound comes before its property")
-    rate, count = shape
-    return Sound(rate, count, size // count * 8, None, file.tell(), file.tell() + size)
+    rate, count, ids = shape
+    return Sound(rate, count, size // count * 8, None, file.tell(), file.tell() + size, ids)
 
 
 def dsf_sound(file: BinaryIO) -> Sound:
@@ -96,12 +102,15 @@ def dsf_sound(file: BinaryIO) -> Sound:
     if name != b"fmt ":
         raise Unread("it has no format")
     fields = take(file, size - 12)
-    _, _, _, count, rate, width, bits, block = struct.unpack_from("<IIIIIIQI", fields)
+    _, _, kind, count, rate, width, bits, block = struct.unpack_from("<IIIIIIQI", fields)
     if block != BLOCK:
         raise Unread("its blocks have another size")
     take(file, 12)
     groups = -(-bits // (8 * BLOCK))
-    return Sound(rate, count, bits, width, file.tell(), file.tell() + groups * count * BLOCK)
+    speakers = FRONT + LOW if (kind, count) == (FRONT_TYPE, 4) else SPEAKERS.get(count, ())
+    return Sound(
+        rate, count, bits, width, file.tell(), file.tell() + groups * count * BLOCK, "".join(speakers).encode()
+    )
 
 
 def sound_of(file: BinaryIO) -> Sound:

@@ -3,11 +3,10 @@ import dataclasses
 import functools
 import os
 import struct
-import tomllib
 from typing import Any
 
 from cuts import albums
-from dsdarc_scripts import outputs
+from dsdarc_scripts import outputs, project_texts
 
 # What a chunk of a DSDIFF form has that isn't whole, or a file that ends too early.
 BROKEN = (outputs.Refused, struct.error, OSError)
@@ -105,8 +104,9 @@ def by_tracks(
     for key, entry in files.items():
         try:
             tracks = tracks_of(os.path.join(archive, entry["name"]))
-        except outputs.Refused as why:
-            refused.append((entry["name"], f"no tracks: {why}"))
+        except BROKEN as why:
+            said = outputs.reason_of(why) if isinstance(why, OSError) else str(why)
+            refused.append((entry["name"], f"no tracks: {said}"))
             continue
         if tracks:
             jobs |= {f"{key}-{number}": job for number, job in of_tracks(entry, tracks, ending).items()}
@@ -118,8 +118,7 @@ def by_tracks(
 @functools.lru_cache
 def factor_of(path: str) -> int:
     """How many bits of a file make a frame, by a filter."""
-    with open(path, "rb") as file:
-        return tomllib.load(file)["decimate"]["factor"]
+    return project_texts.read_decimate(path)["factor"]
 
 
 def options_of(job: Job, filter_path: str) -> str:

@@ -12,7 +12,9 @@
  *
  * Tags say how long the sound is, and the bits of a second of the file. If the file is one of this system, they have also
  * what GStreamer reads of its ID3 tag: title, artist, album, cover and others. The tag comes after the sound, and the
- * elements before give the sound first; so it is read in the file that they name. */
+ * elements before give the sound first; so it is read in the file that they name.
+ *
+ * Channels are in the order of the loudspeakers, as of `play --speakers`, and the caps name these. */
 #include <dsdarc.h>
 #include <fcntl.h>
 #include <gst/gst.h>
@@ -20,6 +22,7 @@
 #include <stdio.h>
 #include <string.h>
 
+#include "speakers.h"
 #include "tags.h"
 
 #define PACKAGE "dsdarc"
@@ -38,7 +41,7 @@ typedef struct {
     GByteArray *front; /* what comes before the sound */
     guint64 place;     /* the next byte of the file */
     dsdarc_info info;
-    guint32 mask;            /* the loudspeakers of the channels, if the file names them */
+    speaker_order order; /* of the channels, and their loudspeakers */
     gboolean announced, dropping; /* what was sent before a seek is dropped */
     gboolean stopped;        /* the next element wants no more */
     gboolean expects_end;    /* the end of a segment was reported: what ends then isn't the stream */
@@ -205,8 +208,8 @@ static void announce(DsdarcDec *dec) {
                                         "rate", G_TYPE_INT, (int)dec->info.rate, "channels", G_TYPE_INT,
                                         (int)dec->info.channels, "layout", G_TYPE_STRING, "interleaved", NULL);
     /* More than two channels have a mask always: 0 says that they belong to no loudspeakers. */
-    if (dec->info.channels > 2 || (dec->info.channels == 2 && dec->mask != 0))
-        gst_caps_set_simple(caps, "channel-mask", GST_TYPE_BITMASK, (guint64)dec->mask, NULL);
+    if (dec->info.channels > 2 || (dec->info.channels == 2 && dec->order.mask != 0))
+        gst_caps_set_simple(caps, "channel-mask", GST_TYPE_BITMASK, (guint64)dec->order.mask, NULL);
     gst_pad_push_event(dec->src, gst_event_new_caps(caps));
     gst_caps_unref(caps);
     dec->last = dec->info.frames;
@@ -247,6 +250,7 @@ static GstFlowReturn give(DsdarcDec *dec) {
         buffer = gst_buffer_new_allocate(NULL, FRAMES * frame, NULL);
         gst_buffer_map(buffer, &map, GST_MAP_WRITE);
         dsdarc_player_pull(dec->player, map.data, left < FRAMES ? (gsize)left : FRAMES, DSDARC_PACKED, &given);
+        speakers_put(&dec->order, map.data, given, dec->info.width / 8);
         gst_buffer_unmap(buffer, &map);
         if (given == 0) return gst_buffer_unref(buffer), GST_FLOW_OK;
         gst_buffer_set_size(buffer, (gssize)(given * frame));
@@ -267,7 +271,7 @@ static GstFlowReturn begin(DsdarcDec *dec, const guint8 *bytes, gsize size) {
     if (dsdarc_player_describe(dec->player, &file, sizeof file) != DSDARC_OK) return GST_FLOW_OK;
     if ((flow = choose(dec, file.rate_in)) != GST_FLOW_OK) return flow;
     dsdarc_player_info(dec->player, &dec->info);
-    dec->mask = file.mask;
+    dec->order = speakers_of(&file);
     announce(dec);
     return GST_FLOW_OK;
 }
@@ -484,7 +488,7 @@ static void reset(DsdarcDec *dec) {
     gst_segment_init(&dec->segment, GST_FORMAT_TIME);
     dec->announced = dec->dropping = dec->stopped = dec->expects_end = dec->keeps = FALSE;
     dec->frame = dec->last = dec->place = 0;
-    dec->mask = 0;
+    memset(&dec->order, 0, sizeof dec->order);
     dec->seek_number = GST_SEQNUM_INVALID;
 }
 

@@ -10,8 +10,9 @@
  * DSDARC_FILTERS names, by its index, and those that the library has.
  *
  * mpv gets a file as a stream `dsdarc://`, which is a WAVE file that isn't there: its header, the tag of the file, and the
- * frames. A seek goes to the byte that mpv asks for. A file that the library refuses, and one for whose rate there is no
- * such filter, is left to mpv, and a line says so. */
+ * frames. Channels are in the order of the loudspeakers, as of `play --speakers`, and the header names these. A seek goes to
+ * the byte that mpv asks for. A file that the library refuses, and one for whose rate there is no such filter, is left to
+ * mpv, and a line says so. */
 #define _GNU_SOURCE
 #include <dsdarc.h>
 #include <fcntl.h>
@@ -20,6 +21,7 @@
 #include <stdio.h>
 #include <stdlib.h>
 
+#include "speakers.h"
 #include "tags.h"
 
 #define SCHEME "dsdarc://"
@@ -31,6 +33,7 @@ typedef struct {
     int file;
     dsdarc_player *player;
     dsdarc_description known;    /* what the file holds */
+    speaker_order order;         /* of its channels */
     dsdarc_info info;            /* what is played, once a filter is chosen */
     uint64_t offset;             /* of the next byte that is read of the file */
     unsigned char bytes[65536];
@@ -89,6 +92,7 @@ static stream *opened(const char *path) {
     if (it->file < 0 || dsdarc_player_new_empty(&it->player) != DSDARC_OK) return leave(it), NULL;
     while (dsdarc_player_describe(it->player, &it->known, sizeof it->known) != DSDARC_OK)
         if (push(it) <= 0) return leave(it), NULL;
+    it->order = speakers_of(&it->known);
     return it;
 }
 
@@ -155,7 +159,7 @@ static int describe(stream *it) {
     at = put(put(put(put(at, "", 0, 8), "", size, 8), "", it->info.frames, 8), "", 0, 4);
     at = put(put(put(at, "fmt ", 40, 4), "", 0xfffe, 2), "", channels, 2);
     at = put(put(put(at, "", it->info.rate, 4), "", it->info.rate * frame, 4), "", frame, 2);
-    at = put(put(put(put(put(at, "", width, 2), "", 22, 2), "", width, 2), "", it->known.mask, 4), "", 1, 2);
+    at = put(put(put(put(put(at, "", width, 2), "", 22, 2), "", width, 2), "", it->order.mask, 4), "", 1, 2);
     memcpy(at, rest, 14);
     at += 14;
     if (tag.size > 0) {
@@ -190,6 +194,7 @@ static int pull(stream *it) {
         if ((status = push(it)) < 0) return -1;
         if (status == 0) return 0;
     }
+    speakers_put(&it->order, it->frames, frames, it->info.width / 8);
     it->given = frames * (size_t)it->frame_size;
     it->taken = before;
     return 1;

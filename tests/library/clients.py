@@ -10,8 +10,9 @@ import subprocess
 import zlib
 from typing import Any
 
+from dsdarc_scripts import waves
 from dsdarc_scripts.dsdiffs import chunk, dsdiff
-from tests.helpers.trials import ROOT, demand, get
+from tests.helpers.trials import ROOT, demand, get, put
 from tests.helpers.trials import said as run
 from tests.library.bitwise import wanted
 from tests.library.playing import BUILT, PROGRAM, compiled, frames_of
@@ -23,6 +24,7 @@ def try_clients(folder: str, *last: Any) -> None:
     if os.path.exists("/usr/include/alsa/asoundlib.h"):
         try_player(folder, *last)
         try_album(folder)
+        try_lists(folder)
     else:
         print("left out: dsdarcplay, as libasound2-dev isn't installed")
     status, flags = run("pkg-config", "--cflags", "--libs", "gobject-2.0")
@@ -68,13 +70,38 @@ def try_player(folder: str, dff: str, dsf: str, filter: str, frames: bytes, alig
     done = subprocess.run(command, input=get(dff), capture_output=True, check=False)
     is_reported = done.returncode == 1 and b"/dev/stdin: Illegal seek" in done.stderr
     demand(is_reported, f"dsdarcplay: a pipe from {second} s: {done}")
-    for start in ("1:30", "abc", "", "-1", "nan", "inf", "1e300"):
-        status, said = run(player, "-D", "raw", "-s", start, filter, dff)
-        is_right = status == 2 and said == "dsdarcplay [-D DEVICE] [-s SECONDS] FILTER|--dop|--native FILE..\n"
-        demand(is_right, f"dsdarcplay: from {start!r}: status {status}, {said}")
-    for given, why in (((filter, folder), "Is a directory"), ((folder, dff), "it can't be read")):
-        status, said = run(player, "-D", "raw", *given)
-        demand(status == 1 and said == f"dsdarcplay: {folder}: {why}\n", f"dsdarcplay: a folder: {status}, {said}")
+    try_arguments(folder, player, filter, dff)
+
+
+def try_arguments(folder: str, player: str, filter: str, name: str) -> None:
+    """Wrong arguments, a filter that is none and a device that isn't there have one line each."""
+    usage = "dsdarcplay [-D DEVICE] [-s SECONDS] FILTER|--dop|--native FILE.."
+    wrong: dict[str, list[list[str]]] = {
+        "-s has no value": [[filter, name, "-s"]],
+        "the filter is missing": [[], ["-D", "raw"]],
+        "FILE is missing": [[filter], ["--dop"]],
+        "--dop and --native don't go together": [["--dop", "--native", name], [filter, "--native", name, "--dop"]],
+        "-s has no number of seconds": [
+            ["-s", it, filter, name] for it in ("1:30", "abc", "", "-1", "nan", "inf", "1e300")
+        ],
+        **{f"{it} is no option": [[it, filter, name], [filter, name, it]] for it in ("--dsd", "-x", "--help")},
+    }
+    for why, all_given in wrong.items():
+        for given in all_given:
+            status, said = run(player, *given)
+            is_line = status == 2 and said == f"dsdarcplay: {why}: {usage}\n"
+            demand(is_line, f"dsdarcplay: {given}: status {status}, {said}")
+    for words, line in (
+        ([filter, folder], f"{folder}: Is a directory"),
+        ([folder, name], f"{folder}: it can't be read"),
+        ([name, name, name], f"{name}: it is no filter (NotToml)"),
+    ):
+        status, said = run(player, "-D", "raw", *words)
+        demand((status, said) == (1, f"dsdarcplay: {line}\n"), f"dsdarcplay: {words}: {status}, {said}")
+    for kind in (filter, "--dop", "--native"):
+        status, said = run(player, "-D", "none", kind, name, name)
+        is_line = re.fullmatch(r"dsdarcplay: none: [A-Z][^\n]+\n", said) is not None
+        demand(status == 1 and is_line, f"dsdarcplay: no device, {kind}: {status}, {said}")
 
 
 def album(folder: str) -> tuple[list[str], bytes]:
@@ -103,11 +130,7 @@ def try_album(folder: str) -> None:
     demand(status == 0 and get(out) == shifted(wanted("dop", whole)[0]), f"alsadop: other samples: {status}, {said}")
     for kind in ("dop", "native"):
         status, said = run(player, "-D", "raw", f"--{kind}", *files)
-        bits, align = wanted("dop" if kind == "dop" else "msb", whole)
-        if kind == "native":  # 32 bits of each channel at a time
-            bits += bytes([0x69]) * (-len(bits) % (4 * align))
-            frames = [bits[at : at + 4 * align] for at in range(0, len(bits), 4 * align)]
-            bits = b"".join(frame[channel::align] for frame in frames for channel in range(align))
+        bits = wanted("dop", whole)[0] if kind == "dop" else native(whole)
         demand(status == 0 and get(out) == bits, f"dsdarcplay: other bits of files: {kind}, {status}, {said}")
     name, wave = os.path.join(folder, "album.dff"), os.path.join(folder, "album.wav")
     with open(name, "wb") as file:
@@ -123,6 +146,61 @@ def try_album(folder: str) -> None:
         file.write(dsdiff(2_822_400, 1, bytes(5000)))
     status, said = run(player, "-D", "raw", "--dop", files[0], other)
     demand(status == 0 and get(out) == wanted("dop", get(other))[0], f"dsdarcplay: a file of one channel: {said}")
+
+
+def native(data: bytes) -> bytes:
+    """The bits of a DSDIFF file as a device takes them, 32 of each channel at a time."""
+    bits, align = wanted("msb", data)
+    bits += bytes([0x69]) * (-len(bits) % (4 * align))
+    frames = [bits[at : at + 4 * align] for at in range(0, len(bits), 4 * align)]
+    return b"".join(frame[channel::align] for frame in frames for channel in range(align))
+
+
+def samples_of(folder: str, kind: str, sounds: list[bytes]) -> bytes:
+    """What a device gets of files with these sounds that are played as one recording."""
+    whole = dsdiff(2_822_400, 2, b"".join(sounds))
+    if not sounds or kind in ("--dop", "--native"):
+        return b"" if not sounds else native(whole) if kind == "--native" else wanted("dop", whole)[0]
+    name, wave = os.path.join(folder, "row.dff"), os.path.join(folder, "row.wav")
+    put(name, whole)
+    run(PROGRAM, "play", os.path.join(ROOT, "filters", "dsd64-to-88200-24.toml"), name, wave)
+    return frames_of(get(wave))[0]
+
+
+def try_lists(folder: str) -> None:
+    """Of each file that can't be played a line says why. Those before it and those after it are played whole, each as a
+    recording of their own."""
+    player, out = os.path.join(folder, "dsdarcplay"), os.path.join(folder, "all.pcm")
+    with open(os.path.join(folder, "asoundrc"), "a", encoding="utf-8") as config:
+        config.write(f'pcm.all {{ type file slave.pcm n file "|cat >>{out}" format "raw" }}\n')
+    chance = random.Random(8)
+    sounds = [chance.randbytes(2 * size) for size in (9001, 20_002, 5003)]
+    files = [os.path.join(folder, f"list{number}.dff") for number in range(3)]
+    for name, sound in zip(files, sounds):
+        put(name, dsdiff(2_822_400, 2, sound))
+    first = get(files[0])
+    bad = {"text": b"no recording " * 9, "head": first[:30], "empty": b"", "cut": first[:-4000], "none": None}
+    refused = "it isn't a whole DSDIFF or DSF recording: dsdarc info says what is wrong"
+    for kind in ("--dop", "--native", "88200/24", os.path.join(ROOT, "filters", "dsd64-to-88200-24.toml")):
+        for which, data in bad.items():
+            name = os.path.join(folder, f"{which}.dff")
+            if data is not None:
+                put(name, data)
+            why = "it can't be read" if data is None else refused
+            line = f"dsdarcplay: {name}: {why}\n"
+            for before, count, after in ((1, 1, 2), (0, 1, 3), (2, 2, 1), (3, 1, 0)):
+                put(out, b"")
+                names = [*files[:before], *[name] * count, *files[3 - after :]]
+                status, said = run(player, "-D", "all", kind, *names)
+                demand((status, said) == (1, line * count), f"dsdarcplay: {kind}, {names}: {status}, {said}")
+                rest, heard = samples_of(folder, kind, sounds[3 - after :]), get(out)
+                front, whole = heard[: len(heard) - len(rest)], samples_of(folder, kind, sounds[:before])
+                if which == "cut":  # what is there of it belongs to the recording
+                    is_right = samples_of(folder, kind, [*sounds[:before], sounds[0]]).startswith(front[: len(whole)])
+                    is_right &= len(front) >= len(whole)
+                else:
+                    is_right = front == whole
+                demand(is_right and heard.endswith(rest), f"dsdarcplay: other samples of {kind}, {names}")
 
 
 def try_source(folder: str, flags: list[str]) -> None:
@@ -161,6 +239,12 @@ def try_element(folder: str, flags: list[str], dff: str, dsf: str, filter: str, 
     ]
     status, said = run("gst-launch-1.0", "-q", *ways)
     demand(status == 0, f"dsdarcdec: six channels aren't mixed to two: {said}")
+    for name, right, mask in in_orders(folder):
+        ways = ["filesrc", f"location={name}", "!", "dsdarcdec", "filter=88200/24", "!", "filesink", f"location={out}"]
+        status, said = run("gst-launch-1.0", "-v", *ways)
+        demand(status == 0 and get(out) == right, f"dsdarcdec: other channels of {name}: {said[-300:]}")
+        is_named = f"channel-mask=(bitmask)0x{mask:016x}" in said
+        demand(is_named or mask.bit_count() == 1, f"dsdarcdec: other loudspeakers of {name}: {said[-300:]}")
     seek = os.path.join(folder, "seek")
     compiled("tests/library/seek.c", *flags, "-o", seek)
     chance, long = random.Random(3), os.path.join(folder, "long.dff")
@@ -180,6 +264,26 @@ def try_element(folder: str, flags: list[str], dff: str, dsf: str, filter: str, 
     try_stopped(folder, flags, long, out, whole)
     try_tags(folder, long, out, whole)
     try_keys(folder, long, out, whole)
+
+
+SPEAKERS = [b"MLFT", b"MRGT", b"C   ", b"LFE ", b"LS  ", b"RS  "]
+
+
+def in_orders(folder: str) -> list[tuple[str, bytes, int]]:
+    """Files whose channels come in other orders than the loudspeakers, with the frames that `play --speakers` writes and
+    the mask that it names; and files whose channels have none, or two the same."""
+    chance, found = random.Random(6), []
+    filter, wave = os.path.join(ROOT, "filters", "dsd64-to-88200-24.toml"), os.path.join(folder, "speakers.wav")
+    unusual = [b"RS  ", b"LFE ", b"MRGT", b"C   ", b"LS  ", b"MLFT"]
+    orders = [unusual, SPEAKERS, [b"SRGT", b"SLFT"], [b"C   ", b"LFE ", b"MLFT"], [b"XXXX", b"MRGT", b"MLFT"]]
+    orders += [chance.sample(SPEAKERS, count) for count in (1, 3, 4, 5, 6, 6)] + [[b"SLFT", b"MLFT", b"C   "]]
+    for number, ids in enumerate(orders):
+        name = os.path.join(folder, f"speakers{number}.dff")
+        put(name, dsdiff(2_822_400, len(ids), chance.randbytes(20_001 * len(ids)), ids=ids))
+        run(PROGRAM, "play", "--speakers", filter, name, wave)
+        read = waves.read(get(wave))
+        found.append((name, read.samples, read.mask or 0))
+    return found
 
 
 def picture() -> bytes:
@@ -319,13 +423,15 @@ def try_mpv(folder: str) -> None:
     _, said = played(long, "--length=0.1", DSDARC_FILTER="88201/24")
     demand("no such filter for it: mpv plays it by itself" in said, f"mpv: a filter that isn't there: {said[-300:]}")
     six = os.path.join(folder, "six.dff")
-    with open(six, "wb") as file:
-        ids = [b"MLFT", b"MRGT", b"C   ", b"LFE ", b"LS  ", b"RS  "]
-        file.write(dsdiff(2822400, 6, chance.randbytes(6 * 35280), ids=ids))
+    put(six, dsdiff(2822400, 6, chance.randbytes(6 * 35280), ids=SPEAKERS))
     run(PROGRAM, "play", os.path.join(ROOT, "filters", "dsd64-to-44100-16.toml"), six, wave)
     frames, said = played(six, "--audio-channels=auto", DSDARC_FILTER="44100/16")
     is_right = frames == frames_of(get(wave))[0] and "5.1" in said
     demand(is_right, f"mpv: other frames of six channels: {said[-300:]}")
+    for name, right, mask in in_orders(folder):
+        frames, said = played(name, "--audio-channels=auto")
+        is_right = frames == right and ("5.1" in said) == (mask == 0x3F)
+        demand(is_right, f"mpv: other channels of {name}, whose mask is {mask:#x}: {said[-300:]}")
 
 
 def try_keys(folder: str, name: str, out: str, whole: bytes) -> None:

@@ -13,28 +13,11 @@
 #include <string.h>
 #include <sys/mman.h>
 
-static uint64_t state;
-
-static size_t below(size_t n) {
-    state ^= state << 13, state ^= state >> 7, state ^= state << 17;
-    return n ? (size_t)(state % n) : 0;
-}
+#include "reading.h"
 
 static void fail(const char *why, unsigned long run) {
     printf("FOUND: %s in run %lu\n", why, run);
     exit(1);
-}
-
-static unsigned char *whole(const char *name, size_t *size) {
-    FILE *file = fopen(name, "rb");
-    unsigned char *bytes;
-    if (!file || fseek(file, 0, SEEK_END)) exit(3);
-    *size = (size_t)ftell(file);
-    rewind(file);
-    bytes = malloc(*size + 1);
-    if (!bytes || fread(bytes, 1, *size, file) != *size) exit(3);
-    fclose(file);
-    return bytes;
 }
 
 enum { PAGE = 4096, FILL = 0xa5 };

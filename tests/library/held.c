@@ -7,19 +7,9 @@
 #include <stdio.h>
 #include <stdlib.h>
 
-enum { MOST = 65536 };
+#include "reading.h"
 
-static unsigned char *whole(const char *name, size_t *size) {
-    FILE *file = fopen(name, "rb");
-    unsigned char *bytes;
-    if (!file || fseek(file, 0, SEEK_END)) exit(3);
-    *size = (size_t)ftell(file);
-    rewind(file);
-    bytes = malloc(*size + 1);
-    if (!bytes || fread(bytes, 1, *size, file) != *size) exit(3);
-    fclose(file);
-    return bytes;
-}
+enum { MOST = 65536 };
 
 static void forget_touched(void) {
     FILE *file = fopen("/proc/self/clear_refs", "w");

@@ -33,7 +33,7 @@ class Users:
         os.mkdir(folder)
         for name in ("clients", "filters"):
             os.symlink(f"{prefix}/share/dsdarc/{name}", f"{folder}/{name}")
-        for name in ("gstdsdarcdec.c", "mpvdsdarc.c", "tags.h"):
+        for name in ("gstdsdarcdec.c", "mpvdsdarc.c", "speakers.h", "tags.h"):
             os.symlink(f"{prefix}/share/dsdarc/clients/{name}", f"{folder}/{name}")
         shutil.copy(sound, f"{folder}/in.dsf")
         config = 'pcm.n { type null }\npcm.!default { type file slave.pcm n file "heard.pcm" format "raw" }\n'

@@ -8,26 +8,9 @@
 #include <stdlib.h>
 #include <string.h>
 
+#include "reading.h"
+
 enum { MOST = 70000 };
-
-static uint64_t state;
-
-static size_t below(size_t n) {
-    state ^= state << 13, state ^= state >> 7, state ^= state << 17;
-    return n ? (size_t)(state % n) : 0;
-}
-
-static unsigned char *whole(const char *name, size_t *size) {
-    FILE *file = fopen(name, "rb");
-    unsigned char *bytes;
-    if (!file || fseek(file, 0, SEEK_END)) exit(3);
-    *size = (size_t)ftell(file);
-    rewind(file);
-    bytes = malloc(*size + 1);
-    if (!bytes || fread(bytes, 1, *size, file) != *size) exit(3);
-    fclose(file);
-    return bytes;
-}
 
 static int refused(const char *call, dsdarc_status status) {
     if (status != DSDARC_OK) printf("%s %s\n", call, dsdarc_status_text(status));

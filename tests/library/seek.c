@@ -3,16 +3,7 @@
  * While FILE is played to OUT it goes to each frame in turn, PAUSE microseconds after it began or went to the last one,
  * as players do: by a seek that flushes. OUT then holds the frames from the last one on, as GStreamer's filesink begins
  * again after each. The status is 1 where a seek or the playing fails. */
-#include <gst/gst.h>
-#include <stdlib.h>
-
-static GstElement *part(GstElement *pipeline, const char *what, const char *key, const char *value) {
-    GstElement *made = gst_element_factory_make(what, NULL);
-    if (!made) exit(3);
-    if (key) gst_util_set_object_arg(G_OBJECT(made), key, value);
-    gst_bin_add(GST_BIN(pipeline), made);
-    return made;
-}
+#include "pipelines.h"
 
 /* Waits until all that a seek asked for has come, or a fault. */
 static int ended(GstBus *bus, guint32 number) {
@@ -31,50 +22,34 @@ static int ended(GstBus *bus, guint32 number) {
     }
 }
 
+/* Whether the pipeline says that it can seek. */
+static int seeks(playing it) {
+    GstQuery *query = gst_query_new_seeking(GST_FORMAT_TIME);
+    gboolean is_able = TRUE;
+    if (gst_element_query(it.pipeline, query)) gst_query_parse_seeking(query, NULL, &is_able, NULL, NULL);
+    gst_query_unref(query);
+    return is_able;
+}
+
 int main(int count, char **arguments) {
-    GstElement *pipeline, *source, *dec, *sink;
-    GstQuery *query;
-    GstBus *bus;
     guint32 number = 0;
+    playing it;
     int failed;
     gst_init(NULL, NULL);
     if (count < 5) return 3;
-    pipeline = gst_pipeline_new(NULL);
-    source = part(pipeline, "filesrc", "location", arguments[2]);
-    dec = part(pipeline, "dsdarcdec", "filter", arguments[1]);
-    sink = part(pipeline, "filesink", "location", arguments[3]);
-    if (!gst_element_link_many(source, dec, sink, NULL)) return 3;
-    bus = gst_element_get_bus(pipeline);
-    gst_element_set_state(pipeline, GST_STATE_PAUSED);
-    failed = gst_element_get_state(pipeline, NULL, NULL, 30 * GST_SECOND) != GST_STATE_CHANGE_SUCCESS;
-    query = gst_query_new_seeking(GST_FORMAT_TIME);
-    if (!failed && gst_element_query(pipeline, query)) {
-        gboolean is_able;
-        gst_query_parse_seeking(query, NULL, &is_able, NULL, NULL);
-        failed |= !is_able;
-    }
-    gst_query_unref(query);
+    it = paused(arguments[1], arguments[2], arguments[3]);
+    failed = !seeks(it);
     for (int at = 5; at < count && !failed; at++) {
-        GstPad *pad = gst_element_get_static_pad(dec, "src");
-        GstCaps *caps = gst_pad_get_current_caps(pad);
-        gint rate = 0;
-        guint64 time;
-        GstEvent *event;
-        gst_structure_get_int(gst_caps_get_structure(caps, 0), "rate", &rate);
-        gst_caps_unref(caps);
-        gst_object_unref(pad);
-        time = gst_util_uint64_scale(strtoull(arguments[at], NULL, 10), GST_SECOND, (guint64)rate);
-        event = gst_event_new_seek(1.0, GST_FORMAT_TIME, GST_SEEK_FLAG_FLUSH | GST_SEEK_FLAG_ACCURATE, GST_SEEK_TYPE_SET,
-                                   (gint64)time, GST_SEEK_TYPE_NONE, -1);
+        GstSeekFlags flags = GST_SEEK_FLAG_FLUSH | GST_SEEK_FLAG_ACCURATE;
+        GstEvent *event = gst_event_new_seek(1.0, GST_FORMAT_TIME, flags, GST_SEEK_TYPE_SET, time_of(it, arguments[at]),
+                                             GST_SEEK_TYPE_NONE, -1);
         number = gst_event_get_seqnum(event);
-        if (!gst_element_send_event(pipeline, event)) failed = 1;
-        gst_element_set_state(pipeline, GST_STATE_PLAYING);
+        if (!gst_element_send_event(it.pipeline, event)) failed = 1;
+        gst_element_set_state(it.pipeline, GST_STATE_PLAYING);
         g_usleep(strtoull(arguments[4], NULL, 10));
     }
-    gst_element_set_state(pipeline, GST_STATE_PLAYING);
-    failed = failed || ended(bus, number);
-    gst_element_set_state(pipeline, GST_STATE_NULL);
-    gst_object_unref(bus);
-    gst_object_unref(pipeline);
+    gst_element_set_state(it.pipeline, GST_STATE_PLAYING);
+    failed = failed || ended(it.bus, number);
+    stopped(it);
     return failed;
 }

@@ -8,6 +8,8 @@
 #include <stdlib.h>
 #include <string.h>
 
+#include "reading.h"
+
 enum { CHANNELS = 3, MOST = 65536, FRAMES = 1 << 20 };
 
 static int failed;
@@ -17,18 +19,6 @@ static const char *name;
     do { \
         if (!(holds)) printf("FOUND: %s: \"%s\" (line %d)\n", name, sentence, __LINE__), failed = 1; \
     } while (0)
-
-static unsigned char *whole(const char *path, size_t *size) {
-    FILE *file = fopen(path, "rb");
-    unsigned char *bytes;
-    if (!file || fseek(file, 0, SEEK_END)) exit(3);
-    *size = (size_t)ftell(file);
-    rewind(file);
-    bytes = malloc(*size + 1);
-    if (!bytes || fread(bytes, 1, *size, file) != *size) exit(3);
-    fclose(file);
-    return bytes;
-}
 
 static unsigned char *text, *bytes;
 static size_t text_size, size;
@@ -242,6 +232,122 @@ static void try_seeks(void) {
     dsdarc_player_drop(player);
 }
 
+static dsdarc_player *made_by(dsdarc_status (*make)(dsdarc_player **)) {
+    dsdarc_player *player = NULL;
+    if (make(&player) != DSDARC_OK) exit(3);
+    return player;
+}
+
+/* Pushes the bytes before the sound to a player without a choice, and reports where it starts. */
+static size_t to_choice(dsdarc_player *player) {
+    size_t at = 0, taken;
+    dsdarc_status status = DSDARC_OK;
+    while (at < size && (status = dsdarc_player_push(player, bytes + at, size - at, &taken)) == DSDARC_OK) at += taken;
+    SAYS("the bytes are taken up to where the sound starts", status == DSDARC_NO_CHOICE && taken == 0);
+    return at;
+}
+
+static void try_unknown(void) {
+    dsdarc_description file = {.bits = 77}, was = file;
+    dsdarc_mark mark = {.place = 77}, marks[2] = {{.place = 77}, {.place = 77}};
+    dsdarc_player *player = made_by(dsdarc_player_new_empty);
+    char title[8] = "is left";
+    size_t count = 9;
+    SAYS("before the sound is known nothing is described",
+         dsdarc_player_describe(player, &file, sizeof file) == DSDARC_NOT_YET && memcmp(&file, &was, sizeof file) == 0);
+    SAYS("there is no mark yet, and it and its title are unchanged",
+         dsdarc_player_mark(player, 0, &mark, title, sizeof title) == DSDARC_NOT_YET && mark.place == 77 && *title == 'i');
+    SAYS("there are no marks yet, and they are unchanged",
+         dsdarc_player_marks(player, 0, marks, 2, &count) == DSDARC_NOT_YET && marks[0].place == 77 && count == 0);
+    SAYS("each choice is NotYet", dsdarc_player_dop(player) == DSDARC_NOT_YET &&
+                                      dsdarc_player_bits(player, DSDARC_BITS_LSB) == DSDARC_NOT_YET &&
+                                      dsdarc_player_filter(player, text, text_size) == DSDARC_NOT_YET &&
+                                      dsdarc_player_filter_ready(player, 88200, 24, 0) == DSDARC_NOT_YET);
+    SAYS("a text that is refused", dsdarc_player_filter(player, "[", 1) == DSDARC_NOT_TOML);
+    to_choice(player);
+    SAYS("there is no such mark, and it and its title are unchanged",
+         dsdarc_player_mark(player, 0, &mark, title, sizeof title) == DSDARC_NO_MARK && mark.place == 77 && *title == 'i');
+    SAYS("there are no marks", dsdarc_player_marks(player, 0, NULL, 0, &count) == DSDARC_OK && count == 0);
+    dsdarc_player_drop(player);
+    player = made_by(dsdarc_player_new_empty);
+    SAYS("a file of no bytes holds no recording", dsdarc_player_end(player) == DSDARC_FILE_REFUSED);
+    SAYS("a choice returns AfterFault", dsdarc_player_dop(player) == DSDARC_AFTER_FAULT);
+    dsdarc_player_drop(player);
+}
+
+static void try_choices(void) {
+    dsdarc_info info = {.frames = 77};
+    dsdarc_player *player = made_by(dsdarc_player_new_empty);
+    size_t at = to_choice(player), taken = 9, given = 9;
+    uint64_t offset = 5;
+    SAYS("info is NoChoice, and as it was", dsdarc_player_info(player, &info) == DSDARC_NO_CHOICE && info.frames == 77);
+    SAYS("an end is NoChoice", dsdarc_player_end(player) == DSDARC_NO_CHOICE);
+    SAYS("a seek is NoChoice", dsdarc_player_seek(player, 0, &offset) == DSDARC_NO_CHOICE && offset == 5);
+    SAYS("a next is NotJoined", dsdarc_player_next(player) == DSDARC_NOT_JOINED);
+    SAYS("an order that isn't one", dsdarc_player_bits(player, (dsdarc_bit_order)2) == DSDARC_SIZE);
+    SAYS("there is no such filter", dsdarc_player_filter_ready(player, 88200, 17, 0) == DSDARC_NO_FILTER);
+    SAYS("a text that is refused changes nothing", dsdarc_player_filter(player, "[", 1) == DSDARC_NOT_TOML);
+    SAYS("these changed nothing", dsdarc_player_bits(player, DSDARC_BITS_MSB) == DSDARC_OK);
+    SAYS("another choice is Chosen", dsdarc_player_dop(player) == DSDARC_CHOSEN &&
+                                         dsdarc_player_filter(player, text, text_size) == DSDARC_CHOSEN &&
+                                         dsdarc_player_filter_ready(player, 88200, 24, 0) == DSDARC_CHOSEN);
+    SAYS("there is no such filter, also after a choice",
+         dsdarc_player_filter_ready(player, 88200, 17, 0) == DSDARC_NO_FILTER);
+    if (dsdarc_player_push(player, bytes + at, size - at, &taken) != DSDARC_OK) exit(3);
+    SAYS("bits are no numbers", dsdarc_player_pull(player, pcm, 1, DSDARC_S32, &given) == DSDARC_SIZE && given == 0);
+    SAYS("no frame is lost", pulled(player) > 0);
+    dsdarc_player_drop(player);
+    player = made();
+    to_sound(player, &info);
+    SAYS("a player with a filter has its choice", dsdarc_player_dop(player) == DSDARC_CHOSEN);
+    dsdarc_player_drop(player);
+}
+
+/* Frames go to their places, and what comes after them stays as it was. */
+static void try_rest(void) {
+    dsdarc_info info;
+    for (int format = DSDARC_PACKED; format <= DSDARC_PACKED_PLANAR; format += DSDARC_PLANAR) {
+        dsdarc_player *player = made();
+        size_t at = to_sound(player, &info), width = info.width / 8, taken, given, last, rest = 0, k, plane;
+        memset(pcm, 0x5a, sizeof pcm);
+        if (dsdarc_player_push(player, bytes + at, size - at, &taken) != DSDARC_OK) exit(3);
+        if (dsdarc_player_pull(player, pcm, FRAMES, (dsdarc_format)format, &given) != DSDARC_OK || given == 0) exit(3);
+        for (plane = 0; plane < (format ? CHANNELS : 1); plane++)
+            for (last = format ? given * width : given * width * CHANNELS, k = last; k < last + 1000; k++)
+                rest += pcm[plane * FRAMES * width + k] != 0x5a;
+        SAYS("what is after the frames stays as it was", rest == 0);
+        dsdarc_player_drop(player);
+    }
+}
+
+static void try_joined(void) {
+    dsdarc_description file;
+    dsdarc_info info;
+    dsdarc_player *player = made_by(dsdarc_player_new_joined);
+    size_t at = to_choice(player), taken, frames = 0, more;
+    uint64_t offset = 5;
+    SAYS("before the choice a next is NoChoice", dsdarc_player_next(player) == DSDARC_NO_CHOICE);
+    if (dsdarc_player_bits(player, DSDARC_BITS_MSB) != DSDARC_OK) exit(3);
+    SAYS("a seek is NoSeek", dsdarc_player_seek(player, 0, &offset) == DSDARC_NO_SEEK && offset == 5);
+    for (; at < size; at += taken) {
+        if (dsdarc_player_push(player, bytes + at, size - at, &taken) != DSDARC_OK) exit(3);
+        while ((more = pulled(player)) > 0) frames += more;
+    }
+    SAYS("a next", dsdarc_player_next(player) == DSDARC_OK);
+    SAYS("nothing is described before the next header", dsdarc_player_describe(player, &file, sizeof file) == DSDARC_NOT_YET);
+    SAYS("a header that is refused", dsdarc_player_push(player, "nothing of the kind, but long enough", 36, &taken) ==
+                                         DSDARC_FILE_REFUSED);
+    if (dsdarc_player_push(player, bytes, 20, &taken) != DSDARC_OK) exit(3);
+    SAYS("another file is pushed, and left out as its sound doesn't start", dsdarc_player_next(player) == DSDARC_OK);
+    SAYS("an end", dsdarc_player_end(player) == DSDARC_OK);
+    while ((more = pulled(player)) > 0) frames += more;
+    SAYS("the recording is that of the first file", dsdarc_player_info(player, &info) == DSDARC_OK && frames == info.frames);
+    SAYS("once more an end", dsdarc_player_end(player) == DSDARC_OK);
+    SAYS("after the end a push is NotJoined", dsdarc_player_push(player, bytes, 20, &taken) == DSDARC_NOT_JOINED);
+    SAYS("after the end a next is NotJoined", dsdarc_player_next(player) == DSDARC_NOT_JOINED);
+    dsdarc_player_drop(player);
+}
+
 static size_t held(void) {
     struct mallinfo2 all = mallinfo2();
     return all.uordblks + all.hblkhd;
@@ -277,6 +383,7 @@ int main(int count, char **arguments) {
         name = arguments[at];
         bytes = whole(name, &size);
         try_new(), try_pushes(), try_info(), try_pulls(), try_formats(), try_faults(), try_seeks(), try_held();
+        try_unknown(), try_choices(), try_rest(), try_joined();
         free(bytes);
     }
     name = "statuses";

@@ -132,7 +132,8 @@ def loudspeakers(folder: str) -> None:
         found, status, said = caps_of(name)
         is_right = status == 0 and (found in mask if isinstance(mask, tuple) else found == mask)
         demand(is_right, f"dsdarcdec: channel type {kind}: mask {found}, not {mask}: {said[-300:]}")
-    by_ids = ((SURROUND, 0x3F), ([*SURROUND[:2], *SURROUND[4:], *SURROUND[2:4]], 0), ([b"LS  ", b"RS  "], 0x30))
+    turned, unknown = [*SURROUND[:2], *SURROUND[4:], *SURROUND[2:4]], [*SURROUND[:2], b"XXXX"]
+    by_ids = ((SURROUND, 0x3F), (turned, 0x3F), (unknown, 0), ([b"RS  ", b"LS  "], 0x30))
     for ids, mask in by_ids:
         with open(dff, "wb") as file:
             file.write(dsdiff(2822400, len(ids), bytes(len(ids) * 35280), ids=ids))

@@ -8,8 +8,9 @@ import re
 import struct
 import unicodedata
 from collections.abc import Iterator
-from typing import Any, BinaryIO
+from typing import BinaryIO
 
+from cuts import sheets
 from dsdarc_scripts import channels, explained, outputs, room
 from dsdarc_scripts.explained import shown_name
 from dsdarc_scripts.outputs import Refused
@@ -21,12 +22,10 @@ START = 0  # the type of a mark at which a track starts
 MOST_TITLE = 255  # bytes of a mark's text that a project may have
 MOST_NAME = 200  # bytes of a title in a name
 MARK = struct.Struct(">HBBIiHHHI")
-FRAMES = 75  # of a second in a cue sheet
 # What a DSDIFF file says of itself outside of a tag, by the chunks in DIIN: a count of four bytes, and a text.
 EDITED = {"artist": b"DIAR", "title": b"DITI"}
 # What some system takes for more than a letter of a name.
 UNSAFE = re.compile(r'[/\\:*?"<>|]')
-INDEX = re.compile(r"(\d{1,2})\s+(\d{1,4}):([0-5]\d):([0-6]\d|7[0-4])", re.ASCII)
 NUMBERED = re.compile(r"(\d{2,3})(?:(?: - | |\.|_|-)(.*))?", re.ASCII | re.DOTALL)
 
 
@@ -150,50 +149,11 @@ def marked(found: Recording) -> list[Track]:
     return [Track(number, title, place) for number, (place, title) in enumerate(starts, 1)]
 
 
-def unquoted(text: str) -> str:
-    return text[1:-1] if len(text) > 1 and text[0] == text[-1] == '"' else text
-
-
-def indexed(name: str, line: str, number: int, track: dict[str, Any] | None, rest: str) -> None:
-    """Takes a line INDEX into a track, if it is that of its start."""
-    parts = INDEX.fullmatch(rest)
-    if track is None or parts is None:
-        raise Refused(f"{shown_name(name)}, line {number}: no index as INDEX 01 00:00:00 of a track: {line!r}")
-    if int(parts[1]) == 1:
-        track["at"] = (int(parts[2]) * 60 + int(parts[3])) * FRAMES + int(parts[4])
-
-
-def sheet(name: str) -> list[dict[str, Any]]:
-    """Number, title and start (in 75ths of a second) of each track of a cue sheet."""
-    with open(name, "rb") as file:
-        lines = text_of(file.read()).splitlines()
-    tracks, files = list[Any](), 0
-    for number, line in enumerate(lines, 1):
-        key, _, rest = line.strip().partition(" ")
-        key, rest, last = key.upper(), rest.strip(), tracks[-1] if tracks else None
-        files += key == "FILE"
-        if files > 1:
-            raise Refused(f"{shown_name(name)}, line {number}: a second FILE; the sheet has to be one of one recording")
-        if key == "TRACK":
-            digits = rest.split(" ")[0]
-            if not re.fullmatch(r"\d{1,3}", digits, re.ASCII) or int(digits) <= (last["number"] if last else 0):
-                raise Refused(f"{shown_name(name)}, line {number}: no track of a higher number: {line.strip()!r}")
-            tracks.append({"number": int(digits), "title": ""})
-        elif key == "TITLE" and last:
-            last["title"] = unquoted(rest)
-        elif key == "INDEX":
-            indexed(name, line.strip(), number, last, rest)
-    for track in tracks:
-        if "at" not in track:
-            raise Refused(f"{shown_name(name)}: track {track['number']} has no INDEX 01")
-    if not tracks:
-        raise Refused(f"{shown_name(name)} has no tracks: it is no cue sheet")
-    return tracks
-
-
 def cued(found: Recording, name: str) -> list[Track]:
     """The tracks of an album by a cue sheet, without their ends."""
-    return [Track(it["number"], it["title"], (it["at"] * found.rate + FRAMES // 2) // FRAMES) for it in sheet(name)]
+    half = sheets.FRAMES // 2
+    rows = [(it["number"], it["title"], it["at"] * found.rate + half) for it in sheets.tracks_of(name)]
+    return [Track(number, title, at // sheets.FRAMES) for number, title, at in rows]
 
 
 def in_bytes(tracks: list[Track], found: Recording) -> Iterator[str]:

@@ -28,8 +28,6 @@ SUM = re.compile(r"(\d+ \d+(?: [0-9a-f]{64})+)  (.*)", re.DOTALL)
 OXUM = re.compile(r"(\d+)\.(\d+)")
 ENDS = re.compile("\r\n|\r|\n")
 ESCAPED = {"%": "%25", "\r": "%0D", "\n": "%0A"}
-# The digests that are known by the names that bags have for them.
-KNOWN = sorted(it for it in hashlib.algorithms_guaranteed if it.isalnum() and not it.startswith("shake"))
 PIECE = 1 << 18
 PIPE = 1 << 20
 # No file of tags is held that is longer than this.
@@ -38,6 +36,29 @@ LONGEST = 1 << 30
 
 class Left(Refused):
     """A file isn't read, and why."""
+
+
+def short(algorithm: str) -> str:
+    """The name that manifests have for a digest: its small letters and digits."""
+    return re.sub("[^a-z0-9]", "", algorithm.lower())
+
+
+def known() -> dict[str, str]:
+    """The digests that hashlib has, by the names that manifests have for them."""
+    found = dict[str, str]()
+    for each in sorted(hashlib.algorithms_available, key=lambda it: (it not in hashlib.algorithms_guaranteed, it)):
+        # OpenSSL lists some that it doesn't have, and others have no size of their own.
+        with contextlib.suppress(ValueError):
+            if hashlib.new(each, usedforsecurity=False).digest_size:
+                found.setdefault(short(each), each)
+    return found
+
+
+KNOWN = known()
+
+
+def digest(algorithm: str, data: bytes = b"") -> "hashlib._Hash":
+    return hashlib.new(KNOWN[algorithm], data, usedforsecurity=False)
 
 
 @dataclasses.dataclass
@@ -181,7 +202,7 @@ class Summing:
 
 def read(path: str, algorithms: Iterable[str], with_sound: bool) -> Read:
     """Reads a file once."""
-    totals = {it: hashlib.new(it, usedforsecurity=False) for it in algorithms}
+    totals = {it: digest(it) for it in algorithms}
     try:
         with opened(path) as file:
             before = os.fstat(file.fileno())
@@ -231,7 +252,8 @@ def sound_of(path: str) -> str | None:
 @dataclasses.dataclass
 class Bag:
     """What a bag says of itself: the digests of its payload and of its files of tags, by algorithms and names, its
-    labels, what is to be fetched, the sums of the sound, and what is wrong with all that."""
+    labels, what is to be fetched from where and how long it is, the sums of the sound, and what is wrong with all
+    that."""
 
     folder: str
     encoding: str = "utf-8"
@@ -239,7 +261,7 @@ class Bag:
     payload: dict[str, dict[str, str]] = dataclasses.field(default_factory=dict)
     tags: dict[str, dict[str, str]] = dataclasses.field(default_factory=dict)
     labels: list[tuple[str, str]] = dataclasses.field(default_factory=list)
-    fetch: dict[str, str] = dataclasses.field(default_factory=dict)
+    fetch: dict[str, tuple[str, int | None]] = dataclasses.field(default_factory=dict)
     sounds: dict[str, str] = dataclasses.field(default_factory=dict)
     wrong: list[str] = dataclasses.field(default_factory=list)
 
@@ -247,12 +269,12 @@ class Bag:
         """The lines of a file of tags, which end with LF, CR or both."""
         try:
             with opened(os.path.join(self.folder, name)) as file:
-                data = file.read(LONGEST)
+                data = file.read(min(os.fstat(file.fileno()).st_size, LONGEST))
             text = data.decode(self.encoding)
         except OSError as error:
             self.wrong.append(f"{shown_name(name)} can't be read: {error.strerror}")
             return []
-        except (Left, UnicodeError) as why:
+        except (Left, ValueError) as why:
             line = str(why) if isinstance(why, Left) else f"it isn't {self.encoding}, as {BAGIT} says"
             self.wrong.append(f"{shown_name(name)} can't be read: {line}")
             return []
@@ -276,33 +298,41 @@ def declaration(bag: Bag) -> None:
     try:
         "".encode(encoding[1])
         bag.encoding = encoding[1]
-    except LookupError:
+    except (LookupError, ValueError):
         bag.wrong.append(f"{BAGIT} states an encoding that isn't known: {shown_name(encoding[1])}")
 
 
 def is_inside(name: str) -> bool:
-    """Whether a name leads to what is in the bag."""
-    return not name.startswith(("/", "~")) and ".." not in name.split("/")
+    """Whether a name leads to what is in the bag, and may be one of a file."""
+    with contextlib.suppress(UnicodeError):
+        return b"\0" not in name.encode() and not name.startswith(("/", "~")) and ".." not in name.split("/")
+    return False
 
 
-def digits(algorithm: str) -> int:
-    return 2 * hashlib.new(algorithm, usedforsecurity=False).digest_size
+def named(bag: Bag, text: str) -> str:
+    """The name that a list has of a file. Before BagIt 1.0 `%25` was no other letter, nor `%0A` where there was such a
+    name."""
+    if bag.version >= (1, 0):
+        return decoded(text)
+    is_there = "%" in text and os.path.lexists(os.path.join(bag.folder, text))
+    return text if is_there else re.sub("%(0[AaDd])", lambda it: chr(int(it[1], 16)), text)
 
 
 def take_manifest(bag: Bag, file: str, algorithm: str, is_tags: bool) -> None:
     """Takes a manifest."""
+    algorithm = short(algorithm)
     if algorithm not in KNOWN:
         bag.wrong.append(f"{file} isn't checked: no such digest is known")
         return
     found = (bag.tags if is_tags else bag.payload).setdefault(algorithm, {})
     for number, line in enumerate(bag.lines(file), 1):
         parts, at = LINE.fullmatch(line), f"{file}, line {number}"
-        if not parts or len(parts[1]) != digits(algorithm):
+        if not parts or len(parts[1]) != 2 * digest(algorithm).digest_size:
             bag.wrong.append(f"{at}: no {algorithm} and name: {shown_name(line[:80])}")
             continue
-        name = decoded(parts[2]).removeprefix("./")
-        is_payload = name.startswith(f"{PAYLOAD}/")
-        if not is_inside(name) or is_payload == is_tags:
+        name = named(bag, parts[2]).removeprefix("./")
+        is_right = name.startswith(f"{PAYLOAD}/") != is_tags and not (is_tags and name.startswith("tagmanifest-"))
+        if not is_inside(name) or not is_right:
             bag.wrong.append(f"{at}: {shown_name(name)} is no {'file of tags' if is_tags else 'payload'} of the bag")
         elif name in found:
             bag.wrong.append(f"{at}: {shown_name(name)} is listed twice")
@@ -325,11 +355,14 @@ def take_labels(bag: Bag) -> None:
 def take_others(bag: Bag, there: Iterable[str]) -> None:
     """Takes what is to be fetched, and the sums of the sound."""
     for number, line in enumerate(bag.lines(FETCH) if FETCH in there else (), 1):
-        parts = FETCHED.fullmatch(line)
-        if parts and is_inside(decoded(parts[3])):
-            bag.fetch[decoded(parts[3])] = parts[1]
+        parts, at = FETCHED.fullmatch(line), f"{FETCH}, line {number}"
+        name = named(bag, parts[3]).removeprefix("./") if parts else ""
+        if parts is None or not is_inside(name):
+            bag.wrong.append(f"{at}: no address, length and name: {shown_name(line[:80])}")
+        elif name in bag.fetch:
+            bag.wrong.append(f"{at}: {shown_name(name)} is listed twice")
         else:
-            bag.wrong.append(f"{FETCH}, line {number}: no address, length and name: {shown_name(line[:80])}")
+            bag.fetch[name] = parts[1], None if parts[2] == "-" else int(parts[2])
     for line in bag.lines(SUMS) if SUMS in there else ():
         parts = SUM.fullmatch(line)
         if parts:

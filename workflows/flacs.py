@@ -1,36 +1,18 @@
 """FLAC files of WAVE files that were played, by the program `flac`: their comments and covers, from the tag of the
 source, from the titles of its marks, and from the cue sheet beside it."""
 import contextlib
-import dataclasses
-import io
 import os
 import re
 import shutil
 import subprocess
-from typing import Any
 
-from cuts import albums
+from cuts import albums, sheets
 from dsdarc_scripts import names, room, waves
 from dsdarc_scripts.outputs import Refused
-from workflows import jobs, pictures, tagging
+from workflows import frames, jobs, pictures, tagging, track_tags
 
-# The comments that frames become.
-FRAMES = {
-    "TITLE": ("TIT2",),
-    "ARTIST": ("TPE1",),
-    "ALBUM": ("TALB",),
-    "ALBUMARTIST": ("TPE2",),
-    "COMPOSER": ("TCOM",),
-    "CONDUCTOR": ("TPE3",),
-    "DATE": ("TDRC", "TYER"),
-    "GENRE": ("TCON",),
-}
-NUMBERS = {"TRCK": ("TRACKNUMBER", "TRACKTOTAL"), "TPOS": ("DISCNUMBER", "DISCTOTAL")}
 # What a block of a FLAC file holds, less what stands in it before a picture.
 MOST_COVER = (1 << 24) - 1024
-# A text that the system takes as an argument.
-LONGEST = 100_000
-FRONT_COVER = 3
 # The channel masks of three to six channels that FLAC has assignments for, and the comment for others.
 OWN_MASKS = (0x7, 0x33, 0x37, 0x3F)
 MASK = "WAVEFORMATEXTENSIBLE_CHANNEL_MASK"
@@ -42,66 +24,8 @@ NAMED = re.compile(r"^\S+\.(?:wav|flac): (?:ERROR:? )?")
 Comments = list[tuple[str, str]]
 
 
-@dataclasses.dataclass
-class Sheet:
-    """What a cue sheet says beside the places of tracks: title and performer of the album, and the performers of tracks
-    by their numbers."""
-
-    title: str = ""
-    performer: str = ""
-    performers: dict[int, str] = dataclasses.field(default_factory=dict)
-
-
 def installed() -> bool:
     return shutil.which("flac") is not None
-
-
-def sheet_texts(path: str | None) -> Sheet:
-    """The texts of a cue sheet; none where there is no sheet, or it can't be read."""
-    found, number = Sheet(), 0
-    if path is None:
-        return found
-    with open(path, "rb") as file:
-        lines = albums.text_of(file.read()).splitlines()
-    for line in lines:
-        key, _, rest = line.strip().partition(" ")
-        text = albums.unquoted(rest.strip())
-        if key.upper() == "TRACK":
-            number = int(text.split(" ")[0]) if re.match(r"\d{1,3}\b", text, re.ASCII) else number + 1
-        elif key.upper() == "TITLE" and not number:
-            found.title = text
-        elif key.upper() == "PERFORMER" and number:
-            found.performers[number] = text
-        elif key.upper() == "PERFORMER":
-            found.performer = text
-    return found
-
-
-def plain(text: str) -> str:
-    """A text that a comment can have."""
-    return text.replace("\0", "").encode(errors="replace").decode()[:LONGEST].strip()
-
-
-def of_tag(path: str) -> tuple[dict[str, list[str]], bytes | None]:
-    """The comments that the tag of a file makes, and its front cover, or the first picture."""
-    data, found = tagging.tag_of(path), dict[str, list[str]]()
-    if not data:
-        return found, None
-    from mutagen.id3 import ID3
-
-    try:
-        tag: Any = ID3(io.BytesIO(data))
-    except tagging.broken():
-        raise tagging.Untagged("its tag is no ID3 tag that mutagen reads") from None
-    for comment, frames in FRAMES.items():
-        texts = [getattr(it, "genres", it.text) for frame in frames for it in tag.getall(frame)]
-        found[comment] = [plain(str(text)) for each in texts for text in each]
-    for frame, (number, total) in NUMBERS.items():
-        for each in tag.getall(frame):
-            one, _, other = str(each.text[0] if each.text else "").partition("/")
-            found[number], found[total] = [plain(one)], [plain(other)]
-    covers = sorted(tag.getall("APIC"), key=lambda it: it.type != FRONT_COVER)
-    return found, covers[0].data if covers else None
 
 
 def chapters(path: str) -> Comments:
@@ -115,75 +39,49 @@ def chapters(path: str) -> Comments:
     for number, (place, title) in enumerate(starts, 1):
         seconds, part = divmod(1000 * place // found.rate, 1000)
         time = f"{seconds // 3600:02}:{seconds // 60 % 60:02}:{seconds % 60:02}.{part:03}"
-        made += [(f"CHAPTER{number:03}", time), (f"CHAPTER{number:03}NAME", plain(title))]
+        made += [(f"CHAPTER{number:03}", time), (f"CHAPTER{number:03}NAME", track_tags.plain(title))]
     return made
 
 
-def edited_texts(path: str) -> dict[str, str]:
-    """Artist and title that a DSDIFF file has outside of a tag."""
+def whole_sheet(sheet: str | None) -> Comments:
+    """The whole cue sheet as a comment, if it isn't too long."""
+    text = "" if sheet is None else track_tags.plain(sheets.text_of(sheet))
+    return [("CUESHEET", text)] if 0 < len(text) < track_tags.LONGEST else []
+
+
+def of_source(path: str) -> tuple[track_tags.Comments, pictures.Picture | None, str | None]:
+    """What the tag of a source makes: comments, the cover, and what became of it; nothing where it has none."""
+    data = tagging.tag_of(path)
+    if not data:
+        return {}, None, None
+    if not tagging.has_mutagen():
+        return {}, None, tagging.NOT_INSTALLED
     try:
-        return {key: plain(text) for key, text in albums.edited_texts(path).items()}
-    except jobs.BROKEN:
-        return {}
-
-
-def add(found: dict[str, list[str]], comment: str, text: str | None) -> None:
-    """Adds a comment where there is none."""
-    if text and not any(found.get(comment, ())):
-        found[comment] = [plain(text)]
-
-
-def of_whole(path: str, found: dict[str, list[str]], sheet: str | None) -> Comments:
-    """The comments of a file that is played whole: those of its tag, with what only its sheet, its marks or other chunks
-    say."""
-    texts, edited = sheet_texts(sheet), edited_texts(path)
-    for comment, text in (
-        ("ALBUM", texts.title),
-        ("ALBUMARTIST", texts.performer),
-        ("ARTIST", edited.get("artist")),
-        ("TITLE", edited.get("title")),
-    ):
-        add(found, comment, text)
-    made = [(comment, text) for comment, each in found.items() for text in each]
-    made += chapters(path) if jobs.has_marks(path) else []
-    if sheet and os.path.getsize(sheet) <= LONGEST:
-        with open(sheet, "rb") as file:
-            made.append(("CUESHEET", plain(albums.text_of(file.read()))))
-    return made
-
-
-def of_track(path: str, job: jobs.Job, found: dict[str, list[str]], sheet: str | None) -> Comments:
-    """The comments of a track: its own title and number, and what the tag, the sheet and other chunks say of the album."""
-    texts, edited, number = sheet_texts(sheet), edited_texts(path), job.track or 0
-    for text in (texts.title, *found.get("TITLE", []), edited.get("title")):
-        add(found, "ALBUM", text)
-    add(found, "ALBUMARTIST", texts.performer or edited.get("artist"))
-    performer = texts.performers.get(number) or texts.performer
-    if performer:
-        found["ARTIST"] = [plain(performer)]
-    add(found, "ARTIST", edited.get("artist"))
-    found["TITLE"] = [plain(job.title)] if job.title else []
-    found["TRACKNUMBER"], found["TRACKTOTAL"] = [str(number)], [str(job.count)]
-    return [(comment, text) for comment, each in found.items() for text in each]
+        found, cover = track_tags.of_tag(data)
+    except tagging.Untagged as why:
+        return {}, None, str(why)
+    if cover and len(cover) > MOST_COVER:
+        return found, None, "a FLAC file has no room for a cover of more than 16 MB"
+    try:
+        return found, pictures.picture(cover) if cover else None, tagging.HANDED_ON
+    except Refused as why:
+        return found, None, f"its cover is left out: {why}"
 
 
 def described(path: str, job: jobs.Job, sheet: str | None) -> tuple[Comments, pictures.Picture | None, str | None]:
     """The comments and the cover of a file, and what became of its tag: nothing where it has none."""
-    found, cover, said = dict[str, list[str]](), None, None
-    if tagging.tag_of(path):
-        said = tagging.HANDED_ON
-        try:
-            if not tagging.has_mutagen():
-                raise tagging.Untagged(tagging.NOT_INSTALLED)
-            found, data = of_tag(path)
-            if data and len(data) > MOST_COVER:
-                said = "a FLAC file has no room for a cover of more than 16 MB"
-            elif data:
-                cover = pictures.picture(data)
-        except Refused as why:
-            said = str(why) if isinstance(why, tagging.Untagged) else f"its cover is left out: {why}"
+    found, cover, said = of_source(path)
+    texts, why = track_tags.of_sheet(sheet)
+    if why:
+        sheet, said = None, why if said in (None, tagging.HANDED_ON) else said
     with contextlib.suppress(OSError):
-        made = of_whole(path, found, sheet) if job.track is None else of_track(path, job, found, sheet)
+        more = Comments()
+        if job.track is None:
+            found = track_tags.of_whole(path, found, texts)
+            more = [*(chapters(path) if jobs.has_marks(path) else []), *whole_sheet(sheet)]
+        else:
+            found = track_tags.of_track(path, track_tags.Place(job.track, job.title, job.count), found, texts)
+        made = [*((comment, text) for comment, each in found.items() for text in each), *more]
         return [(comment, text) for comment, text in made if text], cover, said
     return [], cover, said
 
@@ -216,7 +114,7 @@ def made_of(wave: str, made: str, comments: Comments, cover: pictures.Picture | 
         with open(f"{made}.cover", "wb") as file:
             file.write(cover.data)
         shape = f"{cover.width}x{cover.height}x{cover.depth}"
-        arguments.append(f"--picture={FRONT_COVER}|{cover.mime}||{shape}|{made}.cover")
+        arguments.append(f"--picture={frames.FRONT_COVER}|{cover.mime}||{shape}|{made}.cover")
     said = run([*arguments, wave])
     names.remove(f"{made}.cover")
     if said is None:

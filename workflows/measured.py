@@ -2,7 +2,6 @@
 the level, and the spectrum. Levels are in dB relative to full scale."""
 import contextlib
 import dataclasses
-import io
 import os
 import re
 import shutil
@@ -227,7 +226,6 @@ def texts(name: str) -> dict[str, str]:
     if not tagging.has_mutagen():
         return {}
     from mutagen.flac import FLAC
-    from mutagen.id3 import ID3
 
     try:
         with open(name, "rb") as file:
@@ -235,7 +233,7 @@ def texts(name: str) -> dict[str, str]:
         data = b"" if is_flac else tagging.tag_of(name)
         if not is_flac and not data:
             return {}
-        found: Any = FLAC(name) if is_flac else ID3(io.BytesIO(data))
+        found: Any = FLAC(name) if is_flac else tagging.id3(data)
         rows = ((key, found.get(key if is_flac else frame)) for key, frame in TEXTS.items())
         return {key: "; ".join(map(str, it if is_flac else it.text)) for key, it in rows if it}
     except tagging.broken():

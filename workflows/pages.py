@@ -13,6 +13,8 @@ LOWEST = {"level": -72.0, "spectrum": -150.0}  # dB, at the lower edge of a pict
 WIDTH, HEIGHT = 60, 32
 TOP = ord("?")  # The letter of the upper edge: none of those after it has a meaning in HTML.
 WIDEST, PICTURE = 34, 17  # digits, of a column of texts and of one with pictures
+# The share of the window that a column has at most, in percent, as the digits of some fonts are wide.
+SHARE = 18
 # The first ones are in sight in a window of 1280 pixels, and on a phone.
 COLUMNS = (
     "file",
@@ -229,6 +231,7 @@ def page(title: str, rows: list[Row]) -> str:
         kinds=KINDS,
         columns=COLUMNS,
         widths=widths(lines),
+        widest=SHARE,
         numbers=NUMBERS,
         in_sight=IN_SIGHT,
         rows=lines,

@@ -24,6 +24,8 @@ WAVES = (b"RIFF", b"RF64")
 PIECE = 1 << 20
 # A WAVE file has no more bytes after its first 8 than this.
 MOST_WAVE = 2**32 - 1
+# The flag of an extended header, and more bytes than that has.
+EXTENDED, MORE = 0x40, 64
 HANDED_ON = "handed on"
 NOT_INSTALLED = "python3-mutagen isn't installed"
 # The frames of texts, by the fields that are set and shown.
@@ -128,23 +130,40 @@ def sound_sum(name: str) -> bytes:
     return total.digest()
 
 
+def said_by(frame: Any) -> str:
+    """What a frame says, to be compared; of a picture, which may be large, a digest."""
+    values = {key: hashlib.sha256(it).hexdigest() if isinstance(it, bytes) else it for key, it in vars(frame).items()}
+    return f"{frame.FrameID} {values!r}"
+
+
 def frames(tags: Any) -> list[str]:
     """What a tag says, to be compared; nothing where there is none."""
-    return sorted(map(repr, tags.values())) if tags else []
+    return sorted(map(said_by, tags.values())) if tags else []
 
 
-def read(tag: bytes) -> list[str]:
-    """What the bytes of a tag say."""
+def is_extended(tag: bytes) -> bool:
+    return len(tag) > 5 and bool(tag[5] & EXTENDED)
+
+
+def id3(tag: bytes) -> Any:
+    """The bytes of a tag as mutagen has them. After an extended header it wants as many more as that has."""
     from mutagen.id3 import ID3
 
     try:
-        return frames(ID3(io.BytesIO(tag)))
+        return ID3(io.BytesIO(tag + bytes(MORE) if is_extended(tag) else tag))
     except broken():
         raise Untagged("its tag is no ID3 tag that mutagen reads") from None
 
 
+def read(tag: bytes) -> list[str]:
+    """What the bytes of a tag say."""
+    return frames(id3(tag))
+
+
 def read_back(name: str) -> list[str]:
-    """What the tag of a file says that mutagen opens by its form."""
+    """What the tag of a file says that mutagen opens by its form, where it can."""
+    if is_extended(tag_of(name)):
+        return read(tag_of(name))
     from mutagen.dsdiff import DSDIFF
     from mutagen.dsf import DSF
     from mutagen.wave import WAVE

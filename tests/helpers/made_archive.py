@@ -108,6 +108,11 @@ def sheet(album: str, performer: str, tracks: list[tuple[str, str]], seconds: fl
     return end.join([*lines, ""])
 
 
+def lettered(letter: str, coding: str, other: str) -> str:
+    """A letter that an encoding has, or another one."""
+    return letter if letter.encode(coding, "ignore") else other
+
+
 def with_tag(data: bytes, tag: bytes) -> bytes:
     """A DSF file with a tag."""
     return data[:12] + struct.pack("<QQ", len(data) + len(tag), len(data)) + data[28:] + tag
@@ -184,9 +189,10 @@ class Archive:
 
     def add_sheet(self, it: One, number: int) -> None:
         """The sheet beside a file, in one of the encodings that sheets have."""
-        coding, end = (("utf-8", "\n"), ("utf-8-sig", "\r\n"), ("cp1252", "\n"))[number // 5 % 3]
-        if coding == "cp1252":
-            it.tracks = [(title.replace("\u4e2d\u6587", "Ole \u00e9"), who) for title, who in it.tracks]
+        codings = ("utf-8", "\n"), ("utf-8-sig", "\r\n"), ("cp1252", "\n"), ("utf-16", "\r\n"), ("cp932", "\r\n")
+        coding, end = codings[number // 5 % len(codings)]
+        other = {"cp1252": "\u00e9", "cp932": "\u30bd"}.get(coding, "")
+        it.tracks = [("".join(lettered(each, coding, other) for each in title), who) for title, who in it.tracks]
         it.tracks = [(title.replace('"', "'"), who) for title, who in it.tracks]
         text = sheet(f"Album {number}", f"Band {number}", it.tracks, it.bits / it.rate, end)
         self.beside[os.path.splitext(it.name)[0] + ".cue"] = text.encode(coding)

@@ -3,6 +3,7 @@ import contextlib
 import importlib.machinery
 import importlib.util
 import os
+import shutil
 import subprocess
 import tempfile
 from collections.abc import Callable, Iterable, Iterator
@@ -86,6 +87,20 @@ def stream(pipe: IO[Any] | None) -> Any:
     """A pipe to or from a process, which was asked for."""
     assert pipe
     return pipe
+
+
+def languages() -> dict[str, dict[str, str]]:
+    """What the environment has in each language of the system, by the letters of that: UTF-8, ASCII, and Latin-1, where
+    it can be made."""
+    found = {"UTF-8": {"LC_ALL": "C.UTF-8"}}
+    found["ASCII"] = {"LC_ALL": "C", "PYTHONUTF8": "0", "PYTHONCOERCECLOCALE": "0"}
+    if shutil.which("localedef"):
+        folder = os.path.abspath("languages")
+        os.mkdir(folder)
+        run("localedef", "-i", "en_US", "-f", "ISO-8859-1", f"{folder}/en_US.ISO-8859-1")
+        if os.listdir(folder):
+            found["Latin-1"] = {"LOCPATH": folder, "LC_ALL": "en_US.ISO-8859-1"}
+    return found
 
 
 def script(name: str) -> Any:

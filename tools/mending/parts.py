@@ -7,6 +7,7 @@ from collections.abc import Iterable, Iterator
 from typing import BinaryIO
 
 from dsdarc_scripts.outputs import Refused
+from workflows import frames
 
 PIECE = 1 << 20
 # No file has more chunks, or marks, than this.
@@ -15,6 +16,8 @@ MOST_CHUNKS = 100_000
 MOST_BITS = 2**36
 ID3_HEAD = 10
 FRAME = re.compile(rb"[A-Z0-9]{4}")
+# No tag is held that is longer than this.
+MOST_HELD = 1 << 25
 
 
 class Broken(Refused):
@@ -149,8 +152,8 @@ def frame_size(field: bytes, version: int) -> int:
     return size
 
 
-def whole_frames(view: View, at: int, stop: int) -> list[Part]:
-    """A tag of the frames that are whole, of one that is cut; none where no frame is."""
+def long_frames(view: View, at: int, stop: int) -> list[Part]:
+    """The same of a tag that is too long to be held, if it is a plain one of ID3v2.3 or 2.4."""
     head = view.data(at, ID3_HEAD)
     if head[3] not in (3, 4) or head[5] & 0xC0:
         return []
@@ -162,10 +165,18 @@ def whole_frames(view: View, at: int, stop: int) -> list[Part]:
             break
         end += 10 + size
     size = end - first
-    if not 0 < size < 1 << 28:
+    return [head[:5] + b"\0" + frames.spread(size), Range(first, size)] if 0 < size < 1 << 28 else []
+
+
+def whole_frames(view: View, at: int, stop: int) -> list[Part]:
+    """A tag of the frames that are whole, of one that is cut; none where no frame is."""
+    if stop - at > MOST_HELD:
+        return long_frames(view, at, stop)
+    try:
+        found = frames.whole(view.data(at, stop - at))
+    except frames.Broken:
         return []
-    fields = bytes(size >> shift & 127 for shift in (21, 14, 7, 0))
-    return [head[:5] + b"\0" + fields, Range(first, size)]
+    return [found.data()] if found.frames else []
 
 
 def tag_parts(view: View, at: int, stop: int, mended: Mended) -> list[Part]:

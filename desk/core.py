@@ -16,7 +16,7 @@ from cuts.albums import MOST_TITLE
 from cuts.list_mixes import LIMIT
 from cuts.takes import Take
 from desk import cache, mixes, sound
-from desk.journal import Journal
+from desk.journal import Journal, place_of
 from desk.making import MOST_MOVE, Maker, Wanted
 from desk.mixes import Clip, Clips, Document, Head, Limits
 from desk.peaks import Peaks
@@ -75,7 +75,7 @@ class Desk:
         self.known: Head | None = None
         self.unkept: bytes | None = None  # the text, if it isn't remembered yet what is read of it
         self.pool = ThreadPoolExecutor(2, "peaks")
-        self.maker = Maker(os.path.join(self.top, self.name), self.say)
+        self.maker = Maker(os.path.join(self.top, self.name), self.say, self.folders.demand)
         self.master: Source | None = None
         self.predicted_of: Clips | None = None  # the clips of which it was predicted what their cuts leave
         self.outside: str | None = None
@@ -92,7 +92,7 @@ class Desk:
 
     def open(self, asked: Asked) -> None:
         """Opens the text with its takes, and the journal."""
-        data = None if asked.is_new else mixes.read_bytes(self.path)
+        data = None if asked.is_new else self.read_file()
         self.stamp, self.sum = mixes.stamp_of(self.path), None if data is None else mixes.sum_of(data)
         kept = None if data is None or asked.files else self.kept_of(self.sum)
         mix = None if data is None or kept else self.mix_of(data)
@@ -105,10 +105,19 @@ class Desk:
         if data is None or kept is None or not self.recall(text, kept):
             self.read_text(text, mix if data is None else mix or self.mix_of(data))
             self.unkept = data if len(names) == len(self.takes) else None
-        self.journal = Journal(self.path, self.sum, self.document.base, self.limits)
+        self.journal = Journal(self.journal_place(), self.sum, self.document.base, self.limits)
         if self.journal.saved_clips != self.document.base or self.journal.history.steps:
             self.document.is_now(self.document.text, self.journal.saved_clips)
+        if self.is_saved:
+            self.journal.taken_up = 0  # what wasn't saved was undone
         self.say_opened()
+
+    def journal_place(self) -> str:
+        return self.folders.demand(place_of(self.path), "the journal")
+
+    def read_file(self) -> bytes:
+        """The bytes of the text that is there now."""
+        return mixes.read_bytes(self.folders.demand(self.path, "the mix"))
 
     @staticmethod
     def kept_name(sum_now: str | None) -> str:
@@ -204,10 +213,6 @@ class Desk:
         self.known = head
 
     def say_opened(self) -> None:
-        count = self.journal.taken_up
-        if count:
-            steps = "1 change that nobody saved was" if count == 1 else f"{count} changes that nobody saved were"
-            self.notes.append(f"{steps} taken up from the journal")
         if self.journal.aside:
             self.notes.append(
                 f"the journal was of another text: it is {shown_name(os.path.basename(self.journal.aside))} now"
@@ -325,6 +330,10 @@ class Desk:
                 if not key.isascii() or not key.isdecimal() or len(key) > 9:
                     raise Refused("clips have numbers")
                 new[int(key)] = None if it is None else mixes.clip_from(it, self.limits)
+            known = {it.title for it in self.clips.values()}
+            for clip in new.values():
+                if clip is not None and clip.title not in known:
+                    mixes.demand_title(clip.title)
             after = {number: it for number, it in self.clips.items() if number not in new}
             after |= {number: it for number, it in new.items() if it is not None}
             mixes.demand_together(after)
@@ -339,6 +348,12 @@ class Desk:
             self.journal.do("drop what wasn't saved", new)
             self.journal.taken_up = 0
 
+    def keep_taken_up(self, number: object) -> None:
+        """Keeps what was taken up from the journal: no page asks for it any more."""
+        with self.lock:
+            self.demand_number(number)
+            self.journal.taken_up = 0
+
     def save(self, number: object, over: bool) -> None:
         """Writes the text. A file that another program changed is kept under another name, if it is to be written over."""
         with self.lock:
@@ -347,13 +362,14 @@ class Desk:
             self.look_outside()
             if self.outside is not None and not over:
                 raise Outdated
+            path = self.folders.demand(self.path, "the mix")
             data = self.document.text_of(self.clips).encode()
-            if self.outside is not None and os.path.lexists(self.path):
-                aside = mixes.free_name(self.path, "other")
-                os.link(self.path, aside)
+            if self.outside is not None and os.path.lexists(path):
+                aside = mixes.free_name(path, "other")
+                os.link(path, aside, follow_symlinks=False)
                 self.notes.append(f"the text of the other program is {shown_name(os.path.basename(aside))} now")
             self.journal.saving(mixes.sum_of(data))
-            mixes.write_bytes(self.path, data)
+            mixes.write_bytes(path, data)
             self.sum, self.stamp, self.outside = mixes.sum_of(data), mixes.stamp_of(self.path), None
             if self.clips != self.document.base:
                 self.document.is_now(data.decode(), self.clips)
@@ -371,7 +387,7 @@ class Desk:
                 self.outside = None if self.sum is None else "the file is gone"
                 return self.outside is not None
             try:
-                data = mixes.read_bytes(self.path)
+                data = self.read_file()
                 found = mixes.sum_of(data)
                 if found == self.sum:
                     self.outside = None
@@ -398,7 +414,7 @@ class Desk:
         self.sum, self.outside = mixes.sum_of(data), None
         self.journal.close()
         number = self.journal.history.number
-        self.journal = Journal(self.path, self.sum, self.document.base, self.limits, is_anew)
+        self.journal = Journal(self.journal_place(), self.sum, self.document.base, self.limits, is_anew)
         self.journal.history.number = number + 1
         self.notes.append("another program changed the file: this is what it has now")
 
@@ -406,7 +422,7 @@ class Desk:
         """Drops what is here, and takes the text that another program wrote."""
         with self.lock:
             self.demand_number(number)
-            data = mixes.read_bytes(self.path)
+            data = self.read_file()
             self.reload(data, self.mix_of(data), False)
             if self.outside is not None:
                 raise Refused(self.outside)
@@ -427,6 +443,10 @@ class Desk:
                 raise Refused("save the mix first")
             if type(move) is not int or not 0 <= move <= MOST_MOVE:
                 raise Refused(f"cuts move by 0 to {MOST_MOVE // 1000} ms")
+            for take, it in enumerate(self.takes):
+                self.folders.demand(os.path.join(self.top, it.name), f"take {take}")
+            if not predicts:
+                self.maker.demand_inside()
             text = self.document.text_of(self.clips) if predicts else self.document.text
             if not self.maker.state["running"]:
                 self.predicted_of = dict(self.clips) if predicts else None
@@ -450,6 +470,11 @@ class Desk:
         with self.lock:
             old, self.master = self.master, None
             self.peaks.pop("master", None)
+            try:
+                self.maker.demand_inside()
+            except Refused as error:
+                if str(error) not in self.notes:
+                    self.notes.append(str(error))
             found = self.maker.result()
             if found is not None:
                 try:

@@ -8,6 +8,7 @@ import contextlib
 import fcntl
 import json
 import os
+import stat
 from dataclasses import dataclass
 from typing import Any
 
@@ -76,18 +77,29 @@ def clips_from(value: dict[str, Any], limits: Limits) -> dict[int, Clip | None]:
     return {int(key): None if it is None else mixes.clip_from(it, limits) for key, it in value.items()}
 
 
+def place_of(path: str) -> str:
+    """Where the journal of a mix is."""
+    folder, last = os.path.split(path)
+    return os.path.join(folder, f".{last}.journal")
+
+
+def without_links(path: str, flags: int) -> int:
+    """Opens a path that is no link."""
+    return os.open(path, flags | os.O_NOFOLLOW, 0o666)
+
+
 class Journal:
-    """The journal of a mix. `taken_up` is how many steps were done again that nobody saved, and `aside` the name under
-    which the journal of another text was put."""
+    """The journal of a mix, which is at a path that is no link. `taken_up` is how many steps were done again that nobody
+    saved, and `aside` the name under which the journal of another text was put."""
 
     def __init__(self, path: str, sum_now: str | None, clips: Clips, limits: Limits, is_anew: bool = False) -> None:
-        folder, last = os.path.split(path)
-        self.path = os.path.join(folder, f".{last}.journal")
-        self.limits, self.taken_up = limits, 0
+        self.path, self.limits, self.taken_up = path, limits, 0
         self.aside: str | None = None
         self.history, self.saved_clips = History(clips), dict(clips)
-        self.file = open(self.path, "a+b")
+        self.file = open(self.path, "a+b", opener=without_links)
         try:
+            if not stat.S_ISREG(os.fstat(self.file.fileno()).st_mode):
+                raise Refused(f"{shown_name(self.path)} is no file: the desk has its journal there")
             self.lock()
             if is_anew or not self.goes_on(sum_now):
                 self.begin(sum_now, clips)

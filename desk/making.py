@@ -20,10 +20,13 @@ from typing import Any
 from desk import mixes
 from dsdarc_scripts import program
 from dsdarc_scripts.explained import shown_name
+from dsdarc_scripts.outputs import Refused
 
 FOLDER = ".made"
 DONE = "made.json"
 MOVED = ".moved.mix.toml"  # the mix whose cuts moved
+MASTERS = {"dsdiff": ".dff", "dsf": ".dsf"}
+ENDINGS = (*MASTERS.values(), ".cert", ".mix.toml", ".report.txt", ".toml", ".new.dff", MOVED)
 STEPS = ("render", "edit", "check", "nulltest")
 SAYS = {
     "render": "new bits where the mix changes",
@@ -46,6 +49,7 @@ ACCEPTED = re.compile(r"accepted residual (\d+) dBFS (-?[\d.]+|-inf)")
 CHECKED = re.compile(r"accepted total (\d+)")
 
 Say = Callable[[dict[str, Any]], None]
+Demand = Callable[[str, str], str]
 
 
 def base_of(name: str) -> str:
@@ -133,10 +137,11 @@ class Result:
 
 
 class Maker:
-    """Makes masters of the mix of a path. `say` is told of each step and line."""
+    """Makes masters of the mix of a path. `say` is told of each step and line; `demand` refuses a path that leads out of
+    the folders that were named."""
 
-    def __init__(self, path: str, say: Say) -> None:
-        self.path, self.say = path, say
+    def __init__(self, path: str, say: Say, demand: Demand) -> None:
+        self.path, self.say, self.demand = path, say, demand
         self.top, name = os.path.split(path)
         self.base = base_of(name)
         self.folder = os.path.join(self.top, f"{self.base}{FOLDER}")
@@ -153,14 +158,24 @@ class Maker:
         """The name of a file as seen from the folder of the mix, as its takes are."""
         return os.path.join(f"{self.base}{FOLDER}", f"{self.base}{ending}")
 
+    def demand_inside(self) -> None:
+        """No link leads out of the folders that were named, in place of the folder of the master or of a file in it."""
+        self.demand(self.folder, "the folder of the master")
+        for it in (os.path.join(self.folder, DONE), *map(self.file, ENDINGS)):
+            self.demand(it, "a file of the master")
+
     def result(self) -> dict[str, Any] | None:
         """What came of the last making, if its files are there."""
         try:
+            if not os.path.lexists(self.folder):
+                return None
+            self.demand_inside()
             with open(os.path.join(self.folder, DONE), "rb") as file:
                 found = json.loads(file.read(1 << 26))
-            is_whole = isinstance(found, dict) and KEYS <= set(found)
+            is_whole = isinstance(found, dict) and KEYS <= set(found) and set(found["endings"]) <= set(ENDINGS)
+            is_whole = is_whole and found["master"] in found["endings"] and found["master"] in MASTERS.values()
             return found if is_whole and all(os.path.isfile(self.file(it)) for it in found["endings"]) else None
-        except (OSError, ValueError, KeyError, TypeError):
+        except (OSError, ValueError, KeyError, TypeError, RecursionError, Refused):
             return None
 
     def start(self, wanted: Wanted, predicts: bool) -> None:
@@ -217,8 +232,9 @@ class Maker:
     async def make(self, wanted: Wanted) -> None:
         """Runs all steps, and notes what came of them."""
         result, form = Result(), "dsdiff" if wanted.places % 8 == 0 else "dsf"
-        master = ".dff" if form == "dsdiff" else ".dsf"
+        master = MASTERS[form]
         try:
+            self.demand_inside()
             os.makedirs(self.folder, exist_ok=True)
             with contextlib.suppress(FileNotFoundError):
                 os.remove(os.path.join(self.folder, DONE))
@@ -231,6 +247,8 @@ class Maker:
                 self.keep(result, wanted, form, master)
         except OSError as error:
             why = f"{shown_name(str(error.filename or self.folder))}: {error.strerror}"
+        except Refused as error:
+            why = str(error)
         except asyncio.CancelledError:
             why = "stopped"
         self.told(running=False, why=why, done=why is None)

@@ -7,10 +7,12 @@ import contextlib
 import errno
 import hashlib
 import itertools
+import json
 import os
 import re
 import secrets
 import stat
+import unicodedata
 from collections.abc import Callable
 from dataclasses import dataclass
 from typing import Any
@@ -21,6 +23,7 @@ from tomlkit.exceptions import TOMLKitError
 from cuts import mix_texts, mixes
 from cuts.albums import MOST_TITLE, quoted
 from cuts.clips import WHOLE, Clip as Made, Decoder
+from cuts.curves import Fade
 from cuts.hearing import decibels
 from cuts.list_mixes import LIMIT
 from cuts.mix_texts import CLIP, TABLE, said
@@ -35,7 +38,12 @@ from tools.null_testing.mixes import MOST_OVERLAPPING, MOST_PLACES, Mix, MixFaul
 
 MOST_CLIPS = mixes.MOST_CLIPS
 MOST_TEXT = 1 << 27  # bytes of a mix text
-SHAPE = re.compile(r"\s*#\s*shape\s*=\s*(.*)")
+COMMENT = re.compile(r"\s*#\s*(shape|overlap)\s*=\s*(.*)")
+LINE = re.compile(r"[^\n]*\n|[^\n]+")
+SIDES = ("in", "out")
+
+# The fades of a clip that cover an overlap because it was moved there, by their sides, and what they replaced.
+Overlap = tuple[tuple[str, Fade | None], ...]
 
 
 @dataclass(frozen=True)
@@ -49,6 +57,7 @@ class Clip:
     length: int
     title: str | None = None
     shape: Shape = Shape()
+    overlap: Overlap = ()
 
     @property
     def stop(self) -> int:
@@ -67,7 +76,22 @@ class Clip:
         found: dict[str, Any] = {
             key: getattr(self, key) for key in ("take", "decoder", "start", "at", "length", "title")
         }
-        return found | self.shape.to_json()
+        return found | self.shape.to_json() | ({"overlap": overlap_json(self.overlap)} if self.overlap else {})
+
+
+def overlap_json(overlap: Overlap) -> dict[str, Any]:
+    return {side: [it.bits, it.curve] if it else None for side, it in overlap}
+
+
+def overlap_from(value: object, shape: Shape, length: int) -> Overlap:
+    """Which fades cover an overlap, and what they replaced: of sides that fade."""
+    if value is None:
+        return ()
+    if not isinstance(value, dict) or not set(value) <= set(SIDES):
+        raise Refused("overlap has the sides in and out")
+    fading = {"in": shape.rise, "out": shape.fall}
+    rows = [(side, shapes.fade_from(value[side], length, f"overlap {side}")) for side in SIDES if side in value]
+    return tuple(it for it in rows if fading[it[0]])
 
 
 Clips = dict[int, Clip]
@@ -113,9 +137,17 @@ def clip_from(value: object, limits: Limits) -> Clip:
     if title is not None:
         if not isinstance(title, str) or len(title.encode(errors="replace")) > MOST_TITLE:
             raise Refused(f"a title has at most {MOST_TITLE} bytes")
-        if any(not it.isprintable() for it in title):
-            raise Refused("a title is one line of letters")
-    return Clip(take, decoder, start, at, length, title or None, shapes.from_json(value, length, limits.channels))
+        if any(unicodedata.category(it) == "Cs" for it in title):
+            raise Refused("a title is a text")
+    shape = shapes.from_json(value, length, limits.channels)
+    overlap = overlap_from(value.get("overlap"), shape, length)
+    return Clip(take, decoder, start, at, length, title or None, shape, overlap)
+
+
+def demand_title(title: str | None) -> None:
+    """A title that is typed is one line. A text may have others, which stay."""
+    if any(unicodedata.category(it) in ("Cc", "Zl", "Zp") for it in title or ""):
+        raise Refused("a title is one line of letters")
 
 
 def demand_together(clips: Clips) -> None:
@@ -138,31 +170,40 @@ def plain(clip: Clip) -> read_mixes.Clip:
 # Reading.
 
 
-def shape_comments(text: str) -> dict[int, str]:
-    """What comments say of the shapes of clips, by the numbers of these."""
-    found, clip, is_inside = dict[int, str](), -1, False
+def comments_of(text: str) -> dict[tuple[int, str], str]:
+    """What comments say of clips, by the numbers of these and the first word."""
+    found, clip, is_inside = dict[tuple[int, str], str](), -1, False
     for row in text.split("\n"):
         if TABLE.fullmatch(row):
             is_inside = CLIP.fullmatch(row) is not None
             clip += is_inside
-        elif is_inside and (it := SHAPE.fullmatch(row.rstrip("\r"))):
-            value = said(it[1])
+        elif is_inside and (it := COMMENT.fullmatch(row.rstrip("\r"))):
+            value = said(it[2])
             if value is not None:
-                found[clip] = value
+                found[clip, it[1]] = value
     return found
+
+
+def overlap_said(comment: str | None, shape: Shape, length: int) -> Overlap:
+    """The same by a comment; none if that says something else."""
+    try:
+        return overlap_from(json.loads(comment or "null"), shape, length)
+    except (ValueError, Refused, RecursionError):
+        return ()
 
 
 def clips_in(mix: Mix, text: str, name: str, channels: int) -> Clips:
     """The clips of a text, by their numbers."""
     notes, _ = mix_texts.notes_in(text, len(mix.clips), name)
-    comments = shape_comments(text)
+    comments = comments_of(text)
     found = Clips()
     for number, (it, note) in enumerate(zip(mix.clips, notes)):
         rows = [it.points(channel) for channel in range(channels)]
         if it.gains is None or all(row == rows[0] for row in rows):
             rows = rows[:1]
-        shape = shapes.shape_of(rows, it.length, comments.get(number))
-        found[number] = Clip(it.take, it.decoder, it.start, it.at, it.length, note.title, shape)
+        shape = shapes.shape_of(rows, it.length, comments.get((number, "shape")))
+        overlap = overlap_said(comments.get((number, "overlap")), shape, it.length)
+        found[number] = Clip(it.take, it.decoder, it.start, it.at, it.length, note.title, shape, overlap)
     return found
 
 
@@ -176,7 +217,7 @@ class Block:
 
 def blocks_of(text: str) -> list[Block]:
     """The text in blocks, which are all of it."""
-    rows = text.splitlines(keepends=True)
+    rows = LINE.findall(text)
     clip, found = -1, list[tuple[int, int | None]]([(0, None)])
     for number, row in enumerate(rows):
         line = row.rstrip("\r\n")
@@ -205,6 +246,8 @@ def clip_block(clip: Clip, names: list[str], rate: int) -> str:
         text += f"# title = {quoted(clip.title)}\n"
     if (comment := clip.shape.comment(clip.length)) is not None:
         text += f"# shape = {quoted(comment)}\n"
+    if clip.overlap:
+        text += f"# overlap = {quoted(json.dumps(overlap_json(clip.overlap)))}\n"
     for key in ("take", "decoder", "start", "at", "length"):
         text += f"{key} = {getattr(clip, key)}\n"
     return text + mixes.gains_of(clip.rows)
@@ -364,8 +407,8 @@ def stamp_of(path: str) -> Stamp | None:
 
 
 def read_bytes(path: str) -> bytes:
-    """The bytes of a mix text."""
-    with open(path, "rb") as file:
+    """The bytes of a mix text, of a path that is no link."""
+    with open(path, "rb", opener=lambda name, flags: os.open(name, flags | os.O_NOFOLLOW | os.O_NONBLOCK)) as file:
         if not stat.S_ISREG(os.fstat(file.fileno()).st_mode):
             raise Refused(f"{shown_name(path)} is no file: the desk writes the mix in its place")
         data = file.read(MOST_TEXT + 1)

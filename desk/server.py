@@ -67,6 +67,7 @@ class Server:
 
     def __init__(self, desk: Desk, token: str) -> None:
         self.desk, self.token = desk, token
+        self.came: Callable[[], None] = lambda: None  # what is done once a page came
         self.hosts = set[str]()
         self.queues = set[asyncio.Queue[bytes | None]]()
         self.loop: asyncio.AbstractEventLoop | None = None
@@ -112,7 +113,9 @@ class Server:
         origin = request.headers.get("Origin")
         if origin is not None and origin not in {f"http://{it}" for it in self.hosts}:
             return "another origin"
-        if request.headers.get("Sec-Fetch-Site", "none") not in ("same-origin", "none"):
+        if request.headers.get("Sec-Fetch-Site", "none") not in ("same-origin", "none") and not self.is_opening(
+            request
+        ):
             return "another origin"
         if not secrets.compare_digest(request.match_info.get("token", "").encode(), self.token.encode()):
             return "no token"
@@ -120,6 +123,13 @@ class Server:
         if is_call and not secrets.compare_digest(request.headers.get(TOKEN, "").encode(), self.token.encode()):
             return "no token"
         return None
+
+    @staticmethod
+    def is_opening(request: web.Request) -> bool:
+        """Whether a window is to show the page, as from the file that leads to it (desk/door.py)."""
+        how = [request.headers.get(f"Sec-Fetch-{it}") for it in ("Mode", "Dest")]
+        is_page = request.path.endswith("/") and request.path.count("/") == 2
+        return is_page and request.method == "GET" and how == ["navigate", "document"]
 
     @web.middleware
     async def guard(self, request: web.Request, handler: Handler) -> web.StreamResponse:
@@ -157,6 +167,8 @@ class Server:
     async def page(self, request: web.Request) -> web.Response:
         """A file of the page."""
         name = request.match_info.get("name") or "index.html"
+        if name == "index.html":
+            self.came()
         ending = os.path.splitext(name)[1]
         if name not in os.listdir(PAGE) or ending not in KINDS:
             return refused("there is no such file", 404)
@@ -198,6 +210,9 @@ class Server:
 
     async def drop(self, request: web.Request) -> web.Response:
         return await self.changed(self.desk.drop_taken_up, (await self.body(request)).get("number"))
+
+    async def keep(self, request: web.Request) -> web.Response:
+        return await self.changed(self.desk.keep_taken_up, (await self.body(request)).get("number"))
 
     async def other(self, request: web.Request) -> web.Response:
         return await self.changed(self.desk.take_other, (await self.body(request)).get("number"))
@@ -325,6 +340,7 @@ class Server:
             "/api/operations": self.operations,
             "/api/save": self.save,
             "/api/drop": self.drop,
+            "/api/keep": self.keep,
             "/api/other": self.other,
             "/api/make": self.make,
             "/api/predict": self.predict,

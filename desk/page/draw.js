@@ -25,7 +25,7 @@ export function residualColor(db) {
   return `hsl(${Math.round(part * 130)} 80% ${color.dark ? 60 : 36}%)`;
 }
 
-export const takeColor = number => `hsl(${(205 + number * 67) % 360} ${color.dark ? "45% 30%" : "60% 84%"})`;
+export const takeColor = number => `hsl(${(205 + number * 67) % 360} ${color.dark ? "45% 20%" : "60% 84%"})`;
 const waveColor = number => `hsl(${(205 + number * 67) % 360} ${color.dark ? "75% 76%" : "70% 28%"})`;
 
 function begun(canvas) {
@@ -142,7 +142,7 @@ function paintClip(to, span, view, it, number, top, size) {
   to.lineWidth = isSelected ? 3 : 1;
   to.strokeRect(x0 + 0.5, top + 0.5, Math.max(x1 - x0 - 1, 1), size - 5);
   to.lineWidth = 1;
-  if (isSelected) handles(to, view, it, x0, x1, top, size);
+  if (isSelected) handles(to, view, it, number, x0, x1, top, size);
   if (it.title) mark(to, x0, top, color.main);
 }
 
@@ -172,7 +172,8 @@ function nameClip(to, width, view, it, top) {
   to.restore();
 }
 
-function handles(to, view, it, x0, x1, top, size) {
+const isChosen = (number, channel, at) => model.point?.number === number && model.point.channel === channel && model.point.at === at;
+function handles(to, view, it, number, x0, x1, top, size) {
   to.fillStyle = color.main;
   for (const x of [x0 + (it.in?.[0] ?? 0) / view.per, x1 - (it.out?.[0] ?? 0) / view.per]) {
     to.beginPath();
@@ -183,7 +184,10 @@ function handles(to, view, it, x0, x1, top, size) {
   linesOf(it).forEach((line, channel) => {
     if (isLevel(line) || line.length > MOST_HANDLES) return;
     const box = gainBox(it, channel, top, size);
-    for (const [place, gain] of line) to.fillRect(x0 + place / view.per - 4, gainY(gain / FULL, box) - 4, 8, 8);
+    line.forEach(([place, gain], at) => {
+      const half = isChosen(number, channel, at) ? 6 : 4;
+      to.fillRect(x0 + place / view.per - half, gainY(gain / FULL, box) - half, 2 * half, 2 * half);
+    });
   });
 }
 

@@ -1,5 +1,6 @@
 // What can be done to clips. Each is one step, which can be undone.
 import { change, clip, model, newNumber, ordered, say, select, setCursor, setRange, takeOf } from "./model.js";
+import { byHand, settled } from "./overlaps.js";
 import { gainAt, isFlat, isLevel, lineOf, linesOf, part, withEach, withLine, withLines } from "./shapes.js";
 import { clock, FULL } from "./times.js";
 
@@ -24,7 +25,7 @@ export function chosen() {
 export function insert(at, what = chosen()) {
   if (!what.length) return refuse("This take has no sound.");
   const number = newNumber();
-  change("put a part of a take into the mix", new Map([[number, madeOf(what.take, what.start, what.length, Math.max(0, at))]]));
+  change("put a part of a take into the mix", settled(new Map([[number, madeOf(what.take, what.start, what.length, Math.max(0, at))]])));
   select([number]);
   setCursor("mix", at + what.length);
   setRange(null);
@@ -32,14 +33,14 @@ export function insert(at, what = chosen()) {
 
 export function remove() {
   if (!model.selected.size) return refuse("Select a clip first.");
-  change(`delete ${one(model.selected.size)}`, new Map([...model.selected].map(it => [it, null])));
+  change(`delete ${one(model.selected.size)}`, settled(new Map([...model.selected].map(it => [it, null])), false));
   select([]);
 }
 
 export function moved(numbers, by) {
   const least = Math.min(...numbers.map(it => model.clips.get(it).at));
   const step = Math.max(by, -least);
-  return new Map(numbers.map(it => [it, { ...model.clips.get(it), at: model.clips.get(it).at + step }]));
+  return settled(new Map(numbers.map(it => [it, { ...model.clips.get(it), at: model.clips.get(it).at + step }])));
 }
 
 export function move(by) {
@@ -87,7 +88,8 @@ function joined(one, other) {
   const [first, second] = one.gains || other.gains ? [withEach(one, count), withEach(other, count)] : [one, other];
   if (linesOf(first).some((line, channel) => gainAt(line, first.length) !== gainAt(lineOf(second, channel), 0))) return "the level changes between them";
   const made = withLines(first, (line, channel) => follows(line, first.length, lineOf(second, channel)));
-  return { ...made, length: first.length + second.length, out: second.out };
+  const overlap = { ...first.overlap, ...second.overlap }; // neither fades where they meet
+  return { ...made, length: first.length + second.length, out: second.out, overlap };
 }
 
 // A line that goes on as another one from a place on.
@@ -121,7 +123,7 @@ export function fade() {
     const it = clip(number);
     const first = model.place - it.at;
     if (first <= 0 || first >= it.length) continue;
-    const made = { ...it };
+    const made = byHand({ ...it }, first <= it.length / 2 ? "in" : "out");
     if (first <= it.length / 2) made.in = [Math.min(first, it.length - (it.out?.[0] ?? 0)), it.in?.[1] ?? "s"];
     else made.out = [Math.min(it.length - first, it.length - (it.in?.[0] ?? 0)), it.out?.[1] ?? "s"];
     changes.set(number, made);
@@ -149,9 +151,9 @@ export function crossfade() {
     if (overlap <= 0 || overlap > Math.min(early.length, late.length)) continue;
     if ((early.in?.[0] ?? 0) + overlap > early.length) return refuse("The first clip has no room for it: its fade-in is too long.");
     const curve = early.take === late.take ? "linear" : "power";
-    changes.set(numbers[number], { ...early, out: [overlap, curve] });
+    changes.set(numbers[number], byHand({ ...early, out: [overlap, curve] }, "out"));
     const out = late.out && late.out[0] + overlap > late.length ? null : late.out;
-    changes.set(numbers[number + 1], { ...late, in: [overlap, curve], out });
+    changes.set(numbers[number + 1], byHand({ ...late, in: [overlap, curve], out }, "in"));
   }
   if (!changes.size) return refuse("Select a clip that lies over the end of another one: drag it there first.");
   change("crossfade", changes);
@@ -161,16 +163,48 @@ export function crossfade() {
 export function point() {
   const changes = new Map();
   for (const number of near([...model.selected], model.place)) {
-    const it = clip(number);
-    const place = model.place - it.at;
-    const now = lineOf(it, model.channel);
-    if (!isLevel(now) && now.some(it => it[0] === place)) continue;
-    const line = isLevel(now) ? [[0, now[0][1]], [it.length, now[0][1]]] : now;
-    const made = [...line.filter(it => it[0] < place), [place, gainAt(line, place)], ...line.filter(it => it[0] > place)];
-    changes.set(number, withLine(it, model.channel, made.filter((it, at) => at === 0 || it[0] > made[at - 1][0])));
+    const made = pointed(clip(number), model.channel, model.place - clip(number).at);
+    if (made) changes.set(number, made);
   }
   if (!changes.size) return refuse("Select a clip, and put the cursor inside of it.");
   change("gain point", changes);
+}
+
+// A clip with a point more at a place of its line, which stays as loud; nothing if there is one already.
+function pointed(it, channel, place) {
+  const now = lineOf(it, channel);
+  if (!isLevel(now) && now.some(other => other[0] === place)) return null;
+  const line = isLevel(now) ? [[0, now[0][1]], [it.length, now[0][1]]] : now;
+  const made = [...line.filter(other => other[0] < place), [place, gainAt(line, place)], ...line.filter(other => other[0] > place)];
+  return withLine(it, channel, made.filter((other, at) => at === 0 || other[0] > made[at - 1][0]));
+}
+
+// Adds a point to a line of a clip, and chooses it.
+export function addPoint(number, channel, place) {
+  const made = pointed(clip(number), channel, place);
+  if (!made) return;
+  model.point = { number, channel, at: lineOf(made, channel).findIndex(it => it[0] === place) };
+  change("gain point", new Map([[number, made]]));
+}
+
+export function removePoint({ number, channel, at }) {
+  const rest = lineOf(clip(number), channel).filter((_, other) => other !== at);
+  model.point = null;
+  change("take a gain point away", new Map([[number, withLine(clip(number), channel, isFlat(rest) ? [[0, rest[0][1]]] : rest)]]));
+}
+
+// The chosen point, if it is still there.
+export function chosenPoint() {
+  const { point: it } = model;
+  const line = it && model.selected.has(it.number) && clip(it.number) ? lineOf(clip(it.number), it.channel) : null;
+  return line && !isLevel(line) && it.at < line.length ? it : null;
+}
+
+// What the key for it deletes: the chosen gain point, or clips.
+export function removeChosen() {
+  const it = chosenPoint();
+  if (it) removePoint(it);
+  else remove();
 }
 
 // Puts a pause before the selected clip, or where the cursor is: what begins there or later comes later.
@@ -179,7 +213,7 @@ export function pause(bits) {
   const from = starts.length ? Math.min(...starts) : model.place;
   const later = [...model.clips.keys()].filter(it => clip(it).at >= from);
   if (!later.length) return refuse("Select the clip that the pause comes before.");
-  change(`pause of ${(bits / model.about.rate).toFixed(3)} s`, new Map(later.map(it => [it, { ...clip(it), at: clip(it).at + bits }])));
+  change(`pause of ${(bits / model.about.rate).toFixed(3)} s`, settled(new Map(later.map(it => [it, { ...clip(it), at: clip(it).at + bits }]))));
 }
 
 // The places that something may snap to.

@@ -4,7 +4,8 @@ export const STEPS = [
   "Press “Put into the mix”. Do the same with the next part: it comes after the first.",
   "Drag a clip by its name to move it, and by its ends to trim it.",
   "Drag the round handles of a selected clip to fade it in or out.",
-  "Drag a clip over the end of the one before, and press “Crossfade”.",
+  "Drag a clip over the end of the one before: they crossfade as long as they overlap.",
+  "Double-click the line over a clip’s wave to add a gain point, and drag it.",
   "Click into the mix and press “Play” to hear it from there. Press “Make master” when it is right.",
 ];
 
@@ -23,10 +24,12 @@ export const KEYS = [
   ["S", "split at the cursor"],
   ["J", "join the selected clips"],
   ["F", "fade from an end of the clip to the cursor"],
-  ["X", "crossfade the selected clips where they overlap"],
+  ["X", "crossfade the selected clips where they overlap, by fades that stay"],
   ["G", "gain point at the cursor"],
   ["Shift P", "pause before the selected clip, as long as its field says"],
-  ["Delete", "delete the selected clips"],
+  ["Delete", "take the chosen gain point away, or delete the selected clips"],
+  ["Double click", "on the line of levels: add a gain point; on a point: take it away"],
+  ["Wheel", "scroll; with Ctrl zoom at the pointer"],
   ["Escape", "end a drag, or select nothing; in a lane, then Tab leaves it"],
   ["Ctrl Z, Ctrl Y", "undo, redo"],
   ["Ctrl S", "save"],
@@ -45,11 +48,21 @@ export function nameOf(event) {
   return parts.join(" ");
 }
 
+// What was typed into a field counts before what a key does.
+function finish(field) {
+  const { id, selectionStart: first, selectionEnd: last } = field;
+  field.blur();
+  const now = id && document.getElementById(id);
+  now?.focus();
+  if (now?.type === "text") now.setSelectionRange(first, last);
+}
+
 export function listenTo(bindings) {
   document.addEventListener("keydown", event => {
     const isField = event.target.closest("input[type=text], select, textarea, dialog");
     const name = nameOf(event);
     if (isField && !/^ctrl (s|enter)$/.test(name)) return;
+    if (isField && event.target.id) finish(event.target);
     // A button, a box or a link has the space bar and Enter for itself.
     if (event.target.closest("button, input, a, summary") && /^(space|enter|arrow.*)$/.test(name)) return;
     const found = bindings(name, event);

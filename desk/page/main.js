@@ -3,7 +3,7 @@ import { follow, get, post } from "./api.js";
 import { drawMeter, drawMix, drawOverview, drawTakes, fittingHeight, learnColors, takesHeight } from "./draw.js";
 import * as edits from "./edits.js";
 import { KEYS, listenTo, STEPS } from "./keys.js";
-import { change, done, dropTakenUp, heard, load, model, ordered, redo, refresh, save, say, sayBy, select, setCursor, setRange, takeOther, told, undo } from "./model.js";
+import { change, done, dropTakenUp, heard, keepTakenUp, load, model, ordered, redo, refresh, save, say, sayBy, select, setCursor, setRange, takeOther, told, undo } from "./model.js";
 import { make, showClip, showClips, showLevels, showMarks, showMaster } from "./panels.js";
 import { hear, play, player, stop, warm } from "./player.js";
 import { cancel, isDragging, listen, showAll, showRange, zoom } from "./pointer.js";
@@ -76,7 +76,6 @@ function ask(text, ...answers) {
 }
 
 let told_ = 0;
-let isKept = false;
 function questions() {
   const { state } = model;
   for (const it of state.notes.slice(told_)) message(it);
@@ -86,13 +85,9 @@ function questions() {
     const later = ["Keep mine, and write it over", () => save(true)];
     const text = `${state.outside}. What you did here isn't saved.`;
     ask(state.outside.includes(": ") || state.outside.includes("gone") ? state.outside : text, ["Take the other text, drop mine", () => takeOther()], later);
-  } else if (state.taken_up && !isKept) {
-    const keep = () => {
-      isKept = true;
-      $("#question").hidden = true;
-    };
+  } else if (state.taken_up) {
     const changes = state.taken_up === 1 ? "1 change that nobody saved was" : `${state.taken_up} changes that nobody saved were`;
-    ask(`${changes} taken up from the journal.`, ["Keep them", keep], ["Drop them", () => dropTakenUp()]);
+    ask(`${changes} taken up from the journal.`, ["Keep them", () => keepTakenUp()], ["Drop them", () => dropTakenUp()]);
   }
 }
 
@@ -151,19 +146,22 @@ function keepInSight() {
   before = model.length;
 }
 
-// Says that a making ended, once its result is there.
+// Says that a making ended, once its result is there, and shows its files.
 let wasRunning = false;
 function sayMade() {
   const { make: now, made } = model.state;
-  if (wasRunning && !now.running && now.done && !now.predicts && made) message(made.accepted && made.checked ? `The master is made and accepted. It is in ${made.folder}` : "The master is made, and rejected.", !made.accepted);
+  const isMade = wasRunning && !now.running && now.done && !now.predicts && made;
   wasRunning = now.running;
+  if (!isMade) return;
+  message(made.accepted && made.checked ? `The master is made and accepted. It is in ${made.folder}` : "The master is made, and rejected.", !made.accepted);
+  $("#files").scrollIntoView({ block: "center" });
 }
 
 const SHOWS = {
   state: () => {
     keepInSight();
-    sayMade();
     showState();
+    sayMade();
     showClips();
     showClip();
     showMarks();
@@ -262,7 +260,8 @@ function reveal() {
   told("view");
 }
 
-function saveNow() {
+async function saveNow() {
+  await done();
   if (!model.clips.size) return message("The mix is empty: put a part of a take into it.", true);
   if (!model.state.saved || model.state.outside) save();
 }
@@ -281,6 +280,7 @@ async function start(what) {
   lines = [];
   try {
     await post(what, { move });
+    wasRunning = true;
     await refresh();
     $("#master").scrollIntoView({ block: "nearest" });
   } catch (error) {
@@ -289,6 +289,7 @@ async function start(what) {
 }
 
 async function makeMaster() {
+  await done();
   if (!model.clips.size) return saveNow();
   if (model.state.make.running) return message("A master is being made.", true);
   if (!model.state.saved) await save();
@@ -392,7 +393,7 @@ const BINDINGS = {
   "<": () => edits.move(-Math.round(10 * model.views.mix.per)), ">": () => edits.move(Math.round(10 * model.views.mix.per)),
   n: () => neighbour(1), p: () => neighbour(-1),
   s: edits.split, j: edits.join, f: edits.fade, x: edits.crossfade, g: edits.point, "shift p": pause,
-  delete: edits.remove, backspace: edits.remove,
+  delete: edits.removeChosen, backspace: edits.removeChosen,
   "ctrl z": undo, "ctrl y": redo, "ctrl shift z": redo, "ctrl s": saveNow, "ctrl enter": makeMaster,
   "?": help,
 };
@@ -451,7 +452,7 @@ function buttons() {
     lower: () => tall(0.5), taller: () => tall(2),
     "take-in": () => zoom("takes", 1 / 1.5, takes.clientWidth / 2, takes.clientWidth), "take-out": () => zoom("takes", 1.5, takes.clientWidth / 2, takes.clientWidth),
     "take-all": () => showAll("takes", takes.clientWidth), insert, split: edits.split, join: edits.join, fade: edits.fade, cross: edits.crossfade, point: edits.point,
-    pause, delete: edits.remove, predict,
+    pause, delete: edits.removeChosen, predict,
   };
   for (const [name, act] of Object.entries(clicks)) {
     // After a click by the mouse the space bar plays, and doesn't press the button again.

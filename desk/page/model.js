@@ -10,6 +10,7 @@ export const model = {
   cursor: { lane: "mix", bit: 0 },
   place: 0, // where the cursor was last in the mix
   take: 0, // the take that was looked at last
+  point: null, // the gain point that was pressed last: { number, channel, at }
   channel: 0, // whose line of levels is changed, where each channel has one
   range: null, // { lane, from, to } in bits
   views: { mix: { from: 0, per: 1000 }, takes: { from: 0, per: 1000 } },
@@ -84,6 +85,7 @@ export function change(label, clips) {
 export const undo = () => inTurn(async () => take(await post("operations", { number: model.state.number, undo: true })));
 export const redo = () => inTurn(async () => take(await post("operations", { number: model.state.number, redo: true })));
 export const save = (over = false) => inTurn(async () => take(await post("save", { number: model.state.number, over })));
+export const keepTakenUp = () => inTurn(async () => take(await post("keep", { number: model.state.number })));
 export const dropTakenUp = () => inTurn(async () => take(await post("drop", { number: model.state.number })));
 export const takeOther = () => inTurn(async () => take(await post("other", { number: model.state.number })));
 export const done = () => last;
@@ -96,6 +98,7 @@ export function newNumber() {
 
 export function select(numbers) {
   model.selected = new Set(numbers);
+  if (model.point && !model.selected.has(model.point.number)) model.point = null;
   told("selection");
 }
 

@@ -2,8 +2,9 @@
 import { get } from "./api.js";
 import { drawSpectrum, loudest, residualColor } from "./draw.js";
 import { STEPS as STEPS_FIRST } from "./keys.js";
-import { trimmed } from "./edits.js";
+import { removePoint, trimmed } from "./edits.js";
 import { change, clip, model, ordered, say, select, setCursor, told } from "./model.js";
+import { byHand, curved, settled } from "./overlaps.js";
 import { CURVES, isFlat, isLevel, lineOf, linesOf, NAMES, withEach, withLine, withOne } from "./shapes.js";
 import { clock, decibels, FULL, gainOf, grouped, lasting, level, levelOf, parsed } from "./times.js";
 
@@ -30,8 +31,7 @@ export function nameOfClip(it, number) {
   const { rate } = model.about;
   const parts = [`${clock(it.at, rate)} to ${clock(it.at + it.length, rate)}`, apart(model.about.takes[it.take].name)];
   if (it.title) parts.unshift(`“${apart(it.title)}”`);
-  if (it.in) parts.push(`fade in ${lasting(it.in[0], rate)}`);
-  if (it.out) parts.push(`fade out ${lasting(it.out[0], rate)}`);
+  for (const side of ["in", "out"]) if (it[side]) parts.push(`${it.overlap?.[side] === undefined ? "fade" : "crossfade"} ${side} ${lasting(it[side][0], rate)}`);
   if (it.gains) parts.push("levels of its channels");
   const most = Math.max(...linesOf(it).map(line => (isFlat(line) ? 0 : line.length)));
   if (most) parts.push(`${most} gain points`);
@@ -99,7 +99,7 @@ function fades(number, it, side, name) {
   const set = (bits, curve) => {
     const other = it[side === "in" ? "out" : "in"]?.[0] ?? 0;
     if (bits + other > it.length) return `The fades of a clip take no longer than the clip, ${lasting(it.length, rate)}.`;
-    change(side === "in" ? "fade in" : "fade out", new Map([[number, { ...it, [side]: bits ? [bits, curve] : null }]]));
+    change(side === "in" ? "fade in" : "fade out", new Map([[number, byHand({ ...it, [side]: bits ? [bits, curve] : null }, side)]]));
   };
   const time = make("input", { type: "text", id: `fade-${side}`, value: now ? lasting(now[0], rate) : "0 ms", "aria-label": `${name}: time`, autocomplete: "off" });
   const curve = make("select", { id: `curve-${side}`, "aria-label": `${name}: curve`, disabled: !now }, ...Object.keys(CURVES).map(key => make("option", { value: key, selected: (now?.[1] ?? "s") === key }, NAMES[key])));
@@ -109,35 +109,36 @@ function fades(number, it, side, name) {
     if (why) say(why, true);
     else showClip(true);
   });
-  curve.addEventListener("change", () => set(now[0], curve.value));
+  curve.addEventListener("change", () => change("curve", curved(number, side, curve.value)));
   return [make("span", {}, name), make("span", { class: "two" }, time, curve)];
 }
 
 function fields(number, it) {
   const { rate, takes } = model.about;
   const put = (label, now) => void change(label, new Map([[number, now]]));
+  const lay = (label, now) => void change(label, settled(new Map([[number, now]])));
   const bits = takes[it.take].bits;
   const rows = [
     make("p", { class: "wide hint" }, `${takes[it.take].name}, bits ${grouped(it.start)} to ${grouped(it.start + it.length)} of ${grouped(bits)}`),
     ...field("title", "title", it.title ?? "", text => {
       if (new TextEncoder().encode(text).length > model.about.most_title) return `A title has at most ${model.about.most_title} bytes.`;
-      put("title", { ...it, title: text.trim() || null });
+      put("title", { ...it, title: text || null });
     }, "what begins here; the master gets a mark"),
-    ...timeField("at", "at", it.at, at => put("move 1 clip", { ...it, at })),
+    ...timeField("at", "at", it.at, at => lay("move 1 clip", { ...it, at })),
     ...timeField("start", "from", it.start, start => {
       if (start + it.length > bits) return "The take ends before that.";
       put("slip", { ...it, start });
     }),
     ...timeField("length", "length", it.length, length => {
       if (length < 1 || it.start + length > bits) return "The take isn't that long.";
-      put("trim the end", trimmed(it, "end", length - it.length));
+      lay("trim the end", trimmed(it, "end", length - it.length));
     }),
   ];
   const edges = [];
   if (it.start === 0 && !it.in) edges.push("begins with the first bit");
   if (it.start + it.length === bits && !it.out) edges.push("ends with the last bit");
   if (edges.length) rows.push(make("p", { class: "wide hint", id: "edges" }, `It ${edges.join(" and ")} of its take, beyond which nothing is heard: that may click. Trim it by 5 ms there, or fade it.`));
-  return [...rows, ...fades(number, it, "in", "fade in"), ...fades(number, it, "out", "fade out"), ...each(it, put), ...levels(it, put)];
+  return [...rows, ...fades(number, it, "in", "fade in"), ...fades(number, it, "out", "fade out"), ...each(it, put), ...levels(number, it, put)];
 }
 
 // Whether each channel has a line of its own, and which of them is shown.
@@ -157,10 +158,10 @@ function each(it, put) {
 }
 
 // The level of the line, or its points.
-function levels(it, put) {
+function levels(number, it, put) {
   const line = lineOf(it, model.channel);
   const set = (label, now) => put(label, withLine(it, model.channel, now));
-  if (!isLevel(line)) return points(it, line, set);
+  if (!isLevel(line)) return points(number, it, line, set);
   return field("level", "level, dB", levelOf(line[0][1]), text => {
     const gain = gainOf(text);
     if (gain === null || gain > MOST_GAIN) return `${text} is no level such as −3, off, or at most +12`;
@@ -169,13 +170,13 @@ function levels(it, put) {
 }
 
 // The points of a line of levels, each with its place and its level.
-function points(it, line, set) {
+function points(number, it, line, set) {
   const { rate } = model.about;
   const found = [make("span", { class: "wide" }, `gain points: ${line.length}; times count from the start of the clip`)];
   const clear = make("button", { type: "button", class: "wide", onclick: () => set("level", [[0, FULL]]) }, "Take all points away");
   if (line.length > MOST_SHOWN) return [...found, clear];
   line.forEach(([place, gain], at) => {
-    const replaced = row => set("gain point", line.map((other, number) => (number === at ? row : other)));
+    const replaced = row => set("gain point", line.map((other, place_) => (place_ === at ? row : other)));
     const [low, high] = [at ? line[at - 1][0] + 1 : 0, at + 1 < line.length ? line[at + 1][0] - 1 : it.length];
     const when = make("input", { type: "text", id: `place-${at}`, value: clock(place, rate), "aria-label": `time of gain point ${at + 1}`, autocomplete: "off" });
     when.addEventListener("change", () => {
@@ -191,7 +192,7 @@ function points(it, line, set) {
       say(`${input.value} is no level such as −3`, true);
       showClip(true);
     });
-    const away = make("button", { type: "button", "aria-label": `take gain point ${at + 1} away`, onclick: () => set("take a gain point away", line.filter((_, other) => other !== at)) }, "✕");
+    const away = make("button", { type: "button", "aria-label": `take gain point ${at + 1} away`, onclick: () => removePoint({ number, channel: model.channel, at }) }, "✕");
     found.push(make("span", { class: "wide point" }, when, input, away));
   });
   return [...found, clear];
@@ -297,6 +298,8 @@ function expected(predicted, limit, actions) {
   return [...parts, ...cutsTable("expected", cuts, moves, "click that is expected, and what will be new", actions)];
 }
 
+const sized = bytes => (bytes < 1e3 ? `${bytes} bytes` : bytes < 1e5 ? `${(bytes / 1e3).toFixed(1)} kB` : `${(bytes / 1e6).toFixed(2)} MB`);
+
 function result(made, limit, actions) {
   const parts = [];
   if (!made.is_current) parts.push(make("p", { class: "bad" }, "This master is of the mix as it was before: make it again."));
@@ -304,9 +307,9 @@ function result(made, limit, actions) {
   parts.push(make("p", { class: made.accepted ? "good" : "bad", id: "verdict" }, make("strong", {}, word), ` — what is left is at most ${level(made.residual)}, and ${level(limit)} is allowed. ${made.share ?? 0} % of its bits are the takes’ own.`));
   if (made.accepted) parts.push(make("p", { class: "hint", id: "theorem" }, SENTENCE));
   if (made.move) parts.push(make("p", { class: "hint", id: "moved" }, movedText(made.moves)));
-  parts.push(...cutsTable("cuts", made.cuts, made.moves ?? [], "click, and what is new", actions));
-  const links = made.endings.map(it => make("li", {}, make("a", { href: `file/${it.slice(1)}`, download: true }, FILES[it] ?? it), ` ${(made.sizes[it] / 1e6).toFixed(2)} MB`));
+  const links = made.endings.map(it => make("li", {}, make("a", { href: `file/${it.slice(1)}`, download: true }, FILES[it] ?? it), ` ${sized(made.sizes[it])}`));
   parts.push(make("p", { class: "hint" }, `The files are in ${made.folder}`), make("ul", { id: "files" }, ...links));
+  parts.push(...cutsTable("cuts", made.cuts, made.moves ?? [], "click, and what is new", actions));
   return parts;
 }
 

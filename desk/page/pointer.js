@@ -1,14 +1,17 @@
 // The mouse, the pen and the finger on the lanes. A drag shows what it would do, and is one step when it ends; Escape and
 // whatever else interrupts it leave all as it was.
 import { channelAt, gainBox, gainOfY, gainY, HEAD, mixPlan, QUIETEST, RULER, takeHeight } from "./draw.js";
-import { insert, moved, places, snapped, trimmed } from "./edits.js";
-import { change, clip, model, select, setCursor, setRange, shown, told } from "./model.js";
-import { isLevel, lineOf, linesOf, withLine } from "./shapes.js";
-import { FULL } from "./times.js";
+import { addPoint, insert, moved, places, removePoint, snapped, trimmed } from "./edits.js";
+import { change, model, select, setCursor, setRange, shown, told } from "./model.js";
+import { byHand, overlapping, settled } from "./overlaps.js";
+import { envelope, gainAt, isLevel, lineOf, linesOf, withLine } from "./shapes.js";
+import { clock, decibels, FULL, lasting, level } from "./times.js";
 
 const EDGE = 7; // pixels
 const MOVED = 4; // pixels after which a press is a drag
 const SNAP = 9;
+const LINE = 6; // pixels beside a line of levels that are on it
+const TENTHS = 10; // of a decibel, to which levels are dragged
 const MOST_PER = 2 ** 36 / 200;
 
 let drag = null;
@@ -73,9 +76,22 @@ function hit(x, y, height) {
     }
     if (Math.abs(x - x0) < EDGE) return { ...found, what: "start" };
     if (Math.abs(x - x1) < EDGE) return { ...found, what: "end" };
-    if (x >= x0 && x <= x1) return { ...found, what: y < top + HEAD ? "head" : "body" };
+    if (x < x0 || x > x1) continue;
+    const isOnLine = y >= top + HEAD && onLine(it, found.channel, gainBox(it, found.channel, top, plan.size), x - x0, y);
+    return { ...found, isOnLine, what: y < top + HEAD ? "head" : "body" };
   }
   return { what: "nothing" };
+}
+
+// Whether a point of a clip is on its line of levels, as it is drawn, or without the fades.
+function onLine(it, channel, box, x, y) {
+  const { per } = model.views.mix;
+  const places = [-3, 0, 3].map(by => Math.max(0, Math.min(Math.round((x + by) * per), it.length - 1)));
+  const isNear = levels => {
+    const rows = levels.map(found => gainY(found, box));
+    return y > Math.min(...rows) - LINE && y < Math.max(...rows) + LINE;
+  };
+  return isNear(places.map(place => envelope(it, place, channel))) || isNear(places.map(place => gainAt(lineOf(it, channel), place) / FULL));
 }
 
 const CURSORS = { ruler: "text", in: "ew-resize", out: "ew-resize", start: "ew-resize", end: "ew-resize", point: "move", head: "grab", body: "default", nothing: "text" };
@@ -92,6 +108,7 @@ function press(event) {
   const bit = bitAt(model.views.mix, x);
   drag = { ...found, id: event.pointerId, canvas: mix, x, y, bit, isMoved: false, numbers: new Set() };
   mix.setPointerCapture(event.pointerId);
+  model.point = found.what === "point" ? { number: found.number, channel: found.channel, at: found.point } : null;
   if (found.number !== undefined) {
     if (found.it.gains && found.what !== "head") model.channel = found.channel;
     const isMore = event.shiftKey || event.ctrlKey || event.metaKey;
@@ -120,24 +137,50 @@ function dragMix(x, y) {
     preview(moved([...drag.numbers], first !== by ? first : least));
   } else if (drag.what === "start" || drag.what === "end") {
     const edge = drag.what === "start" ? it.at : it.at + it.length;
-    preview(new Map([[drag.number, trimmed(it, drag.what, snap(edge + by) - edge)]]));
+    preview(settled(new Map([[drag.number, trimmed(it, drag.what, snap(edge + by) - edge)]])));
   } else if (drag.what === "in") {
     const bits = Math.round(Math.max(0, Math.min(snap(bit) - it.at, it.length - (it.out?.[0] ?? 0))));
-    preview(new Map([[drag.number, { ...it, in: bits ? [bits, it.in?.[1] ?? "s"] : null }]]));
+    preview(new Map([[drag.number, byHand({ ...it, in: bits ? [bits, it.in?.[1] ?? "s"] : null }, "in")]]));
   } else if (drag.what === "out") {
     const bits = Math.round(Math.max(0, Math.min(it.at + it.length - snap(bit), it.length - (it.in?.[0] ?? 0))));
-    preview(new Map([[drag.number, { ...it, out: bits ? [bits, it.out?.[1] ?? "s"] : null }]]));
+    preview(new Map([[drag.number, byHand({ ...it, out: bits ? [bits, it.out?.[1] ?? "s"] : null }, "out")]]));
   } else if (drag.what === "point") {
     const line = lineOf(it, drag.channel).map(row => [...row]);
     const low = drag.point ? line[drag.point - 1][0] + 1 : 0;
     const high = drag.point + 1 < line.length ? line[drag.point + 1][0] - 1 : it.length;
-    const gain = gainOfY(y, drag.box);
-    line[drag.point] = [Math.max(low, Math.min(Math.round(bit - it.at), high)), gain <= 10 ** (QUIETEST / 20) ? 0 : Math.round(gain * FULL)];
+    const db = Math.round(decibels(gainOfY(y, drag.box)) * TENTHS) / TENTHS;
+    const gain = db <= QUIETEST ? 0 : Math.round(10 ** (db / 20) * FULL);
+    line[drag.point] = [Math.round(Math.max(low, Math.min(snap(bit) - it.at, high))), gain];
     preview(new Map([[drag.number, withLine(it, drag.channel, line)]]));
   } else if (drag.what === "ruler" || drag.what === "nothing" || drag.what === "body") {
     drag.places ??= places();
     setRange({ lane: "mix", from: Math.max(0, Math.round(snap(drag.bit))), to: Math.max(0, Math.round(snap(bit))) });
   }
+}
+
+// What a drag of a clip would come to.
+function saying() {
+  const it = model.preview?.get(drag.number);
+  const { rate } = model.about;
+  if (!it) return "";
+  if (drag.what === "point") {
+    const [place, gain] = lineOf(it, drag.channel)[drag.point];
+    return `${level(gain ? decibels(gain / FULL) : null)} at ${clock(it.at + place, rate)}`;
+  }
+  if (drag.what === "in" || drag.what === "out") return `fade ${drag.what} ${lasting(it[drag.what]?.[0] ?? 0, rate)}`;
+  const times = drag.what === "head" ? `at ${clock(it.at, rate)}` : `${clock(it.at, rate)} to ${clock(it.at + it.length, rate)}`;
+  return [times, ...overlapping(it).map(bits => `crossfade ${lasting(bits, rate)}`)].join(", ");
+}
+
+// Shows it beside the pointer.
+function showTip(event) {
+  const tip = document.querySelector("#tip");
+  const text = event && drag?.canvas === mix ? saying() : "";
+  tip.hidden = !text;
+  if (!text) return;
+  tip.textContent = text;
+  tip.style.left = `${Math.max(0, Math.min(event.clientX + 14, innerWidth - tip.offsetWidth - 4))}px`;
+  tip.style.top = `${Math.max(0, event.clientY - 34)}px`;
 }
 
 const LABELS = { head: "move", start: "trim the start", end: "trim the end", in: "fade in", out: "fade out", point: "move a gain point" };
@@ -146,6 +189,7 @@ function release(event) {
   if (!drag || event.pointerId !== drag.id) return;
   const it = drag;
   drag = null;
+  showTip();
   if (it.canvas === takes) return releaseTake(it);
   if (it.isMoved && model.preview) {
     const rows = [...model.preview].filter(([number, now]) => JSON.stringify(now) !== JSON.stringify(model.clips.get(number)));
@@ -160,6 +204,7 @@ function release(event) {
 export function cancel() {
   if (!drag) return false;
   drag = null;
+  showTip();
   model.preview = null;
   model.drop = null;
   told("clips");
@@ -219,7 +264,8 @@ function move(event) {
   if (!drag) {
     if (event.currentTarget === mix) {
       const { x, y } = point(event, mix);
-      mix.style.cursor = CURSORS[hit(x, y, mix.clientHeight).what];
+      const found = hit(x, y, mix.clientHeight);
+      mix.style.cursor = found.isOnLine ? "crosshair" : CURSORS[found.what];
     } else {
       const { x, y } = point(event, takes);
       const bit = bitAt(model.views.takes, x);
@@ -234,14 +280,25 @@ function move(event) {
   drag.isMoved = true;
   if (drag.canvas === takes) dragTake(event, x);
   else dragMix(x, y);
+  showTip(event);
 }
 
-// Two fingers zoom and scroll as the wheel does.
+// A double click adds a point to a line of levels, or takes one away.
+function twice(event) {
+  const { x, y } = point(event, mix);
+  const found = hit(x, y, mix.clientHeight);
+  const place = Math.round(bitAt(model.views.mix, x)) - (found.it?.at ?? 0);
+  if (found.what === "point") removePoint({ ...found, at: found.point });
+  else if (found.isOnLine && place > 0 && place < found.it.length) addPoint(found.number, found.channel, place);
+}
+
+// Two fingers zoom and scroll as the wheel does. Some browsers count lines or pages.
 function wheel(event, name, canvas) {
   event.preventDefault();
   const { x } = point(event, canvas);
-  if (event.ctrlKey || event.metaKey) zoom(name, 1.0015 ** event.deltaY, x, canvas.clientWidth);
-  else scroll(name, event.deltaX || event.deltaY, canvas.clientWidth);
+  const unit = [1, 16, canvas.clientWidth][event.deltaMode];
+  if (event.ctrlKey || event.metaKey) zoom(name, 1.0015 ** (event.deltaY * unit), x, canvas.clientWidth);
+  else scroll(name, (event.deltaX || event.deltaY) * unit, canvas.clientWidth);
 }
 
 export function listen(mixCanvas, takesCanvas, overview) {
@@ -254,6 +311,7 @@ export function listen(mixCanvas, takesCanvas, overview) {
     it.addEventListener("pointercancel", cancel);
     it.addEventListener("lostpointercapture", event => drag && event.pointerId === drag.id && cancel());
   }
+  mix.addEventListener("dblclick", twice);
   mix.addEventListener("wheel", event => wheel(event, "mix", mix), { passive: false });
   takes.addEventListener("wheel", event => wheel(event, "takes", takes), { passive: false });
   let isOn = false;
@@ -271,5 +329,3 @@ export function listen(mixCanvas, takesCanvas, overview) {
   overview.addEventListener("pointermove", event => isOn && go(event));
   for (const it of ["pointerup", "pointercancel"]) overview.addEventListener(it, () => (isOn = false));
 }
-
-export { clip };

@@ -86,6 +86,7 @@ export function part(clip, first, length, keeps) {
   const made = { ...withLines(clip, it => pointsFrom(it, first, length)), start: clip.start + first, at: clip.at + first, length };
   made.in = keeps.in && clip.in ? [Math.min(clip.in[0], length), clip.in[1]] : null;
   made.out = keeps.out && clip.out ? [Math.min(clip.out[0], length), clip.out[1]] : null;
+  if (clip.overlap) made.overlap = Object.fromEntries(Object.entries(clip.overlap).filter(([side]) => keeps[side]));
   const over = (made.in?.[0] ?? 0) + (made.out?.[0] ?? 0) - length;
   if (over > 0) {
     if (keeps.moved === "in") made.out = made.out[0] > over ? [made.out[0] - over, made.out[1]] : null;

@@ -3,7 +3,6 @@ import base64
 import contextlib
 import importlib.util
 import os
-import re
 import shutil
 import signal
 import time
@@ -15,8 +14,7 @@ from tests.helpers.trials import ROOT, built_program, demand, get, put, run
 
 USUAL = (1400, 1000)
 SIZES = ((1280, 800), (390, 844), (1920, 1080))
-TEXTS = ("ink", "soft", "main", "bad", "good")  # colours of text, on these grounds:
-GROUNDS = ("ground", "panel", "lane")
+SCHEMES = ("light", "dark")
 CONTRAST = 4.5
 SOON = 0.15  # seconds in which a sound begins, at most, where the machine is idle
 PAGE = 200_000  # bytes
@@ -64,9 +62,16 @@ def ready(window: Any) -> None:
     time.sleep(0.3)
 
 
+def settle(window: Any) -> None:
+    """Waits until all that the page asked for is answered."""
+    script = "const end = arguments[0]; import(new URL('model.js', location)).then(it => it.done()).then(end, end)"
+    window.execute_async_script(script)
+
+
 def seen(window: Any) -> dict[str, Any]:
     """What the page holds, once all that was asked for is answered."""
     time.sleep(0.4)
+    settle(window)
     found: dict[str, Any] = window.execute_script(
         """const { model, player } = window.desk;
         return { number: model.state.number, clips: Object.fromEntries(model.clips), selected: [...model.selected],
@@ -288,6 +293,7 @@ def master(window: Any, pictures: str | None) -> None:
     demand(rows and "dB" in rows[0].text, "no cut is shown")
     links = window.find_elements("css selector", "#files a")
     demand(len(links) >= 5, f"{len(links)} files are given")
+    demand(until(lambda: in_sight(window, "#files a"), 5), "the files aren't in sight")
     radio = element(window, "[name=heard][value=master]")
     demand(radio.is_enabled(), "the master can't be heard")
     press(window, "ESCAPE")
@@ -301,15 +307,23 @@ def master(window: Any, pictures: str | None) -> None:
     picture(window, pictures, "made")
 
 
+def in_sight(window: Any, name: str) -> bool:
+    """Whether all that have this name are in the window, between its head and its foot."""
+    script = """const box = it => it.getBoundingClientRect(), rows = [...document.querySelectorAll(arguments[0])].map(box);
+    const [head, foot, notes] = ["header", "footer", "#notes"].map(name => box(document.querySelector(name)));
+    return rows.every(it => it.top >= Math.max(head.bottom, notes.bottom) && it.bottom <= foot.top)"""
+    return bool(window.execute_script(script, name))
+
+
 def looks(window: Any, pictures: str | None) -> None:
     """In each size, light and dark, all is in sight, and has a name."""
     for size in SIZES:
-        for scheme in ("light", "dark"):
-            features = {"features": [{"name": "prefers-color-scheme", "value": scheme}]}
-            window.execute_cdp_cmd("Emulation.setEmulatedMedia", features)
+        for scheme in SCHEMES:
+            show_in(window, scheme)
             metrics = {"width": size[0], "height": size[1], "deviceScaleFactor": 1, "mobile": False}
             window.execute_cdp_cmd("Emulation.setDeviceMetricsOverride", metrics)
             time.sleep(0.7)
+            contrast(window, f"{size[0]} pixels, {scheme}")
             picture(window, pictures, f"{size[0]}-{scheme}")
             wide = window.execute_script(
                 "const it = document.documentElement; return [it.scrollWidth, it.clientWidth, "
@@ -320,7 +334,6 @@ def looks(window: Any, pictures: str | None) -> None:
                 wide[0] <= wide[1] and not wide[2], f"{size[0]} pixels: the page is {wide[0]} wide, outside: {wide[2]}"
             )
     named(window)
-    contrast()
     weight = sum(it.stat().st_size for it in os.scandir(os.path.join(ROOT, "desk", "page")))
     demand(weight < PAGE, f"the page has {weight} bytes")
 
@@ -334,26 +347,18 @@ def named(window: Any) -> None:
     demand({"main", "complementary"} <= set(roles), f"landmarks: {roles}")
 
 
-def brightness(color: str) -> float:
-    parts = [int(color[at : at + 2], 16) / 255 for at in (1, 3, 5)]
-    red, green, blue = (it / 12.92 if it <= 0.03928 else ((it + 0.055) / 1.055) ** 2.4 for it in parts)
-    return 0.2126 * red + 0.7152 * green + 0.0722 * blue
+def show_in(window: Any, scheme: str) -> None:
+    """Shows the page light or dark."""
+    features = {"features": [{"name": "prefers-color-scheme", "value": scheme}]}
+    window.execute_cdp_cmd("Emulation.setEmulatedMedia", features)
 
 
-def ratio(one: str, other: str) -> float:
-    low, high = sorted((brightness(one), brightness(other)))
-    return (high + 0.05) / (low + 0.05)
-
-
-def contrast() -> None:
-    """Texts are read on all grounds."""
-    text = get(os.path.join(ROOT, "desk", "page", "desk.css")).decode()
-    for number, part in enumerate(re.findall(r":root \{(.*?)\}", text, re.DOTALL)[:2]):
-        colors = dict(re.findall(r"--([a-z-]+): (#[0-9a-f]{6})", part))
-        pairs = [(it, ground) for it in TEXTS for ground in GROUNDS] + [("on-main", "main")]
-        for one, other in pairs:
-            found = ratio(colors[one], colors[other])
-            demand(found >= CONTRAST, f"{('light', 'dark')[number]}: {one} on {other} has {found:.1f}")
+def contrast(window: Any, where: str) -> int:
+    """All texts in sight are read on their grounds: how many there are."""
+    script = get(os.path.join(ROOT, "tests", "desk", "faint.js")).decode()
+    count, found = window.execute_async_script(script, CONTRAST)
+    demand(count > 60 and not found, f"{where}: of {count} texts are faint: {found}")
+    return int(count)
 
 
 def by_keys(_: str | None) -> None:
@@ -404,28 +409,59 @@ def asked(_: str | None) -> None:
     desk = Desk("piece_1.dff", "piece_2.dff")
     desk.change(label="put", clips={"0": clip()})
     desk.save()
+    crash(desk)
+    with opened("album.mix.toml") as desk, browser(desk) as window:
+        kept_once(window)
+        crash(desk)
+        with opened("album.mix.toml") as desk:
+            load(window, desk)
+            window.get_log("browser")  # the desk that was killed didn't answer
+            question = element(window, "#question")
+            demand("nobody saved" in question.text and not seen(window)["saved"], f"taken up: {question.text!r}")
+            question.find_elements("css selector", "button")[1].click()
+            demand(until(lambda: seen(window)["saved"], 10), "what was taken up isn't dropped")
+            other_text(window)
+            quiet(window, "asked")
+    print("in Chromium: it asks what is to become of what wasn't saved, and stops", flush=True)
+
+
+def crash(desk: Desk) -> None:
+    """A change that nobody saves, and the end of the server."""
     desk.change(label="move", clips={"0": clip(at=800)})
     desk.end(signal.SIGKILL)
-    with opened("album.mix.toml") as desk, browser(desk) as window:
-        question = element(window, "#question")
-        demand("1 change that" in question.text and not seen(window)["saved"], f"taken up: {question.text!r}")
-        question.find_elements("css selector", "button")[1].click()
-        demand(until(lambda: seen(window)["saved"], 10), "what was taken up isn't dropped")
-        window.execute_script("window.desk.edits.insert(900000, { take: 1, start: 0, length: 100000 })")
-        demand(len(seen(window)["clips"]) == 2, "nothing was put in")
-        put("album.mix.toml", get("album.mix.toml").decode().replace("at = 0\n", "at = 80\n"))
-        demand(until(lambda: "another program" in question.text, 10), f"outside: {question.text!r}")
-        question.find_elements("css selector", "button")[0].click()
-        is_other = until(lambda: [it["at"] for it in seen(window)["clips"].values()] == [80], 10)
-        demand(is_other and seen(window)["saved"], f"the other text isn't taken: {seen(window)['clips']}")
-        click(window, "#make")
-        if until(lambda: window.find_elements("css selector", "#stop-making"), 20):
-            click(window, "#stop-making")
-            demand(until(lambda: "stopped" in element(window, "#master").text, 20), element(window, "#master").text)
-        else:
-            demand(False, f"a making can't be stopped: {element(window, '#master').text}")
-        quiet(window, "asked")
-    print("in Chromium: it asks what is to become of what wasn't saved, and stops", flush=True)
+
+
+def kept_once(window: Any) -> None:
+    """What is taken up is said once, and not again once it is kept."""
+    question = element(window, "#question")
+    demand("1 change that" in question.text and not seen(window)["saved"], f"taken up: {question.text!r}")
+    demand(element(window, "#notes").text == "", f"what was taken up is said twice: {element(window, '#notes').text}")
+    question.find_elements("css selector", "button")[0].click()
+    demand(until(lambda: not question.is_displayed(), 10), "what was taken up can't be kept")
+    window.refresh()
+    ready(window)
+    question = element(window, "#question")
+    demand(not question.is_displayed() and not seen(window)["notes"], "what was kept is said again")
+    press(window, "control z")
+    demand(until(lambda: seen(window)["saved"], 10), "what was taken up can't be undone")
+
+
+def other_text(window: Any) -> None:
+    """Another program writes the text; and a making is stopped."""
+    question = element(window, "#question")
+    window.execute_script("window.desk.edits.insert(900000, { take: 1, start: 0, length: 100000 })")
+    demand(len(seen(window)["clips"]) == 2, "nothing was put in")
+    put("album.mix.toml", get("album.mix.toml").decode().replace("at = 0\n", "at = 80\n"))
+    demand(until(lambda: "another program" in question.text, 10), f"outside: {question.text!r}")
+    question.find_elements("css selector", "button")[0].click()
+    is_other = until(lambda: [it["at"] for it in seen(window)["clips"].values()] == [80], 10)
+    demand(is_other and seen(window)["saved"], f"the other text isn't taken: {seen(window)['clips']}")
+    click(window, "#make")
+    if until(lambda: window.find_elements("css selector", "#stop-making"), 20):
+        click(window, "#stop-making")
+        demand(until(lambda: "stopped" in element(window, "#master").text, 20), element(window, "#master").text)
+    else:
+        demand(False, f"a making can't be stopped: {element(window, '#master').text}")
 
 
 def ten_tabs(_: str | None) -> None:

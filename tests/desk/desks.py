@@ -20,11 +20,14 @@ PATIENCE = 60  # seconds
 
 
 class Desk:
-    """A desk that runs."""
+    """A desk that runs; with a browser of these variables, if there are some."""
 
-    def __init__(self, *arguments: str) -> None:
-        command = [START, "--no-browser", *arguments]
-        self.child = subprocess.Popen(command, stdin=subprocess.DEVNULL, stdout=subprocess.PIPE, stderr=subprocess.PIPE)
+    def __init__(self, *arguments: str, browser: dict[str, str] | None = None) -> None:
+        command = [START, *([] if browser else ["--no-browser"]), *arguments]
+        environment = os.environ | (browser or {})
+        self.child = subprocess.Popen(
+            command, stdin=subprocess.DEVNULL, stdout=subprocess.PIPE, stderr=subprocess.PIPE, env=environment
+        )
         assert self.child.stdout is not None
         line = self.child.stdout.readline().decode()
         found = ADDRESS.search(line)
@@ -84,9 +87,9 @@ class Desk:
 
 
 @contextlib.contextmanager
-def opened(*arguments: str) -> Iterator[Desk]:
+def opened(*arguments: str, browser: dict[str, str] | None = None) -> Iterator[Desk]:
     """A desk for the time of a block."""
-    desk = Desk(*arguments)
+    desk = Desk(*arguments, browser=browser)
     try:
         yield desk
     finally:

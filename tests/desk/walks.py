@@ -6,7 +6,7 @@ import sys
 import time
 from typing import Any
 
-from tests.desk import browsing
+from tests.desk import browsing, editing
 from tests.desk.browsing import RULER, browser, drag, picture, quiet, seen, spot
 from tests.desk.desks import ADDRESS, START, Desk, clip, opened, until
 from tests.helpers.trials import ROOT, demand
@@ -66,7 +66,9 @@ def read(window: Any, label: str) -> str:
 
 def clips_of(window: Any) -> list[str]:
     """What the list of clips says."""
-    return [it.text for it in window.find_elements("css selector", "#clips button")]
+    seen(window)
+    script = "return [...document.querySelectorAll('#clips button')].map(it => it.innerText)"
+    return list(window.execute_script(script))
 
 
 def choose(window: Any, number: int) -> None:
@@ -114,17 +116,16 @@ def walk(pictures: str | None) -> None:
 
 
 def laid(window: Any) -> None:
-    """Lays the second clip over the end of the first, by its name, and crossfades them."""
+    """Lays the second clip over the end of the first, by its name: they crossfade."""
     choose(window, 1)
     scale = wide(window, "mix") / 1.04 / 3  # a clip is as long as the others, and all of them are in sight
     window.execute_script("document.querySelector('#mix').scrollIntoView({ block: 'center' })")
     start = spot(window, "mix", scale * 1.5, RULER + 12)
     drag(window, start, (start[0] - 30, start[1]), (start[0] - 60, start[1]))
-    push(window, "Crossfade")
     demand(["fade" in it for it in clips_of(window)] == [True, True, False], f"no crossfade: {clips_of(window)}")
-    push(window, "undo crossfade")
+    push(window, "undo move")
     demand(not any("fade" in it for it in clips_of(window)), "undo leaves the crossfade")
-    push(window, "redo crossfade")
+    push(window, "redo move")
 
 
 def levelled(window: Any) -> None:
@@ -217,6 +218,7 @@ def reopened(window: Any) -> float:
         time.sleep(SOON)  # asking meanwhile would take time from the page
         return float(until(lambda: window.execute_script(script)) or 0) / 1000 - begun
     finally:
+        window.get("about:blank")  # the page would miss the desk
         child.terminate()
         child.communicate()
 
@@ -254,4 +256,4 @@ def long_ones(_: str | None) -> None:
     )
 
 
-TRIALS = (*browsing.TRIALS, walk, long_ones)
+TRIALS = (*browsing.TRIALS, *editing.TRIALS, walk, long_ones)

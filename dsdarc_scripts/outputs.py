@@ -22,7 +22,7 @@ from pathlib import Path
 from types import FrameType
 from typing import BinaryIO
 
-from dsdarc_scripts import room
+from dsdarc_scripts import packages, room
 from dsdarc_scripts.explained import shown_name, shown_part
 
 if is_usual:
@@ -318,8 +318,19 @@ class Outputs:
             self.clear()
 
 
+def demand_utf8() -> None:
+    """Starts a script again in UTF-8 mode where the language of the system has other letters, as all texts here are
+    UTF-8, and names of any bytes are to be the same in each language."""
+    if codecs.lookup(sys.getfilesystemencoding()).name != "utf-8" and not sys.flags.utf8_mode:
+        os.environ["DSDARC_COMMAND"] = sys.argv[0]
+        os.execv(sys.executable, [sys.executable, "-X", "utf8", *sys.orig_argv[1:]])
+
+
 def begin() -> None:
-    """Lets Ctrl-C end a script silently while it loads its modules. What it prints shows names as `shown_name`."""
+    """Lets Ctrl-C end a script silently while it loads its modules, and has it say in a line which of them it lacks. What
+    it prints shows names as `shown_name`."""
+    demand_utf8()
+    packages.say_missing()
     codecs.register_error("shown", shown_part)
     for stream in (sys.stdout, sys.stderr):
         with contextlib.suppress(OSError, AttributeError):  # one that is closed is None

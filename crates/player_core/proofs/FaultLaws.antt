@@ -1,5 +1,5 @@
 -- Which faults are true, stop the reading or come before the first write, by where they arose.
-use Rattle.std.proofs.Common.{◌≡◌, ℕ, ◌<◌, ◌≤◌, ◌^◌, inl, inr, subst, List, ◌++◌, Option, None, Some, ◌+◌, IfErr, IfSome, IsErrAnd, OnErr, OnOk, Result, Ok, Err, arith, refl}
+use Rattle.std.proofs.Common.{◌≡◌, ℕ, ◌<◌, ◌≤◌, inl, inr, subst, List, ◌++◌, Option, None, Some, ◌+◌, IfErr, IfSome, IsErrAnd, OnErr, OnOk, Result, Ok, Err, arith, refl}
 use Rattle.dsd_bits.specs.declared.sound.Sound.{Sound}
 use Rattle.form_core.specs.Steps.{map_err}
 use Rattle.fir_core.specs.Decimator.{Decimator}

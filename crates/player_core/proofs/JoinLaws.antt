@@ -1,12 +1,12 @@
 -- A sound that is joined to others, and the sink that plays it.
-use Rattle.std.proofs.Common.{◌≡◌, ℕ, ◌+◌, ◌-◌, ◌*◌, ◌/◌, ◌%◌, ◌<◌, ◌≤◌, Bool, true, false, List, [], ◌++◌, length, map, get_or, take, drop, Option, None, Some, Result, Ok, Err, OnErr, OnOk, IfOk, refl, sym, subst, ap, ap₂, ◌∙◌, arith, append_assoc, append-nil, length-append, inl, inr, true≢false, zero-mul}
+use Rattle.std.proofs.Common.{◌≡◌, ℕ, ◌+◌, ◌-◌, ◌*◌, ◌/◌, ◌%◌, ◌<◌, ◌≤◌, Bool, true, false, List, [], ◌++◌, length, map, get_or, take, drop, Option, None, Some, Result, Ok, Err, OnOk, IfOk, refl, sym, subst, ap, ap₂, ◌∙◌, arith, append_assoc, append-nil, length-append, inl, inr, true≢false, zero-mul}
 use Rattle.std.specs.Io.KnownBytes.{Appends}
 use Rattle.std.specs.List.{range_with_len}
 use Rattle.std.proofs.Math.Nat.{add-mul, mul-le-mul_right}
 use Rattle.std.proofs.lemmas.Bool.{cases_lt}
 use Rattle.std.proofs.lemmas.List.{nil_from_length, take_all}
 use Rattle.std.proofs.lemmas.List.FromFn.{length-map-range_with_len, get_or-map-range_with_len}
-use Rattle.chunk_core.specs.Outlets.{outlet_writer}
+use Rattle.chunk_core.specs.Outlets.{outlet_failures, outlet_writer}
 use Rattle.chunk_core.specs.declared.inlet.Inlet.{Inlet}
 use Rattle.dsd_bits.specs.declared.interleaving.Interleaving.{Interleaving}
 use Rattle.dsd_bits.specs.declared.interleaving.Interleaving.TheVariants.{Bytes, Blocks}
@@ -31,7 +31,7 @@ use Rattle.sound_core.proofs.SameLaws.{holds_in}
 use Rattle.wave_core.specs.Heads.{FitsIn, limit_of, size_in, text_in}
 use Rattle.wave_core.specs.declared.head.WaveHead.{WaveHead}
 use Rattle.player_core.specs.Between.{IsJoined, IsJoining, bits_after, bits_before, channels_after, channels_before, frame_after, framed, in_frames, joined, own_range, with_range}
-use Rattle.player_core.specs.Joining.{EndsJoined, HasAllOfJoined, MayTake, PlaysAround, PushesOn}
+use Rattle.player_core.specs.Joining.{EndsJoined, HasAllOfJoined, IsSameOutlet, MayTake, PlaysAround, PushesOn}
 use Rattle.player_core.specs.Laws.{total_frames}
 use Rattle.player_core.specs.Parts.{part_file}
 use Rattle.player_core.specs.Ranges.{IsInside, number_of}
@@ -252,11 +252,6 @@ pub on_value : {T E : Type 0} (r : Result T E) (P Q : T → Type 0) → ((x : T)
 on_value (Ok x) P Q f p = f x p
 on_value (Err e) P Q f p = tt
 
--- what holds at a refusal holds of what follows from it
-pub on_err : {T E : Type 0} (r : Result T E) (P Q : Type 0) → (P → Q) → OnErr r P → OnErr r Q
-on_err (Ok x) P Q f p = tt
-on_err (Err e) P Q f p = f p
-
 -- ---- what is played of a file
 -- how many bits each channel before or after has
 pub neighbour_count : (bytes : List ℕ) (n : ℕ) → 1 ≤ n → length bytes ≡ length bytes / n * n → count_of (unlaced_all bytes n) ≡ 8 * (length bytes / n)
@@ -379,6 +374,6 @@ module _ {W : Type 0} (held : W → Option (List ℕ)) (old mid new : JoiningSin
   pub end_requires : {R : Type 0} (left : R → Option (List ℕ)) (i j : Inlet R) → TakesGiven has left i j o → HasAllOfJoined held mid o.sound
   end_requires left i j (read, reads, taken) = (stated.is_sound, (old, taken.0, taken.2, taken.1.sound_long))
 
-  -- it has the same outlet
-  pub same_end : {R : Type 0} (left : R → Option (List ℕ)) (i j : Inlet R) → TakesGiven has left i j o → (n : ℕ) → EndsJoined held mid new o.sound n → (new.playing.ghost_name ≡ old.playing.ghost_name) × (new.playing.now.outlet.ghost_name ≡ old.playing.now.outlet.ghost_name)
-  same_end left i j (read, reads, taken) n ends = (let end = ends old taken.0 taken.2 taken.1.sound_long in (end.2, end.3.same))
+  -- it has the same outlet, which has failed no more often
+  pub same_end : {R : Type 0} (left : R → Option (List ℕ)) (i j : Inlet R) → TakesGiven has left i j o → (n : ℕ) → EndsJoined held mid new o.sound n → IsSameOutlet old new × (outlet_failures new.playing.now.outlet.now ≡ outlet_failures old.playing.now.outlet.now)
+  same_end left i j (read, reads, taken) n ends = (let end = ends old taken.0 taken.2 taken.1.sound_long in ((end.2, end.3.same), end.3.failures))

@@ -1,3 +1,4 @@
+pub mod BlockLaws
 pub mod GroupLaws
 pub mod FrameLaws
 pub mod FeedLaws

@@ -1,5 +1,5 @@
 -- The streams of a sound, fed one after the other.
-use Rattle.std.proofs.Common.{◌≡◌, ◌≢◌, ℕ, ◌+◌, ◌-◌, ◌*◌, ◌<◌, ◌≤◌, ℤ, List, ◌++◌, map, length, get_or, set, sym, subst, ap, ◌∙◌, inl, inr, arith, get_or-set_other, get_or-set_same, length-set}
+use Rattle.std.proofs.Common.{◌≡◌, ◌≢◌, ℕ, ◌+◌, ◌-◌, ◌*◌, ◌<◌, ◌≤◌, ℤ, List, ◌++◌, map, length, get_or, set, refl, sym, subst, ap, ◌∙◌, inl, inr, arith, get_or-set_other, get_or-set_same, length-set}
 use Rattle.std.specs.List.{range_with_len}
 use Rattle.std.proofs.lemmas.Bool.{cases_lt}
 use Rattle.dsd_bits.specs.declared.sound.Sound.{Sound}
@@ -10,7 +10,8 @@ use Rattle.fir_core.specs.declared.stream.Stream.{Stream}
 use Rattle.player_core.specs.Due.{bytes_known, channel_bits, channel_bytes, frames_due}
 use Rattle.player_core.specs.Frames.{tile_of}
 use Rattle.player_core.specs.Groups.{channel_part, group_size}
-use Rattle.player_core.specs.PlayerView.{AllFit, AreChannels, IsChannel}
+use Rattle.player_core.specs.PlayerView.{AllFit, AreChannels, HasParts, IsChannel}
+use Rattle.player_core.specs.declared.groups.WholeGroups.{WholeGroups}
 use Rattle.player_core.proofs.FeedLaws.{fits_all, gives, tile_more}
 
 -- the first streams were fed, and the others are as they were
@@ -82,3 +83,26 @@ module _ (s : Sound) (number : ℕ) (groups : List ℕ) (old now : List Stream) 
               ∙ ap (λ xs. xs ++ samples_of d (channel_bits s (prefix ++ groups) c) n m) so.1 ∙ sym (tile_more d (channel_bits s (prefix ++ groups)) n m c),
         );
   }
+
+-- the same of any sound whose channels have the groups' bytes
+pub record FedAsGroups (groups : WholeGroups) (old now : List Stream) (tile : List ℤ) (c : ℕ) : Type 0 where
+  pub long : length now ≡ length old
+  pub later : (k : ℕ) (t : Stream) → c ≤ k → get_or now k t ≡ get_or old k t
+  pub every : (s : Sound) (bytes : List ℕ) → HasParts s bytes groups → FedUpTo s groups.number bytes old now tile c
+
+pub groups_next : (groups : WholeGroups) (old now : List Stream) (tile tile' : List ℤ) (c : ℕ) (new t : Stream) → FedAsGroups groups old now tile c → c < length old → length old ≡ groups.channels
+    → IsStream new → Feeds (state_of (get_or now c t)) (state_of new) (channel_part groups.interleaving groups.channels groups.bytes.now c 0 groups.number) tile tile'
+    → new.fed ≡ (get_or now c t).fed + groups.number → new.taps ≡ (get_or now c t).taps → new.count ≡ (get_or now c t).count → FedAsGroups groups old (set now c new) tile' (c + 1)
+groups_next groups old now tile tile' c new t so_far low few ready feeds fed_is filter bits = record {
+  long = length-set now c new ∙ so_far.long;
+  later = λ k u h. get_or-set_other now c k new u (omega arith) ∙ so_far.later k u (omega arith);
+  every = λ s bytes has. fed_next s groups.number bytes old now tile tile' c new t (so_far.every s bytes has) low (omega (arith, few, has.number)) ready
+      (subst (λ (xs : List ℕ). Feeds (state_of (get_or now c t)) (state_of new) xs tile tile') (sym (has.same c (omega (arith, low, few)))) feeds) fed_is filter bits;
+}
+
+-- the groups are bytes of a sound of their own
+abbrev pub own_sound : WholeGroups → ℕ → Sound
+own_sound groups count = record { rate = 0; channels = groups.channels; count = count; start = 0; size = 0; interleaving = groups.interleaving }
+
+pub own_parts : (groups : WholeGroups) (count : ℕ) → HasParts (own_sound groups count) groups.bytes.now groups
+own_parts groups count = record { number = refl; same = λ c h. refl }

@@ -1,15 +1,11 @@
 -- What plays frames of a sound, one piece after the other.
-use Rattle.std.proofs.Common.{◌≡◌, ℕ, ◌+◌, ◌-◌, ◌*◌, ◌/◌, ◌^◌, ◌≤◌, ◌⊎◌, ◌<◌, inl, inr, refl, List, [], ◌++◌, drop, length, slice_range, take, Option, Some, Err, sym, subst, ap, ap₂, ◌∙◌, arith, append_assoc, append-nil, length-append, length-drop, mul-le-mul_left}
+use Rattle.std.proofs.Common.{◌≡◌, ℕ, ◌+◌, ◌-◌, ◌^◌, ◌≤◌, ◌⊎◌, ◌<◌, inl, inr, refl, List, [], ◌++◌, drop, length, slice_range, take, Option, Some, Err, sym, subst, ap, ap₂, ◌∙◌, arith, append_assoc, append-nil, length-append, length-drop}
 use Rattle.std.specs.Io.KnownBytes.{Appends}
 use Rattle.std.proofs.KnownBytes.{Appends-trans}
 use Rattle.std.proofs.Math.Seq.{drop-nil, take-nil}
 use Rattle.std.proofs.lemmas.List.{nil_from_length}
 use Rattle.chunk_core.specs.Outlets.{AppendsPrefix, outlet_failures, outlet_writer}
-use Rattle.std.specs.Int.{div_ceil}
-use Rattle.dsd_bits.specs.declared.interleaving.Interleaving.{Interleaving}
-use Rattle.dsd_bits.specs.declared.interleaving.Interleaving.TheVariants.{Bytes, Blocks}
 use Rattle.dsd_bits.specs.declared.sound.Sound.{Sound}
-use Rattle.dsd_bits.specs.Sounds.{sound_size}
 use Rattle.fir_core.specs.Decimator.{Decimator}
 use Rattle.sound_core.specs.Faults.{IsWritingFault, failed_writes}
 use Rattle.sound_core.specs.declared.fault.StreamFault.{StreamFault}
@@ -27,18 +23,11 @@ use Rattle.player_core.specs.declared.sink.PlayingSink.{PlayingSink}
 use Rattle.player_core.proofs.FaultLaws.{writing_later, writing_opening}
 use Rattle.player_core.proofs.PieceLaws.{due_same, plays_on, prefix_more, prefix_on}
 use Rattle.player_core.proofs.SliceLaws.{drop_more_of}
-use Rattle.player_core.proofs.SoundLaws.{nothing_is_due}
+use Rattle.player_core.proofs.SoundLaws.{few_size, nothing_is_due}
 
 -- the header and what is due are a prefix of the file
 pub parted : (head due more pad : List ℕ) → head ++ ((due ++ more) ++ pad) ≡ (head ++ due) ++ (more ++ pad)
 parted head due more pad = ap (λ xs. head ++ xs) (append_assoc due more pad) ∙ sym (append_assoc head due (more ++ pad))
-
--- a sound's size is small
-few_size : (o : Interleaving) (channels count : ℕ) → channels ≤ 6 → count ≤ 2 ^ 36 → sound_size o channels count ≤ 2 ^ 40
-few_size Bytes channels count six low = let product : count / 8 * channels ≤ count / 8 * 6 = mul-le-mul_left (count / 8) six in omega (arith, product, low)
-few_size (Blocks order) channels count six low =
-    let product : div_ceil count 32768 * channels ≤ div_ceil count 32768 * 6 = mul-le-mul_left (div_ceil count 32768) six in
-    omega (arith, product, low)
 
 -- ---- its player
 -- before the first byte nothing of a part is due

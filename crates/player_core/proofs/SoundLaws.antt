@@ -1,11 +1,13 @@
 -- The file around the frames of a sound.
-use Rattle.std.proofs.Common.{◌≡◌, ℕ, ◌+◌, ◌-◌, ◌*◌, ◌/◌, ◌≤◌, min, [], ◌++◌, length, sym, ap, ap₂, ◌∙◌, arith, length-append}
+use Rattle.std.proofs.Common.{◌≡◌, ℕ, ◌+◌, ◌-◌, ◌*◌, ◌/◌, ◌≤◌, ◌^◌, min, mul-le-mul_left, [], ◌++◌, length, sym, ap, ap₂, ◌∙◌, arith, length-append}
 use Rattle.std.specs.List.{flat_map}
 use Rattle.std.specs.Int.{div_ceil}
 use Rattle.std.proofs.Math.Nat.{mul_assoc, zero-div, zero-mod}
 use Rattle.std.proofs.lemmas.List.{length-map, length-replicate}
 use Rattle.std.proofs.lemmas.List.FromFn.{length-map-range_with_len}
-use Rattle.dsd_bits.specs.Sounds.{sound_bytes, sound_channels}
+use Rattle.dsd_bits.specs.declared.interleaving.Interleaving.{Interleaving}
+use Rattle.dsd_bits.specs.declared.interleaving.Interleaving.TheVariants.{Bytes, Blocks}
+use Rattle.dsd_bits.specs.Sounds.{sound_bytes, sound_channels, sound_size}
 use Rattle.fir_core.specs.Decimator.{sample_at}
 use Rattle.fir_core.specs.Streams.{due_number, bits_held}
 use Rattle.wave_core.specs.Laws.{PartsJoin}
@@ -65,3 +67,10 @@ nothing_is_due d s =
     let number : due_number d s.count (bytes_known s 0) ≡ 0
     = ap (λ k. div_ceil k d.factor) bits ∙ ap₂ (λ a b. a + min 1 b) (zero-div d.factor) (zero-mod d.factor) in
     ap (λ n. flat_map (sample_bytes d.width) (frames_below d (channels_known s []) n)) number
+
+-- a sound's size is small
+pub few_size : (o : Interleaving) (channels count : ℕ) → channels ≤ 6 → count ≤ 2 ^ 36 → sound_size o channels count ≤ 2 ^ 40
+few_size Bytes channels count six low = let product : count / 8 * channels ≤ count / 8 * 6 = mul-le-mul_left (count / 8) six in omega (arith, product, low)
+few_size (Blocks order) channels count six low =
+    let product : div_ceil count 32768 * channels ≤ div_ceil count 32768 * 6 = mul-le-mul_left (div_ceil count 32768) six in
+    omega (arith, product, low)

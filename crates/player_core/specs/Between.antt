@@ -1,5 +1,5 @@
 -- What is played of a recording between others, to which it is joined.
-use Rattle.std.specs.Prelude.{◌≡◌, ℕ, ◌+◌, ◌*◌, ◌/◌, ◌%◌, ◌≤◌, ◌^◌, Bool, List, [], ◌++◌, length, map, Option, Some, slice_index_or}
+use Rattle.std.specs.Prelude.{◌≡◌, ◌≢◌, ◌⊎◌, ℕ, ◌+◌, ◌-◌, ◌*◌, ◌/◌, ◌%◌, ◌≤◌, ◌^◌, Bool, List, [], ◌++◌, length, map, Option, Some, IfSome, slice_index_or, ⊤}
 use Rattle.std.specs.List.{range_with_len}
 use Rattle.std.specs.Int.{div_ceil}
 use Rattle.dsd_bits.specs.declared.interleaving.Interleaving.{Interleaving}
@@ -10,9 +10,12 @@ use Rattle.dsd_bits.specs.Contents.{Content}
 use Rattle.dsd_bits.specs.Lacing.{unlaced_all}
 use Rattle.fir_core.specs.Decimator.{Decimator}
 use Rattle.interleave_core.specs.Reinterleaving.{reinterleaved}
-use Rattle.sound_core.specs.Files.{HoldsRecording}
+use Rattle.sound_core.specs.Files.{HoldsRecording, IsRefused}
 use Rattle.wave_core.specs.Contents.{Pcm}
-use Rattle.wave_core.specs.Heads.{text_in}
+use Rattle.sound_core.specs.Sinks.{BeginsSound}
+use Rattle.sound_core.specs.declared.fault.StreamFault.{StreamFault}
+use Rattle.sound_core.specs.declared.fault.StreamFault.TheVariants.{FileRefused, RateNotDivided, TooLarge, ReadFailed, WriteFailed, TurnLimit, Memory}
+use Rattle.wave_core.specs.Heads.{limit_of, size_in, text_in}
 use Rattle.wave_core.specs.declared.head.WaveHead.{WaveHead}
 use Rattle.player_core.specs.Playing.{part_pcm}
 use Rattle.player_core.specs.declared.joining.JoiningSink.{JoiningSink}
@@ -75,16 +78,26 @@ joined_of around s = record {
   interleaving = Bytes;
 }
 
--- a sound can be joined to its neighbours, and this is the joined one: they have the same rate and channels, and all
--- end with whole bytes
+-- a sound can be joined to its neighbours, and this is the joined one: they have the same rate and channels, all end
+-- with whole bytes, and none is too long
 pub record IsJoined (around : Neighbours) (s j : Sound) : Type 0 where
   pub rate : s.rate ≡ around.rate
   pub channels : s.channels ≡ around.channels
   pub whole : s.count % 8 ≡ 0
   pub before_whole : length around.before.now ≡ length around.before.now / around.channels * around.channels
   pub after_whole : length around.after.now ≡ length around.after.now / around.channels * around.channels
+  pub before_short : length around.before.now ≤ 65536
+  pub after_short : length around.after.now ≤ 65536
   pub few : bits_before around + (s.count + bits_after around) ≤ 2 ^ 36
   pub is : j ≡ joined_of around s
+
+-- a sound can be joined to its neighbours
+abbrev pub CanBeJoined : Neighbours → Sound → Type 0
+CanBeJoined around s = (j : Sound) × IsJoined around s j
+
+-- how many frames of a joined sound have their place in the sound itself
+abbrev pub own_number : Decimator → Neighbours → Sound → ℕ
+own_number d around s = frame_after d (bits_before around + s.count) - frame_after d (bits_before around)
 
 -- the frames of a joined sound whose place lies in the sound itself, and the head of their file
 abbrev pub own_range : WaveHead → Decimator → Neighbours → Sound → WaveRange
@@ -110,3 +123,36 @@ pub record IsJoining {W : Type 0} (held : W → Option (List ℕ)) (first now : 
   pub joined : Sound
   pub is_joined : IsJoined first.around s joined
   pub playing : IsPlaying held (with_range first.playing.now (own_range first.playing.now.range.head first.playing.now.taps.now first.around s)) now.playing.now joined (first.around.before.now ++ in_frames s done bytes)
+
+-- ---- faults
+-- a fault of a sound between its neighbours: it can't be joined to them; the factor doesn't divide its rate; neither is
+-- so, but the sizes of its frames don't fit; or what is due is not written
+abbrev pub IsJoiningFault : WaveHead → Decimator → Neighbours → Sound → StreamFault → Type 0
+IsJoiningFault head d around s FileRefused = CanBeJoined around s → ⊥
+IsJoiningFault head d around s RateNotDivided = CanBeJoined around s × (s.rate % d.factor ≢ 0)
+IsJoiningFault head d around s TooLarge = CanBeJoined around s × (s.rate % d.factor ≡ 0) × (limit_of head ≤ size_in head s.channels d.width (own_number d around s))
+IsJoiningFault head d around s WriteFailed = ⊤
+IsJoiningFault head d around s Memory = ⊤
+IsJoiningFault head d around s _ = ⊥
+
+-- the file describes a sound that has this fault between its neighbours
+abbrev pub HasJoiningFault : WaveHead → Decimator → Neighbours → List ℕ → StreamFault → Type 0
+HasJoiningFault head d around file f = (s : Sound) × BeginsSound s [] file × IsJoiningFault head d around s f
+
+-- this fault applies to a file between its neighbours; a device, the number of reads and memory don't depend on the file
+abbrev pub AppliesBetween : WaveHead → Decimator → Neighbours → List ℕ → StreamFault → Type 0
+AppliesBetween head d around file FileRefused = IsRefused file ⊎ HasJoiningFault head d around file FileRefused
+AppliesBetween head d around file RateNotDivided = HasJoiningFault head d around file RateNotDivided
+AppliesBetween head d around file TooLarge = HasJoiningFault head d around file TooLarge
+AppliesBetween head d around file ReadFailed = ⊤
+AppliesBetween head d around file WriteFailed = ⊤
+AppliesBetween head d around file TurnLimit = ⊤
+AppliesBetween head d around file Memory = ⊤
+
+-- this fault applies to the reader's file, if that is known
+abbrev pub AppliesBetweenBy : Option (List ℕ) → WaveHead → Decimator → Neighbours → StreamFault → Type 0
+AppliesBetweenBy left head d around f = IfSome left (λ file. AppliesBetween head d around file f)
+
+-- some sound can't be joined to these neighbours
+abbrev pub IsUnjoinedBySome : Neighbours → Type 0
+IsUnjoinedBySome around = (s : Sound) × (CanBeJoined around s → ⊥)

@@ -11,8 +11,8 @@ use Rattle.fir_core.specs.StreamView.{IsStream, state_of}
 use Rattle.fir_core.specs.declared.stream.Stream.{Stream}
 use Rattle.player_core.specs.Due.{all_bytes, bytes_known, channel_bytes, channel_whole, channels_known, due_bytes, frames_due}
 use Rattle.player_core.specs.Frames.{tile_of}
-use Rattle.player_core.specs.Groups.{channel_part, group_size}
-use Rattle.player_core.specs.declared.player.Part.{Part}
+use Rattle.player_core.specs.Groups.{channel_part, group_size, whole_size}
+use Rattle.player_core.specs.declared.groups.WholeGroups.{WholeGroups}
 use Rattle.player_core.specs.declared.player.Player.{Player}
 
 -- the filter by which a player plays
@@ -77,13 +77,18 @@ IsSamePlayer old new = (new.taps ≡ old.taps) × (new.sound ≡ old.sound) × (
 abbrev pub GoesOn : Player → Player → ℕ → Type 0
 GoesOn old new n = (filter_of new ≡ filter_of old) × (sound_of new ≡ sound_of old) × (fed_of new ≡ fed_of old + n)
 
+-- in whole groups each channel has the same first bytes as in these sound bytes
+pub record HasParts (s : Sound) (bytes : List ℕ) (groups : WholeGroups) : Type 0 where
+  pub number : s.channels ≡ groups.channels
+  pub same : (c : ℕ) → c < groups.channels → channel_part s.interleaving s.channels bytes c 0 groups.number ≡ channel_part groups.interleaving groups.channels groups.bytes.now c 0 groups.number
+
 -- a stream was fed the first bytes of its channel in whole groups of sound bytes
-abbrev pub FeedsChannel : Stream → Stream → Part → List ℕ → List ℤ → List ℤ → Type 0
-FeedsChannel old new part groups tile_old tile_new = Feeds (state_of old) (state_of new) (channel_part part.interleaving part.channels groups part.channel 0 part.number) tile_old tile_new
+abbrev pub FeedsChannel : Stream → Stream → WholeGroups → ℕ → List ℤ → List ℤ → Type 0
+FeedsChannel old new groups channel tile_old tile_new = Feeds (state_of old) (state_of new) (channel_part groups.interleaving groups.channels groups.bytes.now channel 0 groups.number) tile_old tile_new
 
 -- streams of all channels, each after as many bytes as the others, were fed n more bytes
-abbrev pub AdvanceAll : ℕ → ℕ → List Stream → List Stream → Type 0
-AdvanceAll count n old new = (d : Decimator) (fed : ℕ) → AreChannels d count fed old → AreChannels d count (fed + n) new
+abbrev pub AdvanceAll : ℕ → List Stream → List Stream → Type 0
+AdvanceAll n old new = (d : Decimator) (count fed : ℕ) → AreChannels d count fed old → AreChannels d count (fed + n) new
 
 -- streams that fit whole groups of sound bytes, which are `fed` bytes of each channel, fit `number` more after them,
 -- and returned the samples that are due then and not before
@@ -92,9 +97,9 @@ FeedAll d s fed number old new groups tile = (prefix : List ℕ) (k : ℕ) → l
     → bytes_known s (length prefix) ≡ fed → bytes_known s (length (prefix ++ groups)) ≡ fed + number
     → AllFit s old prefix → AllFit s new (prefix ++ groups) × (tile ≡ tile_of d (channels_known s (prefix ++ groups)) (frames_due d s (length prefix)) (frames_due d s (length (prefix ++ groups)) - frames_due d s (length prefix)))
 
--- streams of all channels, whatever they were fed before, were fed these groups, as `FeedAll` says
-abbrev pub FeedChannels : Sound → ℕ → List Stream → List Stream → List ℕ → List ℤ → Type 0
-FeedChannels s number old new groups tile = (d : Decimator) (fed : ℕ) → AreChannels d s.count fed old → FeedAll d s fed number old new groups tile
+-- streams of all channels, whatever they were fed before, were fed these groups of any sound, as `FeedAll` says
+abbrev pub FeedChannels : WholeGroups → List Stream → List Stream → List ℤ → Type 0
+FeedChannels groups old new tile = (s : Sound) (bytes : List ℕ) → HasParts s bytes groups → (d : Decimator) (fed : ℕ) → AreChannels d s.count fed old → FeedAll d s fed groups.number old new bytes tile
 
 -- streams that fit all sound bytes returned the rest of their samples
 abbrev pub FinishAll : Decimator → Sound → List Stream → List ℤ → Type 0
@@ -110,6 +115,19 @@ FinishChannels streams tile = (d : Decimator) (s : Sound) → length streams ≡
 abbrev pub FeedsPlayer : Player → Player → List ℕ → List ℕ → List ℕ → Type 0
 FeedsPlayer old new bytes given_old given_new = (more : List ℕ) × (given_new ≡ given_old ++ more)
     × ((before : List ℕ) → IsPlayerFed old before → IsPlayerFed new (before ++ bytes) × (due_bytes old.taps.now old.sound (before ++ bytes) ≡ due_bytes old.taps.now old.sound before ++ more))
+
+-- the next n bytes of the sound are whole groups, and these groups have the same of each channel
+pub record AreNext (p : Player) (groups : WholeGroups) (n : ℕ) : Type 0 where
+  pub bytes : List ℕ
+  pub long : length bytes ≡ n
+  pub parts : HasParts p.sound bytes groups
+  pub enough : groups.number ≤ whole_size groups.interleaving groups.channels (length groups.bytes.now)
+  pub whole : n ≡ n / group_size p.sound.interleaving p.sound.channels * group_size p.sound.interleaving p.sound.channels
+  pub number : bytes_known p.sound (p.fed + n) ≡ bytes_known p.sound p.fed + groups.number
+
+-- the player was fed the next n bytes of the sound, whose channels have what they have in these groups
+abbrev pub FeedsGroups : Player → Player → WholeGroups → ℕ → List ℕ → List ℕ → Type 0
+FeedsGroups old new groups n given_old given_new = (bytes : List ℕ) → length bytes ≡ n → HasParts old.sound bytes groups → FeedsPlayer old new bytes given_old given_new
 
 -- after all sound bytes, the player returned the rest of the frames' bytes
 abbrev pub FinishesPlayer : Player → List ℕ → List ℕ → Type 0

@@ -1,13 +1,16 @@
 //! Plays a file between others, from a reader to a writer.
 
-ghost use Rattle.std.specs.Prelude.{◌≡◌, ◌+◌, ◌-◌, ◌<◌, ◌≤◌, ◌^◌, IfErr, IfOk, OnErr};
-ghost use Rattle.chunk_core.specs.Inlets.{inlet_reads};
-ghost use Rattle.chunk_core.specs.Outlets.{outlet_failures};
+ghost use Rattle.std.specs.Prelude.{◌≡◌, ◌+◌, ◌-◌, ◌<◌, ◌≤◌, ◌^◌, IfErr, IfOk, OnErr, OnOk};
+ghost use Rattle.chunk_core.specs.Inlets.{inlet_failures, inlet_reader, inlet_reads};
+ghost use Rattle.chunk_core.specs.Outlets.{outlet_failures, outlet_writer};
 ghost use Rattle.fir_core.specs.Decimator.{IsWithinLimits};
-ghost use Rattle.player_core.specs.Between.{PlaysBetween, channels_after, channels_before};
-ghost use Rattle.player_core.specs.Joining.{IsSameOutlet, JoinedPlays, JoinedPlaysRead, JoinedPrefix};
-ghost use Rattle.player_core.specs.Playing.{PlaysReadTo, PlaysTo, WritesPrefixTo};
-ghost use Rattle.sound_core.specs.Naming.{IfRefusedAs, NamesFault};
+ghost use Rattle.form_core.specs.Steps.{map_err};
+ghost use Rattle.player_core.specs.Between.{AppliesBetweenBy, IsUnjoinedBySome, PlaysBetween, channels_after, channels_before};
+ghost use Rattle.player_core.specs.Joining.{BetweenFails, IsSameOutlet, JoinedFails, JoinedPlays, JoinedPlaysRead};
+ghost use Rattle.player_core.specs.Playing.{IsLimited, PlaysReadTo, PlaysTo, WritesPrefixTo};
+ghost use Rattle.sound_core.specs.Faults.{IsBeforeWriting, failed_reads, failed_writes};
+ghost use Rattle.sound_core.specs.Naming.{IfRefusedAs, IsExactUnless, NamesFault, plain};
+ghost use Rattle.sound_core.specs.Readers.{RunsOut};
 
 use crate::joining::{JoiningSink, Neighbours, finish_joined};
 use crate::laws::part_is_played;
@@ -43,33 +46,25 @@ pub fn play_between<R: Read, W: Write>(
     ensures ok { IfOk result (PlaysTo R.remaining W.contents (PlaysBetween head taps.now around.entry.rate (channels_before around.entry) (channels_after around.entry)) inlet.old outlet.old outlet.new) }
     // The same of the bytes that were read, if the reader's bytes aren't known.
     ensures any_reader { IfOk result (PlaysReadTo R.remaining W.contents (PlaysBetween head taps.now around.entry.rate (channels_before around.entry) (channels_after around.entry)) inlet.old inlet.new outlet.old outlet.new) }
+    // A fault of the file between its neighbours applies.
+    ensures fault { IfErr result (λ u. AppliesBetweenBy (R.remaining (inlet_reader inlet.old)) head taps.now around.entry
+        (plain u)) }
     // The first fault of what was read, and of the reader's file.
     ensures named { IfErr result (λ u. IfRefusedAs u (NamesFault R.remaining inlet.old inlet.new)) }
+    // None is missing, but where a sound may not be joined to the neighbours.
+    ensures exact { IfErr result (IsExactUnless (IsUnjoinedBySome around.entry)) }
+    // Nothing is written for a sound that can't be played.
+    ensures unwritten { IfErr result (λ u. IsBeforeWriting (plain u)
+        → outlet_writer outlet.new ≡ outlet_writer outlet.old) }
     // A prefix of whatever the reader's file plays was written before a refusal.
     ensures prefix { OnErr result (WritesPrefixTo R.remaining W.contents (PlaysBetween head taps.now around.entry.rate (channels_before around.entry) (channels_after around.entry)) inlet.old outlet.old outlet.new) }
+    ensures read_failed { inlet_failures inlet.new ≡ inlet_failures inlet.old + failed_reads (map_err plain result) }
+    ensures write_failed { outlet_failures outlet.new
+        ≡ outlet_failures outlet.old + failed_writes (map_err plain result) }
+    // Whatever is returned, there were at most 2^40 reads.
     ensures reads { inlet_reads inlet.new ≤ inlet_reads inlet.old + 2 ^ 40 }
-{
-    if !can_fail(outlet) {
-        return Err(Unread::Stream(StreamFault::TurnLimit));
-    }
-    play_counted(alloc, taps, around, head, inlet, outlet)
-}
-
-// The same to an outlet that can count one more failure.
-fn play_counted<R: Read, W: Write>(
-    alloc: Global,
-    taps: &Taps,
-    around: Neighbours<'_>,
-    head: WaveHead,
-    inlet: &mut Inlet<R>,
-    outlet: &mut Outlet<W>,
-) -> Result<u64, Unread>
-    requires ready { outlet_failures outlet.old < 2 ^ 64 - 1 }
-    ensures ok { IfOk result (PlaysTo R.remaining W.contents (PlaysBetween head taps.now around.entry.rate (channels_before around.entry) (channels_after around.entry)) inlet.old outlet.old outlet.new) }
-    ensures any_reader { IfOk result (PlaysReadTo R.remaining W.contents (PlaysBetween head taps.now around.entry.rate (channels_before around.entry) (channels_after around.entry)) inlet.old inlet.new outlet.old outlet.new) }
-    ensures named { IfErr result (λ u. IfRefusedAs u (NamesFault R.remaining inlet.old inlet.new)) }
-    ensures prefix { OnErr result (WritesPrefixTo R.remaining W.contents (PlaysBetween head taps.now around.entry.rate (channels_before around.entry) (channels_after around.entry)) inlet.old outlet.old outlet.new) }
-    ensures reads { inlet_reads inlet.new ≤ inlet_reads inlet.old + 2 ^ 40 }
+    ensures turn_limit { IfErr result (λ u. plain u ≡ StreamFault.TurnLimit
+        → IsLimited outlet.old inlet.old inlet.new) }
 {
     keeps_limits(taps);
     let range = WaveRange {
@@ -91,14 +86,22 @@ fn play_by<R: Read, W: Write>(
     playing: &mut PlayingSink<'_, '_, W>,
 ) -> Result<u64, Unread>
     requires least { 8 ≤ playing.old.taps.now.factor }
-    requires ready { outlet_failures playing.old.outlet.now < 2 ^ 64 - 1 }
     ensures same { playing.new.outlet.ghost_name ≡ playing.old.outlet.ghost_name }
     ensures ok { IfOk result (PlaysTo R.remaining W.contents (PlaysBetween playing.old.range.head playing.old.taps.now around.entry.rate (channels_before around.entry) (channels_after around.entry)) inlet.old playing.old.outlet.now playing.new.outlet.now) }
     ensures any_reader { IfOk result (PlaysReadTo R.remaining W.contents (PlaysBetween playing.old.range.head playing.old.taps.now around.entry.rate (channels_before around.entry) (channels_after around.entry)) inlet.old inlet.new playing.old.outlet.now playing.new.outlet.now) }
+    ensures failures { OnOk result (outlet_failures playing.new.outlet.now ≡ outlet_failures playing.old.outlet.now) }
+    ensures fault { IfErr result (λ u. BetweenFails W.contents (R.remaining (inlet_reader inlet.old)) playing.old.range.head
+        playing.old.taps.now around.entry playing.old.outlet.now playing.new.outlet.now (plain u)) }
     ensures named { IfErr result (λ u. IfRefusedAs u (NamesFault R.remaining inlet.old inlet.new)) }
-    ensures prefix { OnErr result (WritesPrefixTo R.remaining W.contents (PlaysBetween playing.old.range.head playing.old.taps.now around.entry.rate (channels_before around.entry) (channels_after around.entry)) inlet.old playing.old.outlet.now playing.new.outlet.now) }
+    ensures exact { IfErr result (IsExactUnless (IsUnjoinedBySome around.entry)) }
+    ensures read_failed { inlet_failures inlet.new ≡ inlet_failures inlet.old + failed_reads (map_err plain result) }
     ensures reads { inlet_reads inlet.new ≤ inlet_reads inlet.old + 2 ^ 40 }
+    ensures turn_limit { IfErr result (λ u. plain u ≡ StreamFault.TurnLimit
+        → IsLimited playing.old.outlet.now inlet.old inlet.new) }
 {
+    if !can_fail(playing.outlet) {
+        return Err(Unread::Stream(StreamFault::TurnLimit));
+    }
     let mut bytes = Vec::new(alloc);
     let mut sink = JoiningSink {
         playing,
@@ -119,9 +122,14 @@ fn play_joined<R: Read, W: Write>(
     ensures same { IsSameOutlet sink.old sink.new }
     ensures ok { IfOk result (JoinedPlays R.remaining W.contents inlet.old sink.old sink.new) }
     ensures any_reader { IfOk result (JoinedPlaysRead R.remaining W.contents inlet.old inlet.new sink.old sink.new) }
+    ensures failures { OnOk result (outlet_failures sink.new.playing.now.outlet.now
+        ≡ outlet_failures sink.old.playing.now.outlet.now) }
+    ensures fault { IfErr result (λ u. JoinedFails R.remaining W.contents inlet.old sink.old sink.new (plain u)) }
     ensures named { IfErr result (λ u. IfRefusedAs u (NamesFault R.remaining inlet.old inlet.new)) }
-    ensures prefix { OnErr result (JoinedPrefix R.remaining W.contents inlet.old sink.old sink.new) }
+    ensures exact { IfErr result (IsExactUnless (IsUnjoinedBySome sink.old.around)) }
+    ensures read_failed { inlet_failures inlet.new ≡ inlet_failures inlet.old + failed_reads (map_err plain result) }
     ensures reads { inlet_reads inlet.new ≤ inlet_reads inlet.old + 2 ^ 40 }
+    ensures turn_limit { IfErr result (λ u. plain u ≡ StreamFault.TurnLimit → RunsOut inlet.old inlet.new) }
 {
     part_is_played();
     let outline = read_named(alloc, inlet, sink)?;

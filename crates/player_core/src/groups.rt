@@ -1,6 +1,6 @@
 //! The bytes of one channel among sound bytes that hold several.
 
-ghost use Rattle.std.specs.Prelude.{◌≡◌, ◌*◌, ◌/◌, ◌<◌, ◌≤◌, ◌++◌, OnOk, drop, length, map};
+ghost use Rattle.std.specs.Prelude.{◌≡◌, ℕ, ◌+◌, ◌*◌, ◌/◌, ◌<◌, ◌≤◌, ◌++◌, OnOk, drop, length, map, slice_index};
 ghost use Rattle.dsd_bits.specs.Blocks.{ordered};
 ghost use Rattle.player_core.specs.Due as Due;
 ghost use Rattle.player_core.specs.Groups as Groups;
@@ -8,9 +8,23 @@ ghost use Rattle.player_core.specs.Groups.{PicksChannel, block_bytes, channel_pa
 
 use dsd_bits::{BitOrder, Interleaving, Sound, reverse};
 use std::alloc::AllocError;
+use std::simd::prelude::*;
 
 // The bytes of a block.
 const BLOCK: usize = 4096;
+
+/// Whole groups of sound bytes, and how many bytes of each channel are taken from them.
+#[derive(Clone, Copy)]
+pub(crate) struct WholeGroups<'g> {
+    /// The sound bytes.
+    pub(crate) bytes: &'g [u8],
+    /// One to six channels.
+    pub(crate) channels: usize,
+    /// How the channels are interleaved.
+    pub(crate) interleaving: Interleaving,
+    /// How many bytes of each channel are taken, from its first on.
+    pub(crate) number: usize,
+}
 
 /// How many neighbouring bytes of a channel there are: one in DSDIFF 1.5, a block in DSF 1.01.
 pub(crate) fn part_size(interleaving: Interleaving) -> usize
@@ -77,30 +91,48 @@ fn fill_strided(
     Ok(())
 }
 
-// Writes the byte of a channel in each frame. Two channels are a constant here, so that the compiler takes many frames
-// at once.
+// Writes the byte of a channel in each frame.
 fn pick(to: &mut [u8], groups: &[u8], channels: usize, channel: usize)
     requires channel { channel < channels }
     requires enough { length to.old * channels ≤ length groups.now }
     ensures { PicksChannel channels channel groups.now (length to.old) to.new }
 {
     if channels == 2 {
-        pick_each(to, groups, 2, channel);
+        pick_of_two(to, groups, channel);
         return;
     }
-    pick_each(to, groups, channels, channel);
-}
-
-// The same, frame by frame.
-#[inline(always)]
-fn pick_each(to: &mut [u8], groups: &[u8], channels: usize, channel: usize)
-    requires channel { channel < channels }
-    requires enough { length to.old * channels ≤ length groups.now }
-    ensures { PicksChannel channels channel groups.now (length to.old) to.new }
-{
     for frame in 0..to.len() {
         to[frame] = groups[frame * channels + channel];
     }
+}
+
+// The same of two channels: 16 frames at a time, then the rest.
+fn pick_of_two(to: &mut [u8], groups: &[u8], channel: usize)
+    requires channel { channel < 2 }
+    requires enough { length to.old * 2 ≤ length groups.now }
+    ensures { PicksChannel 2 channel groups.now (length to.old) to.new }
+{
+    let whole = to.len() / 16;
+    for k in 0..whole {
+        pick_lanes(groups, 16 * k, channel).copy_to_slice(&mut to[16 * k..]);
+    }
+    for frame in 16 * whole..to.len() {
+        to[frame] = groups[frame * 2 + channel];
+    }
+}
+
+// The byte of one of two channels in 16 frames.
+#[inline(always)]
+fn pick_lanes(groups: &[u8], frame: usize, channel: usize) -> u8x16
+    requires channel { channel < 2 }
+    requires enough { 2 * frame + 32 ≤ length groups.now }
+    ensures { (length result ≡ 16) × ((k : ℕ) → k < 16 →
+        slice_index result k ≡ slice_index groups.now ((frame + k) * 2 + channel)) }
+{
+    let first = u8x16::from_slice(&groups[2 * frame..]);
+    let second = u8x16::from_slice(&groups[2 * frame + 16..]);
+    let (left, right) = first.deinterleave(second);
+    if channel == 0 { left } else { right }
 }
 
 // Appends the first bytes of a channel's block in each group of blocks.

@@ -1,11 +1,13 @@
 //! A sink that plays a sound between others, to which it is joined.
 
-ghost use Rattle.std.specs.Prelude.{◌≡◌, ◌+◌, ◌*◌, ◌/◌, ◌<◌, ◌≤◌, ◌^◌, IfErr, IfOk, IfSome};
+ghost use Rattle.std.specs.Prelude.{◌≡◌, ◌+◌, ◌*◌, ◌/◌, ◌<◌, ◌≤◌, ◌^◌, IfErr, IfOk, IfSome, None};
 ghost use Rattle.fir_core.specs.Decimator.{IsWithinLimits};
 ghost use Rattle.player_core.specs.Between as Between;
-ghost use Rattle.player_core.specs.Between.{IsJoined, bits_before};
+ghost use Rattle.player_core.specs.Between.{CanBeJoined, IsJoined, bits_before};
 ghost use Rattle.player_core.specs.Joining.{EndsJoined, HasAllOfJoined, RefusesEnd};
+ghost use Rattle.sound_core.specs.Faults.{IsWritingFault};
 
+use crate::piece::{BlockPiece, Piece};
 use crate::range::WaveRange;
 use crate::sink::{PlayingSink, finish};
 use dsd_bits::{Interleaving, Sound};
@@ -58,7 +60,7 @@ impl<'s, 'a, 't, 'b, W: Write> SoundSink for JoiningSink<'s, 'a, 't, 'b, W> {
 
     ghost has = { λ first p s done bytes. IsJoining W.contents first p s done bytes };
 
-    ghost refused = { λ first p s came f. RefusesJoining W.contents first p s came };
+    ghost refused = { λ first p s came f. RefusesJoining W.contents first p s came f };
 
     fn begin(&mut self, alloc: Global, sound: Sound) -> Result<(), StreamFault> {
         let Some(joined) = joined_sound(&sound, &self.around) else {
@@ -67,23 +69,33 @@ impl<'s, 'a, 't, 'b, W: Write> SoundSink for JoiningSink<'s, 'a, 't, 'b, W> {
         let head = self.playing.range.head;
         self.playing.range = range_in(head, self.playing.taps, &sound, &self.around);
         self.playing.begin(alloc, joined)?;
-        self.playing.push(self.around.before)
+        self.playing.push(Piece::Same(self.around.before))
     }
 
     fn take(&mut self, alloc: Global, part: SoundPart, bytes: &[u8]) -> Result<(), StreamFault> {
-        if !part.sound.interleaving.has_blocks() {
-            return self.playing.push(bytes);
+        let order = match part.sound.interleaving {
+            Interleaving::Bytes => return self.playing.push(Piece::Same(bytes)),
+            Interleaving::Blocks(order) => order,
+        };
+        let stretch = part.stretch();
+        if self.playing.takes_blocks(stretch.channels) {
+            let blocks = BlockPiece {
+                bytes,
+                stretch,
+                order,
+            };
+            return self.playing.push(Piece::Blocks(blocks));
         }
         self.bytes.clear();
         push_reinterleaved(
             alloc,
             self.bytes,
             bytes,
-            part.stretch(),
+            stretch,
             part.sound.interleaving,
             Interleaving::Bytes,
         )?;
-        self.playing.push(self.bytes.as_slice())
+        self.playing.push(Piece::Same(self.bytes.as_slice()))
     }
 }
 
@@ -92,7 +104,8 @@ impl<'s, 'a, 't, 'b, W: Write> SoundSink for JoiningSink<'s, 'a, 't, 'b, W> {
 fn joined_sound(sound: &Sound, around: &Neighbours<'_>) -> Option<Sound>
     requires channels { (1 ≤ sound.now.channels) × (sound.now.channels ≤ 6) }
     requires few { sound.now.count ≤ 2 ^ 36 }
-    ensures { IfSome result (IsJoined around.now sound.now) }
+    ensures some { IfSome result (IsJoined around.now sound.now) }
+    ensures none { result ≡ None → CanBeJoined around.now sound.now → ⊥ }
 {
     let channels = around.channels;
     if sound.rate != around.rate || sound.channels != channels || sound.count % 8 != 0 {
@@ -143,10 +156,11 @@ pub(crate) fn finish_joined<W: Write>(
     requires all { HasAllOfJoined W.contents sink.old sound.now }
     ensures ok { IfOk result (EndsJoined W.contents sink.old sink.new sound.now) }
     ensures refused { IfErr result (RefusesEnd W.contents sink.old sink.new sound.now) }
+    ensures fault { IfErr result IsWritingFault }
 {
     let Some(joined) = joined_sound(sound, &sink.around) else {
-        return Err(StreamFault::FileRefused);
+        unreachable!();
     };
-    sink.playing.push(sink.around.after)?;
+    sink.playing.push(Piece::Same(sink.around.after))?;
     finish(sink.playing, &joined)
 }

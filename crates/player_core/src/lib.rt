@@ -39,6 +39,7 @@
 //!   were read, and `WritesPrefixTo` that a prefix of it was written (`specs/Playing.antt`).
 //! - `joined before own after` is the channels of three recordings, joined, `between_pcm` what is played of the second
 //!   (`specs/Between.antt`), and `PlaysBetween head d rate before after file bytes` the text of a WAVE file of that.
+//!   `AppliesBetween head d around file fault` says that a fault applies to a file between its neighbours.
 //! - `Lags` says that what was written lags what was read by at most 131,072 bytes of the sound, as `KeepsUpBy` defines
 //!   it (`specs/Pace.antt`).
 //! - `OnOutlet held old new P` says that P holds of the bytes before and after a call (`specs/Outlets.antt`).
@@ -79,6 +80,7 @@ mod joining;
 mod laws;
 mod parts;
 mod pausing;
+mod piece;
 mod pieces;
 mod player;
 mod playing;

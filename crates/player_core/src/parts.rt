@@ -9,6 +9,7 @@ ghost use Rattle.player_core.specs.Parts.{frames_before, groups_before};
 ghost use Rattle.wave_core.specs.Sizes as Sizes;
 
 use crate::groups::{group_size, part_size};
+use crate::piece::Piece;
 use crate::player::Player;
 use dsd_bits::{Interleaving, Sound};
 use fir_core::Taps;
@@ -38,6 +39,7 @@ impl<'a> PartPlayer<'a> {
     ghost use Rattle.std.specs.Prelude.{◌≡◌, ◌+◌, ◌%◌, ◌<◌, ◌≤◌, [], IfOk, IsFalse, IsTrue, OnOk, length};
     ghost use Rattle.dsd_bits.specs.Sounds.{IsSound};
     ghost use Rattle.player_core.specs.Laws.{total_frames};
+    ghost use Rattle.player_core.specs.Pieces.{IsBetweenFrames, Takes, piece_bytes};
     ghost use Rattle.player_core.specs.PartView.{FeedsPart, FinishesPart, IsPartComplete, IsPartFed, IsPartOf, IsPartPlayer, IsSamePart, part_fed, part_rest, part_start};
 
     /// The player of frames `start` to `stop - 1` of a sound, before the first byte that it is fed. The sound has 1 to
@@ -96,8 +98,32 @@ impl<'a> PartPlayer<'a> {
         ensures fed { OnOk result (part_fed self.new ≡ part_fed self.old + length bytes.now) }
         ensures ok { OnOk result (FeedsPart self.old self.new bytes.now out.old.items out.new.items) }
     {
+        self.feed_piece(Piece::Same(bytes), out)
+    }
+
+    /// Whether blocks of that many channels can be taken as they are after `came` bytes of the sound.
+    pub(crate) fn takes_blocks(&self, came: usize, channels: usize) -> bool
+        ensures { IsTrue result → (part_start self.now ≤ came) × IsBetweenFrames self.now.player channels }
+    {
+        self.start <= came && self.player.is_between_frames(channels)
+    }
+
+    /// Takes a piece as [`PartPlayer::feed`] takes its bytes.
+    pub(crate) fn feed_piece(
+        &mut self,
+        piece: Piece<'_>,
+        out: &mut Vec<u8>,
+    ) -> Result<(), AllocError>
+        requires ready { IsPartPlayer self.old }
+        requires takes { Takes self.old.player piece }
+        requires few { part_fed self.old + length (piece_bytes piece) ≤ (part_rest self.old).size }
+        ensures ready { OnOk result (IsPartPlayer self.new) }
+        ensures same { IsSamePart self.old self.new }
+        ensures fed { OnOk result (part_fed self.new ≡ part_fed self.old + length (piece_bytes piece.entry)) }
+        ensures ok { OnOk result (FeedsPart self.old self.new (piece_bytes piece.entry) out.old.items out.new.items) }
+    {
         self.own.clear();
-        self.player.feed(bytes, &mut self.own)?;
+        self.player.feed_piece(piece, &mut self.own)?;
         let number = self.own.len();
         move_within(out, &mut self.own, self.skip, self.stop, self.given)?;
         self.given += number;

@@ -4,10 +4,11 @@ ghost use Rattle.std.specs.Prelude.{◌≡◌, ◌⊎◌, ◌+◌, ◌-◌, ◌<
 ghost use Rattle.chunk_core.specs.Outlets.{outlet_failures};
 ghost use Rattle.player_core.specs.Outlets.{OnOutlet};
 ghost use Rattle.player_core.specs.PartView.{IsPartComplete, IsPartPlayer, IsSamePart, part_fed, part_rest};
-ghost use Rattle.player_core.specs.Pieces.{PutsDue, PutsPrefixOf, PutsRest, rest_piece};
+ghost use Rattle.player_core.specs.Pieces.{IsInPlace, PutsDue, PutsPrefixOf, PutsRest, Takes, piece_bytes, rest_piece};
 ghost use Rattle.sound_core.specs.Faults.{IsWritingFault, failed_writes};
 
 use crate::parts::PartPlayer;
+use crate::piece::Piece;
 use chunk_core::Outlet;
 use sound_core::{StreamFault, put};
 use std::io::Write;
@@ -16,28 +17,44 @@ use std::io::Write;
 /// the piece; bytes before the player's start aren't fed.
 pub(crate) fn put_due<W: Write>(
     player: &mut PartPlayer<'_>,
-    piece: &[u8],
+    piece: Piece<'_>,
     came: usize,
     frames: &mut Vec<u8>,
     outlet: &mut Outlet<W>,
 ) -> Result<(), StreamFault>
     requires player { IsPartPlayer player.old }
-    requires few { part_fed player.old + length (rest_piece player.old came piece.now) ≤ (part_rest player.old).size }
+    requires place { IsInPlace player.old came piece }
+    requires few { part_fed player.old + length (rest_piece player.old came (piece_bytes piece)) ≤ (part_rest player.old).size }
     requires ready { outlet_failures outlet.old < 2 ^ 64 - 1 }
     ensures player { OnOk result (IsPartPlayer player.new) }
     ensures same { OnOk result (IsSamePart player.old player.new) }
     ensures ok { OnOk result (OnOutlet W.contents outlet.old outlet.new
-        (PutsDue player.old player.new (rest_piece player.old came piece.now))) }
+        (PutsDue player.old player.new (rest_piece player.old came (piece_bytes piece.entry)))) }
     ensures prefix { OnErr result (OnOutlet W.contents outlet.old outlet.new
-        (PutsPrefixOf player.old (rest_piece player.old came piece.now))) }
+        (PutsPrefixOf player.old (rest_piece player.old came (piece_bytes piece.entry)))) }
     ensures fault { IfErr result IsWritingFault }
     ensures failures { outlet_failures outlet.new ≡ outlet_failures outlet.old + failed_writes result }
 {
-    let skipped = player.start().saturating_sub(came).min(piece.len());
-    let (_, fed) = piece.split_at(skipped);
+    let rest = rest_of_piece(player, piece, came);
     frames.clear();
-    player.feed(fed, frames)?;
+    player.feed_piece(rest, frames)?;
     put(outlet, frames.as_slice())
+}
+
+// What of a piece isn't before the player's start.
+fn rest_of_piece<'b>(player: &PartPlayer<'_>, piece: Piece<'b>, came: usize) -> Piece<'b>
+    requires { IsInPlace player.now came piece }
+    ensures bytes { piece_bytes result ≡ rest_piece player.now came (piece_bytes piece.entry) }
+    ensures takes { Takes player.now.player result }
+{
+    match piece {
+        Piece::Same(bytes) => {
+            let skipped = player.start().saturating_sub(came).min(bytes.len());
+            let (_, rest) = bytes.split_at(skipped);
+            Piece::Same(rest)
+        }
+        Piece::Blocks(_) => piece,
+    }
 }
 
 /// Writes the rest of the frames: none if all were written.

@@ -8,7 +8,8 @@ ghost use Rattle.player_core.specs.Frames.{tile_bytes};
 ghost use Rattle.player_core.specs.Groups.{whole_size};
 ghost use Rattle.player_core.specs.PlayerView.{AdvanceAll, AreNew, AreReady, AreWhole, FeedChannels, FeedsChannel, FinishChannels};
 
-use crate::groups::{bytes_known, drop_first, fill_channel, group_size};
+use crate::groups::{WholeGroups, bytes_known, drop_first, fill_channel, group_size};
+use crate::piece::Piece;
 use dsd_bits::{Interleaving, Sound};
 use fir_core::{Stream, Taps};
 use std::alloc::{AllocError, Global};
@@ -28,9 +29,10 @@ pub(crate) struct Player<'a> {
 }
 
 impl<'a> Player<'a> {
-    ghost use Rattle.std.specs.Prelude.{◌≡◌, ◌+◌, ◌%◌, ◌≤◌, [], IfOk, OnOk, length};
+    ghost use Rattle.std.specs.Prelude.{◌≡◌, ◌+◌, ◌%◌, ◌≤◌, [], IfOk, IsTrue, OnOk, length};
     ghost use Rattle.dsd_bits.specs.Sounds.{IsSound};
-    ghost use Rattle.player_core.specs.PlayerView.{FeedsPlayer, FinishesPlayer, IsPlayerFed, IsPlayer, IsSamePlayer};
+    ghost use Rattle.player_core.specs.PlayerView.{AreNext, FeedsGroups, FeedsPlayer, FinishesPlayer, IsPlayerFed, IsPlayer, IsSamePlayer};
+    ghost use Rattle.player_core.specs.Pieces.{IsBetweenFrames, Takes, piece_bytes};
 
     /// The player before the first byte of a sound: 1 to 6 channels of the same number of bits, whole bytes if they are
     /// in frames. The only refusal is out of memory.
@@ -63,27 +65,98 @@ impl<'a> Player<'a> {
         ensures fed { OnOk result (self.new.fed ≡ self.old.fed + length bytes.now) }
         ensures ok { OnOk result (FeedsPlayer self.old self.new bytes.now out.old.items out.new.items) }
     {
+        if !self.held.is_empty() || bytes.len() % group_size(&self.sound) != 0 {
+            return self.feed_held(bytes, out);
+        }
+        let fed = self.fed + bytes.len();
+        let number = bytes_known(&self.sound, fed) - bytes_known(&self.sound, self.fed);
+        let groups = WholeGroups {
+            bytes,
+            channels: self.sound.channels,
+            interleaving: self.sound.interleaving,
+            number,
+        };
+        self.feed_groups(groups, bytes.len(), out)
+    }
+
+    // The same of bytes that follow a part of a group, or end with one.
+    fn feed_held(&mut self, bytes: &[u8], out: &mut Vec<u8>) -> Result<(), AllocError>
+        requires ready { IsPlayer self.old }
+        requires few { self.old.fed + length bytes.now ≤ self.old.sound.size }
+        ensures ready { OnOk result (IsPlayer self.new) }
+        ensures same { (self.new.taps ≡ self.old.taps) × (self.new.sound ≡ self.old.sound) }
+        ensures fed { OnOk result (self.new.fed ≡ self.old.fed + length bytes.now) }
+        ensures ok { OnOk result (FeedsPlayer self.old self.new bytes.now out.old.items out.new.items) }
+    {
         let fed = self.fed + bytes.len();
         let number = bytes_known(&self.sound, fed) - bytes_known(&self.sound, self.fed);
         self.held.extend_from_slice(bytes)?;
         let size = group_size(&self.sound);
         let whole = self.held.len() / size * size;
         let (groups, _) = self.held.split_at(whole);
-        feed_all(
-            &mut self.streams,
-            &mut self.own,
-            &mut self.tile,
-            groups,
-            &self.sound,
+        let groups = WholeGroups {
+            bytes: groups,
+            channels: self.sound.channels,
+            interleaving: self.sound.interleaving,
             number,
-        )?;
-        push_tile(
-            out,
-            self.taps.width(),
-            self.tile.as_slice(),
-            self.sound.channels,
-        )?;
+        };
+        feed_all(&mut self.streams, &mut self.own, &mut self.tile, groups)?;
+        push_tile(out, self.taps.width(), &self.tile, self.sound.channels)?;
         drop_first(&mut self.held, whole);
+        self.fed = fed;
+        Ok(())
+    }
+
+    /// Whether blocks of that many channels can be taken as they are: its sound has as many, interleaved byte by byte,
+    /// and it holds no part of a frame.
+    pub(crate) fn is_between_frames(&self, channels: usize) -> bool
+        ensures { IsTrue result → IsBetweenFrames self.now channels }
+    {
+        let sound = &self.sound;
+        self.held.is_empty() && sound.channels == channels && !sound.interleaving.has_blocks()
+    }
+
+    /// Takes a piece as [`Player::feed`] takes its bytes.
+    pub(crate) fn feed_piece(
+        &mut self,
+        piece: Piece<'_>,
+        out: &mut Vec<u8>,
+    ) -> Result<(), AllocError>
+        requires ready { IsPlayer self.old }
+        requires takes { Takes self.old piece }
+        requires few { self.old.fed + length (piece_bytes piece) ≤ self.old.sound.size }
+        ensures ready { OnOk result (IsPlayer self.new) }
+        ensures same { (self.new.taps ≡ self.old.taps) × (self.new.sound ≡ self.old.sound) }
+        ensures fed { OnOk result (self.new.fed ≡ self.old.fed + length (piece_bytes piece.entry)) }
+        ensures ok { OnOk result (FeedsPlayer self.old self.new (piece_bytes piece.entry) out.old.items out.new.items) }
+    {
+        match piece {
+            Piece::Same(bytes) => self.feed(bytes, out),
+            Piece::Blocks(blocks) => self.feed_groups(blocks.groups(), blocks.size(), out),
+        }
+    }
+
+    // Takes whole groups with the next `size` bytes of the sound, which may be interleaved in another way there, and
+    // appends the bytes of each frame whose place is among the bits so far and that was not returned yet. After
+    // `AllocError` the player is of no further use.
+    fn feed_groups(
+        &mut self,
+        groups: WholeGroups<'_>,
+        size: usize,
+        out: &mut Vec<u8>,
+    ) -> Result<(), AllocError>
+        requires ready { IsPlayer self.old }
+        requires nothing_held { self.old.held.items ≡ [] }
+        requires few { self.old.fed + size ≤ self.old.sound.size }
+        requires groups { AreNext self.old groups size }
+        ensures ready { OnOk result (IsPlayer self.new) }
+        ensures same { (self.new.taps ≡ self.old.taps) × (self.new.sound ≡ self.old.sound) }
+        ensures fed { OnOk result (self.new.fed ≡ self.old.fed + size) }
+        ensures ok { OnOk result (FeedsGroups self.old self.new groups.entry size out.old.items out.new.items) }
+    {
+        let fed = self.fed + size;
+        feed_all(&mut self.streams, &mut self.own, &mut self.tile, groups)?;
+        push_tile(out, self.taps.width(), &self.tile, self.sound.channels)?;
         self.fed = fed;
         Ok(())
     }
@@ -97,12 +170,7 @@ impl<'a> Player<'a> {
         ensures ok { OnOk result (FinishesPlayer self.old out.old.items out.new.items) }
     {
         finish_all(&mut self.streams, &mut self.tile)?;
-        push_tile(
-            out,
-            self.taps.width(),
-            self.tile.as_slice(),
-            self.sound.channels,
-        )?;
+        push_tile(out, self.taps.width(), &self.tile, self.sound.channels)?;
         Ok(())
     }
 }
@@ -144,36 +212,19 @@ fn feed_all(
     streams: &mut [Stream],
     own: &mut Vec<u8>,
     tile: &mut Vec<i32>,
-    groups: &[u8],
-    sound: &Sound,
-    number: usize,
+    groups: WholeGroups<'_>,
 ) -> Result<(), AllocError>
-    requires channels { (length streams.old ≡ sound.now.channels) × (sound.now.channels ≤ 6) }
-    requires ready { AreReady number streams.old }
-    requires enough { number ≤ whole_size sound.now.interleaving sound.now.channels (length groups.now) }
-    ensures channels { OnOk result (AdvanceAll sound.now.count number streams.old streams.new) }
-    ensures fed { OnOk result (FeedChannels sound.now number streams.old streams.new groups.now tile.new.items) }
+    requires channels { (length streams.old ≡ groups.channels) × (groups.channels ≤ 6) }
+    requires ready { AreReady groups.number streams.old }
+    requires enough { groups.number ≤ whole_size groups.interleaving groups.channels (length groups.bytes.now) }
+    ensures channels { OnOk result (AdvanceAll groups.entry.number streams.old streams.new) }
+    ensures fed { OnOk result (FeedChannels groups.entry streams.old streams.new tile.new.items) }
 {
     tile.clear();
     for (channel, stream) in streams.iter_mut().enumerate() {
-        let part = Part {
-            channels: sound.channels,
-            channel,
-            interleaving: sound.interleaving,
-            number,
-        };
-        feed_one(stream, own, tile, groups, part)?;
+        feed_one(stream, own, tile, groups, channel)?;
     }
     Ok(())
-}
-
-// The first bytes of a channel in whole groups of sound bytes.
-#[derive(Clone, Copy)]
-struct Part {
-    channels: usize,
-    channel: usize,
-    interleaving: Interleaving,
-    number: usize,
 }
 
 // Feeds a stream the first bytes of a channel in whole groups of sound bytes.
@@ -181,25 +232,25 @@ fn feed_one(
     stream: &mut Stream,
     own: &mut Vec<u8>,
     tile: &mut Vec<i32>,
-    groups: &[u8],
-    part: Part,
+    groups: WholeGroups<'_>,
+    channel: usize,
 ) -> Result<(), AllocError>
     requires ready { IsStream stream.old }
-    requires few { stream.old.fed + part.number ≤ div_ceil stream.old.count 8 }
-    requires channel { (part.channel < part.channels) × (part.channels ≤ 6) }
-    requires enough { part.number ≤ whole_size part.interleaving part.channels (length groups.now) }
+    requires few { stream.old.fed + groups.number ≤ div_ceil stream.old.count 8 }
+    requires channel { (channel < groups.channels) × (groups.channels ≤ 6) }
+    requires enough { groups.number ≤ whole_size groups.interleaving groups.channels (length groups.bytes.now) }
     ensures ready { IsStream stream.new }
-    ensures ok { OnOk result (FeedsChannel stream.old stream.new part groups.now tile.old.items tile.new.items) }
-    ensures fed { OnOk result (stream.new.fed ≡ stream.old.fed + part.number) }
+    ensures ok { OnOk result (FeedsChannel stream.old stream.new groups.entry channel tile.old.items tile.new.items) }
+    ensures fed { OnOk result (stream.new.fed ≡ stream.old.fed + groups.entry.number) }
     ensures same { (stream.new.taps ≡ stream.old.taps) × (stream.new.count ≡ stream.old.count) }
 {
     fill_channel(
         own,
-        groups,
-        part.channels,
-        part.channel,
-        part.interleaving,
-        part.number,
+        groups.bytes,
+        groups.channels,
+        channel,
+        groups.interleaving,
+        groups.number,
     )?;
     stream.feed(own.as_slice(), tile)
 }

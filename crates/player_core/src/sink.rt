@@ -11,6 +11,7 @@ ghost use Rattle.player_core.specs.Sinks.{FinishesAll, HasAll, RefusesAll};
 ghost use Rattle.sound_core.specs.Faults.{IsWritingFault};
 
 use crate::parts::PartPlayer;
+use crate::piece::Piece;
 use crate::pieces::{put_due, put_rest};
 use crate::range::WaveRange;
 use crate::wave::{file_size, put_header, put_pad, total_frames};
@@ -91,32 +92,44 @@ impl<'a, 't, W: Write> SoundSink for PlayingSink<'a, 't, W> {
     }
 
     fn take(&mut self, _alloc: Global, _part: SoundPart, bytes: &[u8]) -> Result<(), StreamFault> {
-        self.push(bytes)
+        self.push(Piece::Same(bytes))
     }
 }
 
 impl<'a, 't, W: Write> PlayingSink<'a, 't, W> {
-    ghost use Rattle.std.specs.Prelude.{IfErr, OnOk, length};
-    ghost use Rattle.player_core.specs.Joining.{MayTake, PushesOn, RefusesPush};
+    ghost use Rattle.std.specs.Prelude.{IfErr, IsTrue, OnOk, length};
+    ghost use Rattle.player_core.specs.Joining.{MayPush, MayTake, PushesOn, RefusesPush, TakesBlocks};
+    ghost use Rattle.player_core.specs.Pieces.{piece_bytes};
     ghost use Rattle.sound_core.specs.Faults.{IsWritingFault};
 
+    /// Whether blocks of that many channels can be pushed as they are.
+    pub(crate) fn takes_blocks(&self, channels: usize) -> bool
+        ensures { IsTrue result → TakesBlocks self.now channels }
+    {
+        match &*self.player {
+            Some(player) => player.takes_blocks(self.came, channels),
+            None => false,
+        }
+    }
+
     /// Takes the next bytes of the sound.
-    pub(crate) fn push(&mut self, bytes: &[u8]) -> Result<(), StreamFault>
-        requires few { MayTake W.contents self.old (length bytes.now) }
-        ensures has { OnOk result (PushesOn W.contents self.old self.new bytes.now) }
+    pub(crate) fn push(&mut self, piece: Piece<'_>) -> Result<(), StreamFault>
+        requires few { MayTake W.contents self.old (length (piece_bytes piece)) }
+        requires takes { MayPush self.old piece }
+        ensures has { OnOk result (PushesOn W.contents self.old self.new (piece_bytes piece.entry)) }
         ensures fault { IfErr result IsWritingFault }
-        ensures refused { IfErr result (RefusesPush W.contents self.old self.new bytes.now) }
+        ensures refused { IfErr result (RefusesPush W.contents self.old self.new (piece_bytes piece.entry)) }
     {
         match &mut *self.player {
             Some(player) => {
                 if player.is_complete() {
                     return Ok(());
                 }
-                put_due(player, bytes, self.came, self.out, self.outlet)?
+                put_due(player, piece, self.came, self.out, self.outlet)?
             }
             None => unreachable!(),
         }
-        self.came += bytes.len();
+        self.came += piece.len();
         Ok(())
     }
 }

@@ -1,5 +1,5 @@
-use Rattle.player_core.proofs.LoopLaws.{FedUpTo}
+use Rattle.player_core.proofs.LoopLaws.{FedAsGroups}
 use Rattle.player_core.proofs.player.feed_all.Given as goal
 
 abbrev pub invariant-loop-channel : goal.invariant-loop-channel
-invariant-loop-channel l = FedUpTo l.sound l.number l.groups l.initial.streams l.streams l.tile.items l.channel
+invariant-loop-channel l = FedAsGroups l.groups l.initial.streams l.streams l.tile.items l.channel

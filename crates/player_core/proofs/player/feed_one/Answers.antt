@@ -5,11 +5,11 @@ use Rattle.player_core.proofs.GroupLaws.{length-part}
 use Rattle.player_core.proofs.player.feed_one.Goals as goal
 use Rattle.player_core.proofs.player.feed_one.Goals.{After-as_slice}
 
-bytes_are : (c : After-as_slice) → c.as_slice.result.now ≡ channel_part c.args.part.interleaving c.args.part.channels c.args.groups.now c.args.part.channel 0 c.args.part.number
+bytes_are : (c : After-as_slice) → c.as_slice.result.now ≡ channel_part c.args.groups.interleaving c.args.groups.channels c.args.groups.bytes.now c.args.channel 0 c.args.groups.number
 bytes_are c = c.as_slice.ensures.value ∙ c.in_ok-fill_channel.ensures
 
-number_is : (c : After-as_slice) → length c.as_slice.result.now ≡ c.args.part.number
-number_is c = ap length (bytes_are c) ∙ length-part c.args.part.interleaving c.args.part.channels c.args.groups.now c.args.part.channel 0 c.args.part.number
+number_is : (c : After-as_slice) → length c.as_slice.result.now ≡ c.args.groups.number
+number_is c = ap length (bytes_are c) ∙ length-part c.args.groups.interleaving c.args.groups.channels c.args.groups.bytes.now c.args.channel 0 c.args.groups.number
 
 pub feed-requires-clause-few : goal.feed-requires-clause-few
 feed-requires-clause-few c = omega (arith, number_is (goal.at.feed-requires-clause-few c).After-as_slice, c.requires.few)

@@ -1,4 +1,4 @@
-use Rattle.std.proofs.Common.{Err, ap, ◌≤◌, ◌^◌, ◌∙◌, add-zero, refl, subst, sym}
+use Rattle.std.proofs.Common.{Err, ap, ◌≤◌, ◌∙◌, add-zero, refl, subst, sym}
 use Rattle.std.proofs.lemmas.Bool.{true≢false}
 use Rattle.std.proofs.lemmas.Result.{IfErr-weaker, on_err_weaker, on_ok_weaker}
 use Rattle.chunk_core.specs.Outlets.{AppendsPrefix, outlet_writer}

@@ -21,7 +21,6 @@ use Rattle.form_core.specs.Forms.{text_in}
 use Rattle.form_core.specs.Parts.{FitsIn, FormsWrittenInParts}
 use Rattle.form_core.specs.declared.form.Form.{Form}
 use Rattle.request_core.specs.declared.fault.Fault as calls
-use Rattle.request_core.specs.declared.fault.Fault.TheVariants.{Memory}
 use Rattle.transfer_commands.specs.DopConverting.{ConvertDopComesTo, ConvertsDop, ConvertsDopTo, IsFirstDopFault, IsPartByte, IsRefusal, IsUnscanned, IsUnscannedLeft, LeavesDopPart, MakesDop, ScansLeft, ScansRead, StartsDop}
 use Rattle.transfer_commands.specs.declared.convert_dop.DopConvertFault.{DopConvertFault}
 use Rattle.transfer_commands.specs.declared.convert_dop.DopConvertFault.TheVariants as faults

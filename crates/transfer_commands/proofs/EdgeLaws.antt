@@ -36,8 +36,7 @@ use Rattle.sound_core.proofs.SameLaws.{holds_in}
 use Rattle.sound_core.proofs.StatedLaws.{one_sound}
 use Rattle.wave_core.specs.Heads.{text_in}
 use Rattle.wave_core.specs.declared.head.WaveHead.{WaveHead}
-use Rattle.transfer_commands.specs.BetweenPlaying.{AreChannelsOf, HoldsChannels}
-use Rattle.transfer_commands.specs.Neighbours.{AreAlike, AreHeard, HearsAfter, HearsBefore, IsEdgeIn, IsEdgeLeft, IsHeardAfter, IsHeardBefore, IsLacedEdge, IsWholeRange, KeepsLeft}
+use Rattle.transfer_commands.specs.Neighbours.{AreAlike, AreChannelsOf, AreHeard, HearsAfter, HearsBefore, HoldsChannels, IsEdgeIn, IsEdgeLeft, IsHeardAfter, IsHeardBefore, IsLacedEdge, IsWholeRange, KeepsLeft}
 use Rattle.transfer_commands.specs.declared.between.Edges.{Edges}
 use Rattle.transfer_commands.specs.declared.between.NeighbourNames.{NeighbourNames}
 use Rattle.transfer_commands.proofs.ReadLaws.{known_or_some}

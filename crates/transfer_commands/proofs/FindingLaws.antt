@@ -1,5 +1,5 @@
 -- How a part is found in what was read of a file, or why it isn't.
-use Rattle.std.proofs.Common.{◌≡◌, ℕ, inl, inr, List, [], Option, None, Some, Err, subst, sym, ap, ◌∙◌, arith}
+use Rattle.std.proofs.Common.{◌≡◌, ℕ, inl, inr, List, [], Option, None, Some, Result, Ok, Err, IfOk, subst, sym, ap, ◌∙◌, arith}
 use Rattle.std.proofs.lemmas.Option.{slice_get_past}
 use Rattle.std.specs.Io.KnownBytes.{prepend_known}
 use Rattle.dsd_bits.specs.Contents.{MarkContent}
@@ -14,12 +14,15 @@ use Rattle.transfer_core.specs.declared.spans.Span.{Span}
 use Rattle.request_core.specs.declared.span_fault.SpanFault.{SpanFault}
 use Rattle.request_core.specs.declared.span_fault.SpanFault.TheVariants.{NoMark, PartOutside, PartReversed}
 use Rattle.transfer_commands.specs.Outlining.{IsUnoutlined}
-use Rattle.transfer_commands.specs.PartPlaying.{DescribesRead, FindsSpan, HasSpanInSound, IsMark, IsNotInSound, IsUnfound, LacksSpan, NamesMark}
+use Rattle.transfer_commands.specs.Gaps.{IsFactorOf}
+use Rattle.transfer_commands.specs.PartPlaying.{DescribesRead, FindsSpan, HasSpanInReport, HasSpanInSound, IsFound, IsMark, IsNotInReport, IsNotInSound, IsUnfound, LacksSpan, NamesMark, ReportsRead}
 use Rattle.transfer_commands.specs.Reporting.{ReportComesTo}
 use Rattle.transfer_commands.specs.declared.fault.CommandFault.{CommandFault}
 use Rattle.transfer_commands.specs.declared.fault.CommandFault.TheVariants.{Call, ReadFailed, WriteFailed}
+use Rattle.transfer_commands.specs.declared.parts.Part.{Part}
 use Rattle.transfer_commands.specs.declared.parts.PartFault.{PartFault}
 use Rattle.transfer_commands.specs.declared.parts.PartFault.TheVariants.{Command, Span as Spans}
+use Rattle.transfer_commands.specs.declared.reporting.Reported.{Reported}
 use Rattle.transfer_commands.proofs.OpeningLaws.{prefix_read}
 
 -- ---- a place has one frame at most
@@ -108,6 +111,18 @@ pub lacking_any : (project : List ℕ) (sound : Sound) (span : Span) (fault : Sp
     → IsNotInSound project sound span (Spans fault)
 lacking_any project sound span fault none frames is are refused = λ unnamed marks.
     lacking project span fault sound.rate sound.count marks frames are (refused_any frames sound.rate span fault (subst (λ ms. SpanRefused frames sound.rate ms span fault) is refused) unnamed marks)
+
+-- ---- by what is reported of a file
+module _ (project name : List ℕ) (view : View) (reported : Reported) (span : Span) (reports : ReportsRead name view reported) where
+  pub found_in_report : (r : Result Part PartFault) → IfOk r (λ part. part.project.now ≡ project) → IfOk r (λ part. IsFactorOf part.project.now part.factor) → IfOk r (λ part. HasSpanInReport project reported span part.start part.stop) → IfOk r (IsFound project name view span)
+  found_in_report (Ok part) is factor has = (is, factor, inl (reported, reports, has))
+  found_in_report (Err fault) is factor has = tt
+
+  pub unfound_in_report : (fault : PartFault) → IsNotInReport project reported span fault → IsUnfound project name view span fault
+  unfound_in_report (Command (Call fault)) none = inr (inr (inl (reported, reports, none)))
+  unfound_in_report (Command ReadFailed) none = absurd none
+  unfound_in_report (Command WriteFailed) none = absurd none
+  unfound_in_report (Spans fault) none = inl (reported, reports, none)
 
 -- ---- by the sound that first bytes describe
 module _ (project name prefix : List ℕ) (view : View) (left : Option (List ℕ)) (sound : Sound) (span : Span) (given : IsGiven view name (prepend_known prefix left)) (states : LeadsToSound prefix sound) where

@@ -19,6 +19,8 @@ pub mod SpeakLaws
 pub mod HeldLaws
 pub mod NeighbourLaws
 pub mod EdgeLaws
+pub mod BetweenRefusals
+pub mod RefusalLaws
 pub mod BetweenLaws
 pub mod OrderLaws
 pub mod BetweenSpeaking

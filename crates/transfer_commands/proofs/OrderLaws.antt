@@ -16,9 +16,8 @@ use Rattle.player_core.proofs.ReachLaws.{head_is_enough, tail_is_enough}
 use Rattle.speaker_core.specs.Reordering.{NamesChannels, channels_in}
 use Rattle.speaker_core.proofs.ChannelLaws.{moved_hold}
 use Rattle.wave_core.specs.declared.head.WaveHead.{WaveHead}
-use Rattle.transfer_commands.specs.BetweenPlaying.{AreChannelsOf}
+use Rattle.transfer_commands.specs.Neighbours.{AreChannelsOf, AreHeard, IsHeardAfter, IsHeardBefore}
 use Rattle.transfer_commands.specs.BetweenSpeaking.{frames_in}
-use Rattle.transfer_commands.specs.Neighbours.{AreHeard, IsHeardAfter, IsHeardBefore}
 use Rattle.transfer_commands.specs.declared.between.Edges.{Edges}
 use Rattle.transfer_commands.specs.declared.between.NeighbourNames.{NeighbourNames}
 use Rattle.transfer_commands.proofs.EdgeLaws.{PlayTheSame, none_level, none_silent, same_as_both, same_as_it_is, same_samples}

@@ -7,7 +7,7 @@ use Rattle.folder_core.specs.Files.{IsReadFault, IsReadOf, KeepsOthers, View}
 use Rattle.folder_core.specs.declared.fault.FileFault.{FileFault}
 use Rattle.folder_core.specs.declared.fault.FileFault.TheVariants as files
 use Rattle.transfer_commands.specs.Faults.{of_file}
-use Rattle.transfer_commands.specs.PartPlaying.{FindsSpan, IsUnfound, PlayPartComesTo}
+use Rattle.transfer_commands.specs.PartPlaying.{FindsSpan, IsPartRefused, IsUnfound, PlayPartComesTo}
 use Rattle.transfer_commands.specs.Playing.{PlayedComesTo}
 use Rattle.transfer_commands.specs.declared.fault.CommandFault.{CommandFault}
 use Rattle.transfer_commands.specs.declared.fault.CommandFault.TheVariants.{Call, ReadFailed, WriteFailed}
@@ -44,14 +44,19 @@ module _ (head : WaveHead) (project_name file_name output_name project : List �
   part_fails ReadFailed h = absurd h
 
 -- ---- a part that isn't found
+pub refused_part : (project_name file_name project : List ℕ) (span : Span) (old mid new : View) → IsReadOf old project_name project → mid ≡ old → new ≡ mid
+    → (fault : PartFault) → IsUnfound project file_name mid span fault → IsPartRefused project_name file_name span old new fault
+refused_part project_name file_name project span old mid new project_read same again fault none =
+    record { project = project; project_read = project_read; unfound = subst (λ (v : View). IsUnfound project file_name v span fault) same none; same = again ∙ same }
+
 pub part_refused : (head : WaveHead) (project_name file_name output_name project : List ℕ) (span : Span) (old mid new : View) → IsReadOf old project_name project → mid ≡ old → new ≡ mid
     → (fault : PartFault) → IsUnfound project file_name mid span fault → PlayPartComesTo head project_name file_name output_name span old new (Err fault)
 part_refused head project_name file_name output_name project span old mid new project_read same again (Command (Call fault)) none =
-    inr (inl (record { project = project; project_read = project_read; unfound = subst (λ (v : View). IsUnfound project file_name v span (Command (Call fault))) same none; same = again ∙ same }))
+    inr (inl (refused_part project_name file_name project span old mid new project_read same again (Command (Call fault)) none))
 part_refused head project_name file_name output_name project span old mid new project_read same again (Command ReadFailed) none = again ∙ same
 part_refused head project_name file_name output_name project span old mid new project_read same again (Command WriteFailed) none = absurd none
 part_refused head project_name file_name output_name project span old mid new project_read same again (Spans fault) none =
-    record { project = project; project_read = project_read; unfound = subst (λ (v : View). IsUnfound project file_name v span (Spans fault)) same none; same = again ∙ same }
+    refused_part project_name file_name project span old mid new project_read same again (Spans fault) none
 
 -- a project that is not read
 pub project_unread : (head : WaveHead) (project file_name output_name : List ℕ) (span : Span) (old new : View) → new ≡ old → (fault : FileFault) → IsReadFault fault → PlayPartComesTo head project file_name output_name span old new (Err (Command (of_file fault)))

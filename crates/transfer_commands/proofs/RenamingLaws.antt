@@ -14,8 +14,6 @@ use Rattle.dsd_bits.specs.Contents.{Content, described}
 use Rattle.dsd_bits.specs.Lacing.{unlaced_all}
 use Rattle.dsd_bits.specs.Shape.{HasShape}
 use Rattle.dsd_bits.specs.Sounds.{has_blocks, sound_channels, sound_size}
-use Rattle.dsdiff_core.specs.declared.write_fault.WriteFault.{WriteFault}
-use Rattle.dsdiff_core.specs.declared.write_fault.WriteFault.TheVariants as writes
 use Rattle.form_core.specs.Forms.{dropped_in, form_in, text_in}
 use Rattle.form_core.specs.Parts.{FitsIn, FormsWrittenInParts, head_in, interleaving_in, tail_in}
 use Rattle.form_core.specs.declared.form.Form.{Form}
@@ -36,7 +34,7 @@ use Rattle.form_core.specs.Forms.{HoldsAs}
 use Rattle.form_core.specs.Opening.{Opens, opened_of}
 use Rattle.form_core.specs.declared.fault.ReadFault.{ReadFault}
 use Rattle.form_core.specs.declared.fault.ReadFault.TheVariants as reads
-use Rattle.request_core.specs.Faults.{fault_of_file, fault_of_writing}
+use Rattle.request_core.specs.Faults.{fault_of_file}
 use Rattle.request_core.specs.declared.fault.Fault as calls
 use Rattle.request_core.specs.declared.fault.Fault.TheVariants.{Memory}
 use Rattle.sound_core.specs.Outlines.{around_of}

@@ -1,8 +1,7 @@
 -- A file that is converted with its loudspeakers named, as it was read.
-use Rattle.std.proofs.Common.{◌≡◌, ℕ, List, [], ◌++◌, Option, None, Some, Err, append-nil, refl, subst, ap, ◌∙◌}
+use Rattle.std.proofs.Common.{◌≡◌, ℕ, List, Option, None, Some, Err, subst}
 use Rattle.std.specs.Prelude.{IfSome}
-use Rattle.std.specs.Io.KnownBytes.{prepend_known}
-use Rattle.folder_core.specs.Files.{IsGiven, IsReadOf, View}
+use Rattle.folder_core.specs.Files.{View}
 use Rattle.form_core.specs.Parts.{FitsIn}
 use Rattle.form_core.specs.declared.form.Form.{Form}
 use Rattle.sound_core.specs.Outlines.{around_of}
@@ -13,14 +12,6 @@ use Rattle.transfer_commands.specs.SpeakersConverting.{ConvertSpeakersComesTo}
 use Rattle.transfer_commands.specs.declared.convert_speakers.SpeakersFault.TheVariants as faults
 use Rattle.transfer_commands.specs.declared.renaming.Renaming.{Renaming}
 use Rattle.transfer_commands.proofs.RenamingLaws.{has_no_type}
-
--- bytes that were read of a name, with none left after them
-pub held_left : (view : View) (input file none : List ℕ) → IsReadOf view input file → none ≡ [] → IsGiven view input (prepend_known file (Some none))
-held_left view input file none read is = λ reported. (file, read reported, ap Some (ap (λ l. file ++ l) is ∙ append-nil file))
-
--- or given by a reader that has just these
-pub held_given : (view : View) (input file given : List ℕ) → IsReadOf view input file → given ≡ file → IsGiven view input (Some given)
-held_given view input file given read is = λ reported. (file, read reported, ap Some is)
 
 -- what is written, if there is something
 pub renamed_found : (form : Form) (outline : Outline) (o : Option Renaming) (w : Renaming) → o ≡ Some w → IfSome o (λ r. (file : List ℕ) → IsOutlined file outline → IsRenaming form (around_of outline) r) → (file : List ℕ) → IsOutlined file outline → IsRenaming form (around_of outline) w

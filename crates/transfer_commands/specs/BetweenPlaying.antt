@@ -1,70 +1,35 @@
 -- What a folder comes to where one of its files is played to another, between its neighbours.
-use Rattle.std.specs.Prelude.{◌≡◌, ◌≢◌, ◌≤◌, ◌⊎◌, ℕ, ◌%◌, Bool, List, [], ◌++◌, length, replicate, IsTrue, Option, None, Some, Result, Ok, Err, ⊤}
-use Rattle.std.specs.Borrow.{Bor}
-use Rattle.dsd_bits.specs.Contents.{Content}
+use Rattle.std.specs.Prelude.{◌≡◌, ◌≢◌, ◌⊎◌, ℕ, ◌%◌, Bool, List, ◌++◌, length, IsTrue, Option, Some, IfSome, Result, Ok, Err, ⊤}
+use Rattle.dsd_bits.specs.Lacing.{unlaced_all}
 use Rattle.dsd_bits.specs.declared.sound.Sound.{Sound}
 use Rattle.fir_core.specs.Decimator.{Decimator}
-use Rattle.folder_core.specs.Files.{HadNone, IsPut, IsReadOf, KeepsOthers, OpensAs, View}
+use Rattle.folder_core.specs.Files.{HadNone, IsGiven, IsPut, IsReadOf, KeepsOthers, OpensAs, View}
+use Rattle.form_core.specs.Opening.{opened_of}
 use Rattle.form_core.specs.Steps.{FailsUnless}
-use Rattle.player_core.specs.Between.{PlaysBetween}
+use Rattle.player_core.specs.Between.{AppliesBetweenBy, PlaysBetween}
 use Rattle.player_core.specs.Playing.{PlaysFile, WritesPrefix}
+use Rattle.player_core.specs.declared.joining.Neighbours.{Neighbours}
 use Rattle.request_core.specs.declared.fault.Fault as calls
 use Rattle.request_core.specs.declared.fault.Fault.TheVariants.{Memory, NotWholeBytes}
-use Rattle.request_core.specs.Faults.{IfNamed}
+use Rattle.request_core.specs.Faults.{IfNamed, OfUnread}
 use Rattle.request_core.specs.Projects.{SaysDecimator, decimator_of_text}
-use Rattle.sound_core.specs.Files.{HoldsRecording}
-use Rattle.transfer_commands.specs.Outlining.{IsFirstFault, IsUnoutlined}
+use Rattle.sound_core.specs.Naming.{IfRefusedAs, plain}
+use Rattle.sound_core.specs.declared.fault.Unread.{Unread}
+use Rattle.transfer_commands.specs.Neighbours.{AreChannelsOf, AreHeard, EndsAfter, EndsBefore, IsRefusedNeighbour}
+use Rattle.transfer_commands.specs.Opening.{left_of}
+use Rattle.transfer_commands.specs.Outlining.{IsFirstFault}
 use Rattle.transfer_commands.specs.PartPlaying.{DescribesRead}
 use Rattle.transfer_commands.specs.Playing.{NamesRead}
 use Rattle.transfer_commands.specs.Reporting.{IsUnreported}
 use Rattle.transfer_commands.specs.declared.between.BetweenFault.{BetweenFault}
 use Rattle.transfer_commands.specs.declared.between.BetweenFault.TheVariants.{Command, Next, Previous}
+use Rattle.transfer_commands.specs.declared.between.Edges.{Edges}
 use Rattle.transfer_commands.specs.declared.between.NeighbourNames.{NeighbourNames}
 use Rattle.transfer_commands.specs.declared.fault.CommandFault.{CommandFault}
 use Rattle.transfer_commands.specs.declared.fault.CommandFault.TheVariants.{Call, ReadFailed, WriteFailed}
 use Rattle.transfer_commands.specs.declared.neighbour.NeighbourFault.{NeighbourFault}
-use Rattle.transfer_commands.specs.declared.neighbour.NeighbourFault.TheVariants as neighbours
+use Rattle.transfer_commands.specs.declared.opened.OpenedFile.{OpenedFile}
 use Rattle.wave_core.specs.declared.head.WaveHead.{WaveHead}
-
--- ---- a neighbour
--- bytes that were read of a file hold a recording with this rate and these channels
-pub record HoldsChannels (name : List ℕ) (old : View) (rate : ℕ) (channels : List (List Bool)) : Type 0 where
-  pub file : List ℕ
-  pub recording : Content
-  pub file_read : IsReadOf old name file
-  pub file_holds : HoldsRecording file recording
-  pub rate_is : recording.rate ≡ rate
-  pub channels_are : recording.channels ≡ channels
-
--- the channels of a neighbour: those of bytes that were read of its file, or such without a bit if none is named
-abbrev pub AreChannelsOf : Option (Bor (List ℕ)) → View → ℕ → List (List Bool) → Type 0
-AreChannelsOf None old rate channels = channels ≡ replicate (length channels) []
-AreChannelsOf (Some name) old rate channels = HoldsChannels name.now old rate channels
-
--- a recording that another follows has to end with a whole byte of each channel
-abbrev pub EndsBefore : ℕ → Type 0
-EndsBefore count = count % 8 ≡ 0
-
--- one that follows another, too, if it has fewer bits than a filter may reach
-abbrev pub EndsAfter : ℕ → Type 0
-EndsAfter count = (count % 8 ≡ 0) ⊎ (4096 ≤ count)
-
--- bytes that were read of two files describe sounds of which P holds
-abbrev pub DescribeRead : List ℕ → List ℕ → View → (Sound → Sound → Type 0) → Type 0
-DescribeRead name input old P = (s : Sound) × (t : Sound) × DescribesRead name old s × DescribesRead input old t × P s t
-
--- why a file can't be a neighbour of the input: it was not read or holds no recording, it has another rate or other
--- channels than the input, or it doesn't end as `Ends` says
-abbrev pub IsNoNeighbour : (ℕ → Type 0) → List ℕ → List ℕ → View → NeighbourFault → Type 0
-IsNoNeighbour Ends name input old (neighbours.Command fault) = IsUnoutlined name old fault
-IsNoNeighbour Ends name input old neighbours.OtherRate = DescribeRead name input old (λ s t. s.rate ≢ t.rate)
-IsNoNeighbour Ends name input old neighbours.OtherChannels = DescribeRead name input old (λ s t. s.channels ≢ t.channels)
-IsNoNeighbour Ends name input old neighbours.NotWholeBytes = (s : Sound) × DescribesRead name old s × (Ends s.count → ⊥)
-
--- a neighbour is named, and can't be one for this fault; out of memory is no fault of a neighbour
-abbrev pub IsRefusedNeighbour : (ℕ → Type 0) → Option (Bor (List ℕ)) → List ℕ → View → NeighbourFault → Type 0
-IsRefusedNeighbour Ends None input old fault = ⊥
-IsRefusedNeighbour Ends (Some name) input old fault = IsNoNeighbour Ends name.now input old fault × (fault ≢ neighbours.Command (Call Memory))
 
 -- ---- the recording that is played
 -- why it isn't: it holds no recording, or doesn't end with a whole byte of each channel
@@ -111,7 +76,27 @@ abbrev pub LeavesPrefixBetween : WaveHead → Decimator → ℕ → List (List B
 LeavesPrefixBetween head d rate before after file output old new = (new.file output ≡ old.file output)
     ⊎ (((bytes : List ℕ) → PlaysBetween head d rate before after file bytes → (prefix : List ℕ) × (rest : List ℕ) × (new.file output ≡ Some prefix) × (bytes ≡ prefix ++ rest)) × HadNone output old)
 
--- the neighbours were read, and a fault ended the playing: the output has such a prefix, and no other file changed
+-- the sound bytes of neighbours are these that were kept of them
+pub record AreKept (e : Edges) (around : Neighbours) : Type 0 where
+  pub rate : around.rate ≡ e.rate
+  pub channels : around.channels ≡ e.channels
+  pub before : around.before.now ≡ e.before.items
+  pub after : around.after.now ≡ e.after.items
+
+-- an answer is right for a reader's file between its neighbours, if it is known: its fault applies, and one that is named
+-- is the file's first
+pub record UnreadBetween (left : Option (List ℕ)) (head : WaveHead) (d : Decimator) (e : Edges) (u : Unread) : Type 0 where
+  pub around : Neighbours
+  pub are_kept : AreKept e around
+  pub applies : AppliesBetweenBy left head d around (plain u)
+  pub first : IfSome left (λ file. IfRefusedAs u (λ fault. opened_of file ≡ Err fault))
+
+-- this fault is right for a reader's file between what was kept of its neighbours
+abbrev pub FaultsBetween : Option (List ℕ) → WaveHead → Decimator → Edges → calls.Fault → Type 0
+FaultsBetween left head d e fault = OfUnread (UnreadBetween left head d e) fault
+
+-- the neighbours were read, and a fault that applies ended the playing: the output has such a prefix, and no other file
+-- changed
 pub record LeavesBetween (head : WaveHead) (project_name file_name output_name : List ℕ) (around : NeighbourNames) (old new : View) (fault : calls.Fault) : Type 0 where
   pub project : List ℕ
   pub decimator : Decimator
@@ -122,7 +107,11 @@ pub record LeavesBetween (head : WaveHead) (project_name file_name output_name :
   pub project_says : SaysDecimator project decimator
   pub before_are : AreChannelsOf around.previous old rate before
   pub after_are : AreChannelsOf around.next old rate after
-  pub ended : IsTrue old.is_known → (file : List ℕ) × OpensAs old file_name file × LeavesPrefixBetween head decimator rate before after file output_name old new
+  pub sound : Sound
+  pub edges : Edges
+  pub described : DescribesRead file_name old sound
+  pub heard : AreHeard around old sound decimator edges
+  pub ended : IsTrue old.is_known → (file : List ℕ) × OpensAs old file_name file × LeavesPrefixBetween head decimator rate before after file output_name old new × FaultsBetween (Some file) head decimator edges fault
   pub named : NamesRead file_name old fault
   pub others : KeepsOthers output_name old new
 
@@ -163,20 +152,33 @@ pub record WritesBetween (head : WaveHead) (d : Decimator) (rate : ℕ) (before 
   pub plays : PlaysFile left (PlaysBetween head d rate before after) held written n
   pub some : (read : List ℕ) × (bytes : List ℕ) × PlaysBetween head d rate before after read bytes × (n ≡ length bytes)
 
--- a fault ended the playing of a reader's file: what was written is a prefix
-pub record StopsBetween (head : WaveHead) (d : Decimator) (rate : ℕ) (before after : List (List Bool)) (left held written : Option (List ℕ)) (fault : calls.Fault) : Type 0 where
+-- the channels of what was kept
+abbrev pub edge_channels : Edges → List ℕ → List (List Bool)
+edge_channels e bytes = unlaced_all bytes e.channels
+
+-- what a reader's file plays between what was kept of its neighbours
+abbrev pub PlaysKept : WaveHead → Decimator → Edges → List ℕ → List ℕ → Type 0
+PlaysKept head d e = PlaysBetween head d e.rate (edge_channels e e.before.items) (edge_channels e e.after.items)
+
+-- a fault that applies ended the playing of a reader's file: what was written is a prefix
+pub record StopsBetween (head : WaveHead) (d : Decimator) (e : Edges) (left held written : Option (List ℕ)) (fault : calls.Fault) : Type 0 where
+  pub faults : FaultsBetween left head d e fault
   pub named : IfNamed fault (IsFirstFault left)
-  pub prefix : WritesPrefix left (PlaysBetween head d rate before after) held written
+  pub prefix : WritesPrefix left (PlaysKept head d e) held written
 
--- how playing a reader's file between these channels ends
-abbrev pub WritesTo : WaveHead → Decimator → ℕ → List (List Bool) → List (List Bool) → Option (List ℕ) → Option (List ℕ) → Option (List ℕ) → Result ℕ calls.Fault → Type 0
-WritesTo head d rate before after left held written (Ok n) = WritesBetween head d rate before after left held written n
-WritesTo head d rate before after left held written (Err fault) = StopsBetween head d rate before after left held written fault
+-- how playing a reader's file between what was kept ends
+abbrev pub JoinsTo : WaveHead → Decimator → Edges → Option (List ℕ) → Option (List ℕ) → Option (List ℕ) → Result ℕ calls.Fault → Type 0
+JoinsTo head d e left held written (Ok n) = WritesBetween head d e.rate (edge_channels e e.before.items) (edge_channels e e.after.items) left held written n
+JoinsTo head d e left held written (Err fault) = StopsBetween head d e left held written fault
 
--- how playing a file that was opened under a name to an empty one, between these channels, ends: it is handed back, or
--- given up after a fault
-abbrev pub JoinedComesTo : WaveHead → Decimator → ℕ → List (List Bool) → List (List Bool) → List ℕ → List ℕ → View → View → Result ℕ CommandFault → Type 0
-JoinedComesTo head d rate before after input output old new (Ok count) = (file : List ℕ) × (bytes : List ℕ) × IsReadOf old input file × IsPut new output bytes × PlaysBetween head d rate before after file bytes × (count ≡ length bytes) × KeepsOthers output old new
-JoinedComesTo head d rate before after input output old new (Err (Call fault)) = (IsTrue old.is_known → (file : List ℕ) × OpensAs old input file × LeavesPrefixBetween head d rate before after file output old new) × NamesRead input old fault × KeepsOthers output old new
-JoinedComesTo head d rate before after input output old new (Err WriteFailed) = KeepsOthers output old new × (new.file output ≡ old.file output)
-JoinedComesTo head d rate before after input output old new (Err ReadFailed) = ⊥
+-- how playing a file that was opened under a name to an empty one, between what was kept of its neighbours, ends: it is
+-- handed back, or given up after a fault
+abbrev pub JoinedComesTo : WaveHead → Decimator → Edges → List ℕ → List ℕ → View → View → Result ℕ CommandFault → Type 0
+JoinedComesTo head d e input output old new (Ok count) = (file : List ℕ) × (bytes : List ℕ) × IsReadOf old input file × IsPut new output bytes × PlaysKept head d e file bytes × (count ≡ length bytes) × KeepsOthers output old new
+JoinedComesTo head d e input output old new (Err (Call fault)) = (IsTrue old.is_known → (file : List ℕ) × OpensAs old input file × LeavesPrefixBetween head d e.rate (edge_channels e e.before.items) (edge_channels e e.after.items) file output old new × FaultsBetween (Some file) head d e fault) × NamesRead input old fault × KeepsOthers output old new
+JoinedComesTo head d e input output old new (Err WriteFailed) = KeepsOthers output old new × (new.file output ≡ old.file output)
+JoinedComesTo head d e input output old new (Err ReadFailed) = ⊥
+
+-- the same of a file that was opened, whichever name that was under
+abbrev pub JoinComesTo : {R : Type 0} → (R → Option (List ℕ)) → WaveHead → Decimator → Edges → OpenedFile R → List ℕ → View → View → Result ℕ CommandFault → Type 0
+JoinComesTo left head d e opened output old new came = (input : List ℕ) → IsGiven old input (left_of left opened) → JoinedComesTo head d e input output old new came

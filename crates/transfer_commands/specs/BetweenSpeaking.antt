@@ -1,27 +1,31 @@
 -- What becomes of a file that another is played to between its neighbours, so that it names the loudspeakers of its
 -- channels.
-use Rattle.std.specs.Prelude.{◌≡◌, ℕ, ◌*◌, ◌/◌, Bool, List, length, Option, Result, Ok, Err}
+use Rattle.std.specs.Prelude.{◌≡◌, ◌⊎◌, ℕ, ◌*◌, ◌/◌, Bool, List, length, IsTrue, Option, Some, Result, Ok, Err}
 use Rattle.std.specs.Io.KnownBytes.{prepend_known}
 use Rattle.dsd_bits.specs.declared.sound.Sound.{Sound}
 use Rattle.fir_core.specs.Decimator.{Decimator}
-use Rattle.folder_core.specs.Files.{IsGiven, IsPut, IsReadOf, KeepsOthers, View}
+use Rattle.folder_core.specs.Files.{IsGiven, IsPut, IsReadOf, KeepsOthers, OpensAs, View}
 use Rattle.player_core.specs.Between.{PlaysBetween}
 use Rattle.player_core.specs.Groups.{part_size}
 use Rattle.request_core.specs.Projects.{SaysDecimator}
-use Rattle.sound_core.specs.Files.{LeadsToSound}
+use Rattle.request_core.specs.declared.fault.Fault as calls
+use Rattle.request_core.specs.declared.fault.Fault.TheVariants.{Memory}
 use Rattle.speaker_core.specs.Reordered.{reordered_known, reordering_groups, reordering_order, reordering_size}
 use Rattle.speaker_core.specs.Reordering.{NamesChannels, channels_in, groups_in}
 use Rattle.speaker_core.specs.Speakers.{moved_groups}
 use Rattle.speaker_core.specs.declared.speakers.Speakers.{Speakers}
-use Rattle.transfer_commands.specs.BetweenPlaying.{AreChannelsOf}
-use Rattle.transfer_commands.specs.Neighbours.{edge_channels}
+use Rattle.transfer_commands.specs.BetweenPlaying.{FaultsBetween, IsBetweenRefused, IsBetweenUnwritten, IsNextRefused, LeavesPrefixBetween, edge_channels}
+use Rattle.transfer_commands.specs.Neighbours.{AreChannelsOf, AreHeard, EndsBefore, IsRefusedNeighbour}
+use Rattle.transfer_commands.specs.PartPlaying.{DescribesRead}
 use Rattle.transfer_commands.specs.Renaming.{left_parts}
-use Rattle.transfer_commands.specs.Speaking.{AreSpeakersOf, IsOrdered, LeavesOld, in_order, with_order}
+use Rattle.transfer_commands.specs.Speaking.{AreSpeakersOf, IsOrdered, NamesOrdered, in_order, with_order}
 use Rattle.transfer_commands.specs.declared.between.BetweenFault.{BetweenFault}
+use Rattle.transfer_commands.specs.declared.between.BetweenFault.TheVariants.{Command, Next, Previous}
 use Rattle.transfer_commands.specs.declared.between.Edges.{Edges}
 use Rattle.transfer_commands.specs.declared.between.NeighbourNames.{NeighbourNames}
 use Rattle.transfer_commands.specs.declared.between_speakers.SpokenBetween.{SpokenBetween}
 use Rattle.transfer_commands.specs.declared.fault.CommandFault.{CommandFault}
+use Rattle.transfer_commands.specs.declared.fault.CommandFault.TheVariants.{Call, ReadFailed, WriteFailed}
 use Rattle.transfer_commands.specs.declared.speaking.PlayedSpeakers.{PlayedSpeakers}
 use Rattle.wave_core.specs.Heads.{head_of}
 use Rattle.wave_core.specs.declared.head.WaveHead.{WaveHead}
@@ -39,16 +43,20 @@ ordered_parts left spoken = prepend_known spoken.parts.head.items (reordered_kno
 abbrev pub parts_order : {R : Type 0} → SpokenBetween R → List ℕ → List ℕ
 parts_order spoken = with_order (reordering_order spoken.reordering) (reordering_size spoken.reordering) (reordering_groups spoken.reordering) (length spoken.parts.head.items)
 
+-- what was kept of neighbours, with the channels in an order
+pub record AreOrdered (order : List ℕ) (e ordered : Edges) : Type 0 where
+  pub rate_is : ordered.rate ≡ e.rate
+  pub channels_are : ordered.channels ≡ e.channels
+  pub before_is : ordered.before.items ≡ frames_in order e.before.items
+  pub after_is : ordered.after.items ≡ frames_in order e.after.items
+
 -- a file is to be played from the start of its sound on, by the loudspeakers of a recording; what was kept of its
 -- neighbours comes in the same order
 pub record IsSpokenBetween {R : Type 0} (e : Edges) (speakers : Speakers) (is_wide : Bool) (s : Sound) (spoken : SpokenBetween R) : Type 0 where
   pub head_is : spoken.head ≡ head_of is_wide speakers.mask
   pub number : length speakers.order.items ≡ s.channels
   pub names : NamesChannels speakers.order.items
-  pub rate_is : spoken.edges.rate ≡ e.rate
-  pub channels_are : spoken.edges.channels ≡ e.channels
-  pub before_is : spoken.edges.before.items ≡ frames_in speakers.order.items e.before.items
-  pub after_is : spoken.edges.after.items ≡ frames_in speakers.order.items e.after.items
+  pub are_ordered : AreOrdered speakers.order.items e spoken.edges
   pub order_is : reordering_order spoken.reordering ≡ speakers.order.items
   pub size_is : reordering_size spoken.reordering ≡ part_size s.interleaving
   pub groups_are : reordering_groups spoken.reordering ≡ moved_groups speakers.order.items (s.size / (s.channels * part_size s.interleaving))
@@ -65,15 +73,24 @@ pub record SpeaksBetween (head : WaveHead) (d : Decimator) (rate : ℕ) (before 
   pub counted : count ≡ length bytes
   pub others : KeepsOthers output old new
 
--- how playing it to an empty file ends: after a fault an old file is kept, and no other file changed
-abbrev pub SpokenBetweenComesTo : WaveHead → Decimator → ℕ → List (List Bool) → List (List Bool) → (List ℕ → List ℕ) → List ℕ → List ℕ → View → View → Result ℕ CommandFault → Type 0
-SpokenBetweenComesTo head d rate before after order input output old new (Ok count) = SpeaksBetween head d rate before after order input output old new count
-SpokenBetweenComesTo head d rate before after order input output old new (Err fault) = KeepsOthers output old new × LeavesOld output old new
+-- a fault that applies ended the playing; an old file is kept, or there was none and a prefix of what was due is there,
+-- and no other file changed
+pub record StopsSpokenBetween (head : WaveHead) (d : Decimator) (e : Edges) (order : List ℕ → List ℕ) (input output : List ℕ) (old new : View) (fault : calls.Fault) : Type 0 where
+  pub ended : IsTrue old.is_known → (file : List ℕ) × OpensAs old input file × LeavesPrefixBetween head d e.rate (edge_channels e e.before.items) (edge_channels e e.after.items) (order file) output old new × FaultsBetween (Some (order file)) head d e fault
+  pub named : NamesOrdered old input order fault
+  pub others : KeepsOthers output old new
+
+-- how playing it to an empty file ends
+abbrev pub SpokenBetweenComesTo : WaveHead → Decimator → Edges → (List ℕ → List ℕ) → List ℕ → List ℕ → View → View → Result ℕ CommandFault → Type 0
+SpokenBetweenComesTo head d e order input output old new (Ok count) = SpeaksBetween head d e.rate (edge_channels e e.before.items) (edge_channels e e.after.items) order input output old new count
+SpokenBetweenComesTo head d e order input output old new (Err (Call fault)) = StopsSpokenBetween head d e order input output old new fault
+SpokenBetweenComesTo head d e order input output old new (Err WriteFailed) = KeepsOthers output old new × (new.file output ≡ old.file output)
+SpokenBetweenComesTo head d e order input output old new (Err ReadFailed) = ⊥
 
 -- the same of a file that is played, whichever name it was opened under
 abbrev pub SpeechBetweenComesTo : {R : Type 0} → (R → Option (List ℕ)) → Decimator → SpokenBetween R → List ℕ → View → View → Result ℕ CommandFault → Type 0
 SpeechBetweenComesTo left d spoken output old new came = (input : List ℕ) → IsGiven old input (left_parts left spoken.parts)
-    → SpokenBetweenComesTo spoken.head d spoken.edges.rate (edge_channels spoken.edges spoken.edges.before.items) (edge_channels spoken.edges spoken.edges.after.items) (parts_order spoken) input output old new came
+    → SpokenBetweenComesTo spoken.head d spoken.edges (parts_order spoken) input output old new came
 
 -- ---- the files
 -- the output is now the WAVE file of the frames whose place lies in the input, of the recording that it makes with its
@@ -83,7 +100,6 @@ pub record SpeaksBetweenFiles (is_wide : Bool) (project_name file_name output_na
   pub project : List ℕ
   pub decimator : Decimator
   pub speakers : Speakers
-  pub prefix : List ℕ
   pub sound : Sound
   pub before : List (List Bool)
   pub after : List (List Bool)
@@ -91,13 +107,33 @@ pub record SpeaksBetweenFiles (is_wide : Bool) (project_name file_name output_na
   pub project_says : SaysDecimator project decimator
   pub mask_is : played.mask ≡ speakers.mask
   pub are_speakers : AreSpeakersOf file_name old speakers
-  pub leads : LeadsToSound prefix sound
+  pub described : DescribesRead file_name old sound
   pub before_are : AreChannelsOf around.previous old sound.rate before
   pub after_are : AreChannelsOf around.next old sound.rate after
   pub speaks : SpeaksBetween (head_of is_wide speakers.mask) decimator sound.rate (channels_in speakers.order.items before) (channels_in speakers.order.items after) (in_order speakers.order.items sound) file_name output_name old new played.size
 
--- the folder before and after the input was played to the output between its neighbours came to this: after a fault an
--- old file is kept, and no other file changed
+-- the neighbours were read, and a fault that applies ended the playing of all three in the order of the input's
+-- loudspeakers; an old output is kept, and no other file changed
+pub record LeavesSpokenBetween (is_wide : Bool) (project_name file_name output_name : List ℕ) (around : NeighbourNames) (old new : View) (fault : calls.Fault) : Type 0 where
+  pub project : List ℕ
+  pub decimator : Decimator
+  pub speakers : Speakers
+  pub sound : Sound
+  pub edges : Edges
+  pub ordered : Edges
+  pub project_read : IsReadOf old project_name project
+  pub project_says : SaysDecimator project decimator
+  pub are_speakers : AreSpeakersOf file_name old speakers
+  pub described : DescribesRead file_name old sound
+  pub heard : AreHeard around old sound decimator edges
+  pub are_ordered : AreOrdered speakers.order.items edges ordered
+  pub stops : StopsSpokenBetween (head_of is_wide speakers.mask) decimator ordered (in_order speakers.order.items sound) file_name output_name old new fault
+
+-- the folder before and after the input was played to the output between its neighbours came to this
 abbrev pub SpeakBetweenComesTo : Bool → List ℕ → List ℕ → List ℕ → NeighbourNames → View → View → Result PlayedSpeakers BetweenFault → Type 0
 SpeakBetweenComesTo is_wide project input output around old new (Ok played) = SpeaksBetweenFiles is_wide project input output around old new played
-SpeakBetweenComesTo is_wide project input output around old new (Err fault) = KeepsOthers output old new × LeavesOld output old new
+SpeakBetweenComesTo is_wide project input output around old new (Err (Command (Call fault))) = ((new ≡ old) × (fault ≡ Memory)) ⊎ (IsBetweenRefused project input old new fault ⊎ LeavesSpokenBetween is_wide project input output around old new fault)
+SpeakBetweenComesTo is_wide project input output around old new (Err (Command ReadFailed)) = new ≡ old
+SpeakBetweenComesTo is_wide project input output around old new (Err (Command WriteFailed)) = IsBetweenUnwritten project output around old new
+SpeakBetweenComesTo is_wide project input output around old new (Err (Previous fault)) = IsRefusedNeighbour EndsBefore around.previous input old fault × (new ≡ old)
+SpeakBetweenComesTo is_wide project input output around old new (Err (Next fault)) = IsNextRefused input around old new fault

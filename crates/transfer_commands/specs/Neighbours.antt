@@ -1,5 +1,5 @@
--- What is kept of a recording that is before or after another.
-use Rattle.std.specs.Prelude.{◌≡◌, ◌≤◌, ◌⊎◌, ℕ, ◌%◌, ◌*◌, Bool, List, [], ◌∷◌, length, slice_index_or, Option, None, Some, IfSome, Result}
+-- What recordings before and after another have to be, and what is kept of them.
+use Rattle.std.specs.Prelude.{◌≡◌, ◌≢◌, ◌≤◌, ◌⊎◌, ℕ, ◌%◌, ◌*◌, Bool, List, [], ◌∷◌, length, replicate, slice_index_or, Option, None, Some, IfSome}
 use Rattle.std.specs.Borrow.{Bor}
 use Rattle.dsd_bits.specs.declared.sound.Sound.{Sound}
 use Rattle.dsd_bits.specs.declared.stretches.BitRange.{BitRange}
@@ -8,28 +8,64 @@ use Rattle.dsd_bits.specs.Contents.{Content}
 use Rattle.dsd_bits.specs.Lacing.{laced, unlaced_all}
 use Rattle.dsd_bits.specs.Stretches.{stretch_of}
 use Rattle.fir_core.specs.Decimator.{Decimator}
-use Rattle.folder_core.specs.Files.{IsGiven, View}
+use Rattle.folder_core.specs.Files.{IsReadOf, View}
 use Rattle.player_core.specs.Reaches.{IsFarEnough, first_bits, from_frame}
-use Rattle.request_core.specs.declared.fault.Fault as calls
 use Rattle.request_core.specs.declared.fault.Fault.TheVariants.{Memory}
 use Rattle.sound_core.specs.Files.{HoldsRecording}
 use Rattle.sound_core.specs.Keeping.{IsKeptOf, stretches_in}
 use Rattle.sound_core.specs.Outlines.{AreStated, around_of}
 use Rattle.sound_core.specs.declared.keeping.Kept.{Kept}
-use Rattle.transfer_commands.specs.BetweenPlaying.{EndsAfter, EndsBefore, HoldsChannels, IsNoNeighbour, JoinedComesTo, WritesTo}
-use Rattle.transfer_commands.specs.Opening.{left_of}
+use Rattle.transfer_commands.specs.Outlining.{IsUnoutlined}
 use Rattle.transfer_commands.specs.PartPlaying.{DescribesRead}
 use Rattle.transfer_commands.specs.declared.between.BetweenFault.{BetweenFault}
 use Rattle.transfer_commands.specs.declared.between.BetweenFault.TheVariants.{Command, Next, Previous}
 use Rattle.transfer_commands.specs.declared.between.Edges.{Edges}
 use Rattle.transfer_commands.specs.declared.between.NeighbourNames.{NeighbourNames}
-use Rattle.transfer_commands.specs.declared.fault.CommandFault.{CommandFault}
 use Rattle.transfer_commands.specs.declared.fault.CommandFault.TheVariants.{Call}
 use Rattle.transfer_commands.specs.declared.neighbour.NeighbourFault.{NeighbourFault}
 use Rattle.transfer_commands.specs.declared.neighbour.NeighbourFault.TheVariants as neighbours
-use Rattle.transfer_commands.specs.declared.opened.OpenedFile.{OpenedFile}
-use Rattle.wave_core.specs.declared.head.WaveHead.{WaveHead}
 
+-- ---- a neighbour
+-- bytes that were read of a file hold a recording with this rate and these channels
+pub record HoldsChannels (name : List ℕ) (old : View) (rate : ℕ) (channels : List (List Bool)) : Type 0 where
+  pub file : List ℕ
+  pub recording : Content
+  pub file_read : IsReadOf old name file
+  pub file_holds : HoldsRecording file recording
+  pub rate_is : recording.rate ≡ rate
+  pub channels_are : recording.channels ≡ channels
+
+-- the channels of a neighbour: those of bytes that were read of its file, or such without a bit if none is named
+abbrev pub AreChannelsOf : Option (Bor (List ℕ)) → View → ℕ → List (List Bool) → Type 0
+AreChannelsOf None old rate channels = channels ≡ replicate (length channels) []
+AreChannelsOf (Some name) old rate channels = HoldsChannels name.now old rate channels
+
+-- a recording that another follows has to end with a whole byte of each channel
+abbrev pub EndsBefore : ℕ → Type 0
+EndsBefore count = count % 8 ≡ 0
+
+-- one that follows another, too, if it has fewer bits than a filter may reach
+abbrev pub EndsAfter : ℕ → Type 0
+EndsAfter count = (count % 8 ≡ 0) ⊎ (4096 ≤ count)
+
+-- bytes that were read of two files describe sounds of which P holds
+abbrev pub DescribeRead : List ℕ → List ℕ → View → (Sound → Sound → Type 0) → Type 0
+DescribeRead name input old P = (s : Sound) × (t : Sound) × DescribesRead name old s × DescribesRead input old t × P s t
+
+-- why a file can't be a neighbour of the input: it was not read or holds no recording, it has another rate or other
+-- channels than the input, or it doesn't end as `Ends` says
+abbrev pub IsNoNeighbour : (ℕ → Type 0) → List ℕ → List ℕ → View → NeighbourFault → Type 0
+IsNoNeighbour Ends name input old (neighbours.Command fault) = IsUnoutlined name old fault
+IsNoNeighbour Ends name input old neighbours.OtherRate = DescribeRead name input old (λ s t. s.rate ≢ t.rate)
+IsNoNeighbour Ends name input old neighbours.OtherChannels = DescribeRead name input old (λ s t. s.channels ≢ t.channels)
+IsNoNeighbour Ends name input old neighbours.NotWholeBytes = (s : Sound) × DescribesRead name old s × (Ends s.count → ⊥)
+
+-- a neighbour is named, and can't be one for this fault; out of memory is no fault of a neighbour
+abbrev pub IsRefusedNeighbour : (ℕ → Type 0) → Option (Bor (List ℕ)) → List ℕ → View → NeighbourFault → Type 0
+IsRefusedNeighbour Ends None input old fault = ⊥
+IsRefusedNeighbour Ends (Some name) input old fault = IsNoNeighbour Ends name.now input old fault × (fault ≢ neighbours.Command (Call Memory))
+
+-- ---- what is kept of one
 -- a sound has the rate and the number of channels of another
 abbrev pub AreAlike : Sound → Sound → Type 0
 AreAlike t s = (s.rate ≡ t.rate) × (s.channels ≡ t.channels)
@@ -125,15 +161,18 @@ pub record AreHeard (around : NeighbourNames) (old : View) (t : Sound) (d : Deci
   pub before : IsHeardBefore around.previous old t d e.before.items
   pub after : IsHeardAfter around.next old t d e.after.items
 
--- a fault of the recording before, or out of memory
-abbrev pub fault_before : NeighbourFault → BetweenFault
-fault_before (neighbours.Command (Call Memory)) = Command (Call Memory)
-fault_before fault = Previous fault
+-- a fault of a neighbour on this side, or out of memory
+abbrev pub fault_on : (NeighbourFault → BetweenFault) → NeighbourFault → BetweenFault
+fault_on side (neighbours.Command (Call Memory)) = Command (Call Memory)
+fault_on side fault = side fault
 
--- a fault of the recording after, or out of memory
+-- a fault of the recording before
+abbrev pub fault_before : NeighbourFault → BetweenFault
+fault_before = fault_on Previous
+
+-- a fault of the recording after
 abbrev pub fault_after : NeighbourFault → BetweenFault
-fault_after (neighbours.Command (Call Memory)) = Command (Call Memory)
-fault_after fault = Next fault
+fault_after = fault_on Next
 
 -- why nothing was kept of the recording before
 abbrev pub IsUnheardBefore : Option (Bor (List ℕ)) → View → Sound → BetweenFault → Type 0
@@ -148,16 +187,3 @@ IsUnheardAfter (Some name) old t fault = (f : NeighbourFault) × (fault ≡ faul
 -- why nothing was kept of both: because of the recording before, or, if something was kept of that, the one after
 abbrev pub AreUnheard : NeighbourNames → View → Sound → Decimator → BetweenFault → Type 0
 AreUnheard around old t d fault = IsUnheardBefore around.previous old t fault ⊎ ((bytes : List ℕ) × IsHeardBefore around.previous old t d bytes × IsUnheardAfter around.next old t fault)
-
--- ---- the playing
--- the channels before and after
-abbrev pub edge_channels : Edges → List ℕ → List (List Bool)
-edge_channels e bytes = unlaced_all bytes e.channels
-
--- how playing a reader's file between what was kept ends
-abbrev pub JoinsTo : WaveHead → Decimator → Edges → Option (List ℕ) → Option (List ℕ) → Option (List ℕ) → Result ℕ calls.Fault → Type 0
-JoinsTo head d e left held written came = WritesTo head d e.rate (edge_channels e e.before.items) (edge_channels e e.after.items) left held written came
-
--- the same of a file that was opened, whichever name that was under
-abbrev pub JoinComesTo : {R : Type 0} → (R → Option (List ℕ)) → WaveHead → Decimator → Edges → OpenedFile R → List ℕ → View → View → Result ℕ CommandFault → Type 0
-JoinComesTo left head d e opened output old new came = (input : List ℕ) → IsGiven old input (left_of left opened) → JoinedComesTo head d e.rate (edge_channels e e.before.items) (edge_channels e e.after.items) input output old new came

@@ -76,6 +76,19 @@ IsUnfound project file_name old span (Command ReadFailed) = ⊤
 IsUnfound project file_name old span (Command WriteFailed) = ⊥
 IsUnfound project file_name old span (Spans fault) = HoldsOfRead file_name old (LacksSpan project span fault)
 
+-- ---- a part that is found by what is reported
+-- a span has these frames in what is reported of a file
+abbrev pub HasSpanInReport : List ℕ → Reported → Span → ℕ → ℕ → Type 0
+HasSpanInReport project reported span start stop = HasSpan project span start stop reported.description.rate reported.description.count reported.description.marks
+
+-- why a part is not found by what is reported of a file: memory ran out, the project plays none of it, or the span has no
+-- frames in it
+abbrev pub IsNotInReport : List ℕ → Reported → Span → PartFault → Type 0
+IsNotInReport project reported span (Command (Call fault)) = FramesRefused project reported.description.rate fault
+IsNotInReport project reported span (Command ReadFailed) = ⊥
+IsNotInReport project reported span (Command WriteFailed) = ⊥
+IsNotInReport project reported span (Spans fault) = LacksSpan project span fault reported.description.rate reported.description.count reported.description.marks
+
 -- ---- a part that is found by a sound
 -- a span has these frames in a sound, whichever marks there are
 abbrev pub HasSpanInSound : List ℕ → Sound → Span → ℕ → ℕ → Type 0

@@ -1,25 +1,29 @@
 -- What becomes of a file that another is played to so that it names the loudspeakers of its channels.
-use Rattle.std.specs.Prelude.{◌≡◌, ◌⊎◌, ℕ, ◌*◌, ◌/◌, Bool, true, false, List, ◌++◌, drop, length, take, IsTrue, Option, Some, Result, Ok, Err}
+use Rattle.std.specs.Prelude.{◌≡◌, ◌≢◌, ◌⊎◌, ℕ, ◌*◌, ◌/◌, Bool, true, false, List, ◌++◌, drop, length, take, IsTrue, Option, Result, Ok, Err}
 use Rattle.std.specs.Io.KnownBytes.{prepend_known}
 use Rattle.dsd_bits.specs.declared.sound.Sound.{Sound}
+use Rattle.form_core.specs.Opening.{opened_of}
 use Rattle.form_core.specs.declared.form.Form.{Form}
 use Rattle.form_core.specs.declared.form.Form.TheVariants as forms
 use Rattle.player_core.specs.Groups.{part_size}
 use Rattle.player_core.specs.declared.range.WaveRange.{WaveRange}
+use Rattle.request_core.specs.Faults.{IfNamed}
 use Rattle.request_core.specs.declared.fault.Fault as calls
-use Rattle.sound_core.specs.Files.{LeadsToSound}
+use Rattle.request_core.specs.declared.fault.Fault.TheVariants.{Memory}
 use Rattle.speaker_core.specs.Reordered.{reordered_known, reordering_groups, reordering_order, reordering_size}
 use Rattle.speaker_core.specs.Reordering.{groups_in}
 use Rattle.speaker_core.specs.Speakers.{channel_speakers, moved_groups, speaker_mask, speaker_order}
 use Rattle.speaker_core.specs.declared.speakers.Speakers.{Speakers}
-use Rattle.folder_core.specs.Files.{HadNone, IsGiven, IsPut, IsReadOf, KeepsOthers, OpensAs, View}
+use Rattle.folder_core.specs.Files.{IsGiven, IsPut, IsReadOf, KeepsOthers, OpensAs, View}
 use Rattle.wave_core.specs.Heads.{head_of}
-use Rattle.transfer_core.specs.Streaming.{OnlyFromOutside, PlaysRange, StreamApplies, part_range}
+use Rattle.transfer_core.specs.Streaming.{PlaysRange, part_range}
 use Rattle.transfer_core.specs.declared.spans.Span.{Span}
-use Rattle.transfer_commands.specs.PartPlaying.{FindsSpan, ReportsRead}
+use Rattle.transfer_commands.specs.PartPlaying.{DescribesRead, FindsSpan, IsPartRefused, IsPartUnwritten, ReportsRead}
+use Rattle.transfer_commands.specs.Playing.{EndsPlaying}
 use Rattle.transfer_commands.specs.declared.fault.CommandFault.{CommandFault}
 use Rattle.transfer_commands.specs.declared.fault.CommandFault.TheVariants.{Call, ReadFailed, WriteFailed}
 use Rattle.transfer_commands.specs.declared.parts.PartFault.{PartFault}
+use Rattle.transfer_commands.specs.declared.parts.PartFault.TheVariants.{Command, Span as Spans}
 use Rattle.transfer_commands.specs.declared.reporting.Reported.{Reported}
 use Rattle.transfer_commands.specs.declared.speaking.PlayedSpeakers.{PlayedSpeakers}
 use Rattle.transfer_commands.specs.declared.speaking.Spoken.{Spoken}
@@ -76,15 +80,15 @@ pub record SpeaksFile (project : List ℕ) (range : WaveRange) (order : List ℕ
   pub counted : count ≡ length bytes
   pub others : KeepsOthers output old new
 
--- a file is as it was, or it was given up and there was none
-abbrev pub LeavesOld : List ℕ → View → View → Type 0
-LeavesOld output old new = IsTrue old.is_known → (new.file output ≡ old.file output) ⊎ HadNone output old
+-- a fault that names the first one of a file names that of bytes that were read of it, with their channels in an order
+abbrev pub NamesOrdered : View → List ℕ → (List ℕ → List ℕ) → calls.Fault → Type 0
+NamesOrdered old input order fault = IfNamed fault (λ cause. (spoken : List ℕ) × IsOrdered old input order spoken × (opened_of spoken ≡ Err cause))
 
 -- a fault ended it, and it is right: a file that can be played is refused only for memory, a device or the number of
--- reads; an old file is kept
+-- reads; an old file is kept, or there was none and a prefix of what was due is there
 pub record StopsSpeaking (project : List ℕ) (range : WaveRange) (order : List ℕ → List ℕ) (input output : List ℕ) (old new : View) (fault : calls.Fault) : Type 0 where
-  pub stands : IsTrue old.is_known → (file : List ℕ) × OpensAs old input file × StreamApplies (Some (order file)) project range fault × OnlyFromOutside (Some (order file)) project range fault
-  pub left : LeavesOld output old new
+  pub ended : IsTrue old.is_known → (file : List ℕ) × OpensAs old input file × EndsPlaying project range (order file) output old new fault
+  pub named : NamesOrdered old input order fault
   pub others : KeepsOthers output old new
 
 -- how playing it to an empty file ends
@@ -108,6 +112,13 @@ pub record IsToBeSpoken {R : Type 0} (project : List ℕ) (start stop : ℕ) (sp
   pub groups_are : reordering_groups spoken.reordering ≡ moved_groups speakers.order.items (s.size / (s.channels * part_size s.interleaving))
   pub start_is : length spoken.before.items ≡ s.start
 
+-- why a file that was opened is not played with the loudspeakers that were reported of it: memory ran out, or it has
+-- another number of channels
+abbrev pub IsNotSpoken : Speakers → Sound → CommandFault → Type 0
+IsNotSpoken speakers s (Call fault) = fault ≡ Memory
+IsNotSpoken speakers s ReadFailed = length speakers.order.items ≢ s.channels
+IsNotSpoken speakers s WriteFailed = ⊥
+
 -- ---- the files
 -- the output is now the WAVE file of the span's part of a recording, whose channels come in the order of the mask's
 -- bits, with the mask of their loudspeakers; its size and the mask are what was returned; no other file changed
@@ -116,17 +127,33 @@ pub record SpeaksPart (is_wide : Bool) (project_name file_name output_name : Lis
   pub start : ℕ
   pub stop : ℕ
   pub speakers : Speakers
-  pub prefix : List ℕ
   pub sound : Sound
   pub project_read : IsReadOf old project_name project
   pub mask_is : played.mask ≡ speakers.mask
   pub are_speakers : AreSpeakersOf file_name old speakers
   pub has_span : FindsSpan project file_name old span start stop
-  pub leads : LeadsToSound prefix sound
+  pub described : DescribesRead file_name old sound
   pub speaks : SpeaksFile project (part_range (head_of is_wide speakers.mask) start stop) (in_order speakers.order.items sound) file_name output_name old new played.size
 
--- the folder before and after the input was played to the output came to this: after a fault an old file is kept, and no
--- other file changed
+-- the span's part and the loudspeakers of a recording were found, and a fault ended the playing of that; the fault is
+-- right, an old output is kept, and no other file changed
+pub record LeavesSpoken (is_wide : Bool) (project_name file_name output_name : List ℕ) (span : Span) (old new : View) (fault : calls.Fault) : Type 0 where
+  pub project : List ℕ
+  pub start : ℕ
+  pub stop : ℕ
+  pub speakers : Speakers
+  pub sound : Sound
+  pub project_read : IsReadOf old project_name project
+  pub are_speakers : AreSpeakersOf file_name old speakers
+  pub has_span : FindsSpan project file_name old span start stop
+  pub described : DescribesRead file_name old sound
+  pub stops : StopsSpeaking project (part_range (head_of is_wide speakers.mask) start stop) (in_order speakers.order.items sound) file_name output_name old new fault
+
+-- the folder before and after the input was played to the output came to this: nothing changed where a file was not read
+-- or the part not found, and an output that was not written is as it was
 abbrev pub SpeakComesTo : Bool → List ℕ → List ℕ → List ℕ → Span → View → View → Result PlayedSpeakers PartFault → Type 0
 SpeakComesTo is_wide project input output span old new (Ok played) = SpeaksPart is_wide project input output span old new played
-SpeakComesTo is_wide project input output span old new (Err fault) = KeepsOthers output old new × LeavesOld output old new
+SpeakComesTo is_wide project input output span old new (Err (Command (Call fault))) = ((new ≡ old) × (fault ≡ Memory)) ⊎ (IsPartRefused project input span old new (Command (Call fault)) ⊎ LeavesSpoken is_wide project input output span old new fault)
+SpeakComesTo is_wide project input output span old new (Err (Command ReadFailed)) = new ≡ old
+SpeakComesTo is_wide project input output span old new (Err (Command WriteFailed)) = IsPartUnwritten project input output span old new
+SpeakComesTo is_wide project input output span old new (Err (Spans fault)) = IsPartRefused project input span old new (Spans fault)

@@ -3,9 +3,9 @@
 ghost use Rattle.std.specs.Prelude.{◌≡◌, IfErr, IfOk};
 ghost use Rattle.folder_core.specs.Files.{IsGiven};
 ghost use Rattle.wave_core.specs.Heads.{head_of};
-ghost use Rattle.transfer_commands.specs.BetweenPlaying.{IsNotOpened, PlayBetweenComesTo};
+ghost use Rattle.transfer_commands.specs.BetweenPlaying.{IsNotOpened, JoinComesTo, JoinsTo, PlayBetweenComesTo};
+ghost use Rattle.transfer_commands.specs.Neighbours.{AreHeard, AreUnheard, IsHeardAfter, IsHeardBefore, IsUnheardAfter, IsUnheardBefore, fault_after, fault_before};
 ghost use Rattle.transfer_commands.specs.Faults.{of_file};
-ghost use Rattle.transfer_commands.specs.Neighbours.{AreHeard, AreUnheard, IsHeardAfter, IsHeardBefore, IsUnheardAfter, IsUnheardBefore, JoinComesTo, JoinsTo, fault_after, fault_before};
 ghost use Rattle.transfer_commands.specs.Opening.{left_of};
 ghost use Rattle.transfer_commands.specs.PartPlaying.{DescribesRead};
 ghost use Rattle.transfer_commands.specs.declared.between.BetweenFault.TheVariants as faults;

@@ -1,26 +1,24 @@
 //! Plays a file of a folder between its neighbours so that its WAVE file names the loudspeakers of its channels.
 
-ghost use Rattle.std.specs.Prelude.{◌≡◌, ◌≤◌, List, Option, ℕ, IfOk, length};
+ghost use Rattle.std.specs.Prelude.{◌≡◌, ◌≤◌, List, Option, ℕ, IfErr, IfOk, length};
 ghost use Rattle.dsd_bits.specs.Sounds.{IsSound};
 ghost use Rattle.folder_core.specs.Files.{IsGiven, IsReadOf};
 ghost use Rattle.request_core.specs.Projects.{SaysDecimator};
-ghost use Rattle.sound_core.specs.Files.{LeadsToSound};
 ghost use Rattle.speaker_core.specs.Reordering.{NamesChannels};
 ghost use Rattle.transfer_commands.specs.BetweenSpeaking.{IsSpokenBetween, SpeakBetweenComesTo, SpeechBetweenComesTo, frames_in, ordered_parts};
-ghost use Rattle.transfer_commands.specs.Neighbours.{JoinsTo};
+ghost use Rattle.transfer_commands.specs.BetweenPlaying.{JoinsTo};
 ghost use Rattle.transfer_commands.specs.Opening.{left_of};
-ghost use Rattle.transfer_commands.specs.PartPlaying.{ReportsRead};
+ghost use Rattle.transfer_commands.specs.PartPlaying.{DescribesRead, ReportsRead};
 ghost use Rattle.transfer_commands.specs.Renaming.{left_parts};
+ghost use Rattle.transfer_commands.specs.Speaking.{IsNotSpoken};
 
 use crate::between::{BetweenAsked, BetweenFault, Edges, JoinedBy, edges_of, join};
 use crate::convert_speakers::parts_of;
 use crate::fault::CommandFault;
-use crate::holding::hold_file;
-use crate::opened::{OpenedFile, open_prefix};
-use crate::outlining::outline_reader;
+use crate::opened::OpenedFile;
 use crate::playing::read_project;
 use crate::renaming::Parts;
-use crate::reporting::{Reported, open_past_sound, reported_by};
+use crate::reporting::{Reported, ReportedFile, hold_reported, open_reported};
 use crate::speaking::{PlayedSpeakers, named_by, reordered, reordering_of};
 use fir_core::Taps;
 use folder_core::{Folder, hand_back};
@@ -30,9 +28,6 @@ use speaker_core::{Reordering, Speakers, push_groups};
 use std::alloc::Global;
 use std::io::{Cursor, Read, Write};
 use transfer_core::Fault;
-
-// No bytes, which a file that was held has left.
-const NOTHING: [u8; 0] = [];
 
 /// A file that is played between its neighbours, with its channels in another order.
 #[derive(Drop)]
@@ -73,12 +68,13 @@ pub fn play_between_speakers_file<F: Folder>(
         between: asked,
     };
     if folder.reopens(input) {
-        let reported = open_past_sound(alloc, folder, input)?;
-        let opened = open_prefix(alloc, folder, input)?;
+        let file = open_reported(alloc, folder, input)?;
+        let ReportedFile { reported, opened } = file;
         return speak_reported(alloc, folder, asked, &reported, opened);
     }
-    let file = hold_file(alloc, folder, input)?;
-    speak_held(alloc, folder, asked, file)
+    let file = hold_reported(alloc, folder, input)?;
+    let ReportedFile { reported, opened } = file;
+    speak_reported(alloc, folder, asked, &reported, opened)
 }
 
 // What is asked for: the filter, the name of the WAVE file, and between which files.
@@ -87,27 +83,6 @@ struct Asked<'a> {
     taps: &'a Taps,
     output: &'a str,
     between: BetweenAsked<'a>,
-}
-
-// Plays a file that was read whole.
-fn speak_held<F: Folder>(
-    alloc: Global,
-    folder: &mut F,
-    asked: Asked<'_>,
-    file: Vec<u8>,
-) -> Result<PlayedSpeakers, BetweenFault>
-    ensures { (project input text : List ℕ) → IsReadOf (F.view folder.old) project text → SaysDecimator text asked.entry.taps.now
-        → IsReadOf (F.view folder.old) input file.items
-        → SpeakBetweenComesTo asked.entry.between.is_wide project input asked.entry.output.now asked.entry.between.around (F.view folder.old) (F.view folder.new) result }
-{
-    let outline = outline_reader(alloc, file.as_slice())?;
-    let opened = OpenedFile {
-        sound: outline.sound,
-        prefix: file,
-        file: NOTHING.as_slice(),
-    };
-    let reported = reported_by(outline);
-    speak_reported(alloc, folder, asked, &reported, opened)
 }
 
 // Plays a file that was opened, by what is reported of it.
@@ -120,8 +95,8 @@ fn speak_reported<F: Folder, R: Read + Drop>(
 ) -> Result<PlayedSpeakers, BetweenFault>
     requires sound { IsSound opened.sound }
     requires within { opened.sound.start ≤ length opened.prefix.items }
-    ensures { (project input text prefix : List ℕ) → IsReadOf (F.view folder.old) project text → SaysDecimator text asked.entry.taps.now
-        → ReportsRead input (F.view folder.old) reported.now → LeadsToSound prefix opened.sound
+    ensures { (project input text : List ℕ) → IsReadOf (F.view folder.old) project text → SaysDecimator text asked.entry.taps.now
+        → ReportsRead input (F.view folder.old) reported.now → DescribesRead input (F.view folder.old) opened.sound
         → IsGiven (F.view folder.old) input (left_of R.remaining opened)
         → SpeakBetweenComesTo asked.entry.between.is_wide project input asked.entry.output.now asked.entry.between.around (F.view folder.old) (F.view folder.new) result }
 {
@@ -151,6 +126,7 @@ fn spoken_between<R: Drop>(
     requires channels { NamesChannels speakers.order.items }
     ensures spoken { IfOk result (IsSpokenBetween edges.now speakers is_wide opened.sound) }
     ensures left { IfOk result (λ s. (left : R → Option (List ℕ)) → left_parts left s.parts ≡ left_of left opened) }
+    ensures fault { IfErr result (IsNotSpoken speakers opened.sound) }
 {
     if speakers.order.len() != opened.sound.channels {
         return Err(CommandFault::ReadFailed);
@@ -180,7 +156,8 @@ fn frames_of(alloc: Global, bytes: &[u8], speakers: &Speakers) -> Result<Vec<u8>
     requires channels { NamesChannels speakers.now.order.items }
     requires some { 1 ≤ length speakers.now.order.items }
     requires few { length speakers.now.order.items ≤ 6 }
-    ensures { IfOk result (λ frames. frames.items ≡ frames_in speakers.now.order.items bytes.now) }
+    ensures ordered { IfOk result (λ frames. frames.items ≡ frames_in speakers.now.order.items bytes.now) }
+    ensures fault { IfErr result (λ fault. fault ≡ Fault.Memory) }
 {
     let groups = speakers.moved_groups(bytes.len() / speakers.order.len());
     let mut frames = Vec::with_capacity(alloc, bytes.len())?;

@@ -12,7 +12,7 @@ ghost use Rattle.transfer_commands.specs.declared.convert_speakers.SpeakersFault
 ghost use Rattle.transfer_commands.specs.declared.fault.CommandFault.TheVariants as commands;
 
 use crate::fault::CommandFault;
-use crate::holding::hold_file;
+use crate::holding::{hold_file, opened_whole};
 use crate::opened::{OpenedFile, open_prefix};
 use crate::outlining::{outline_file, outline_reader};
 use crate::renaming::{Parts, Renaming, relay_renamed, renaming_of};
@@ -23,9 +23,6 @@ use sound_core::{Outline, StreamFault};
 use std::alloc::Global;
 use std::io::Read;
 use transfer_core::Fault;
-
-// No bytes, which a file that was held has left.
-const NOTHING: [u8; 0] = [];
 
 /// Why a command that converts a file by its loudspeakers is refused.
 #[derive(Clone, Copy)]
@@ -101,11 +98,7 @@ fn convert_held<F: Folder>(
 {
     let outline = outline_reader(alloc, file.as_slice())?;
     let renaming = found(renaming_of(alloc, &outline, form)?)?;
-    let opened = OpenedFile {
-        sound: outline.sound,
-        prefix: file,
-        file: NOTHING.as_slice(),
-    };
+    let opened = opened_whole(outline.sound, file);
     convert_opened(alloc, folder, &outline, renaming, opened, output)
 }
 

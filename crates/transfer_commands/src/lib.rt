@@ -17,10 +17,11 @@
 //!
 //! The words of the contracts, over any folder, of which `old` is known before and `new` after:
 //!
-//! - `PlayComesTo`, `PlayPartComesTo`, `PlayBetweenComesTo`, `ConvertComesTo`, `ReportComesTo` and `SumComesTo` say what became of the files
-//!   by a command and what it returned, whether it was done or refused, by bytes that were read of them
-//!   (`specs/Playing.antt`, `specs/PartPlaying.antt`, `specs/Converting.antt`, `specs/Reporting.antt`,
-//!   `specs/Summing.antt`).
+//! - `PlayComesTo`, `PlayPartComesTo`, `PlayBetweenComesTo`, `SpeakComesTo`, `SpeakBetweenComesTo`, `ConvertComesTo`,
+//!   `ConvertSpeakersComesTo`, `ReportComesTo` and `SumComesTo` say what became of the files by a command and what it
+//!   returned, whether it was done or refused, by bytes that were read of them (`specs/Playing.antt`,
+//!   `specs/PartPlaying.antt`, `specs/BetweenPlaying.antt`, `specs/Speaking.antt`, `specs/BetweenSpeaking.antt`,
+//!   `specs/Converting.antt`, `specs/SpeakersConverting.antt`, `specs/Reporting.antt`, `specs/Summing.antt`).
 //! - `FindsSpan` says which part a span names, and `IsUnfound` why it names none (`specs/PartPlaying.antt`).
 //! - `AreSources` says which bytes were read of a project and its takes, `SourcesUnread` why they weren't
 //!   (`specs/Sources.antt`), and `ReadsSources` what the splice reads of them (`specs/Excerpts.antt`).

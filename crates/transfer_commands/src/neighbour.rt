@@ -4,8 +4,7 @@ ghost use Rattle.std.specs.Prelude.{◌≡◌, ◌⊎◌, ◌+◌, ◌*◌, ◌�
 ghost use Rattle.fir_core.specs.Decimator.{IsWithinLimits};
 ghost use Rattle.folder_core.specs.Files.{IsGiven};
 ghost use Rattle.sound_core.specs.Files.{LeadsToSound};
-ghost use Rattle.transfer_commands.specs.BetweenPlaying.{EndsAfter, EndsBefore};
-ghost use Rattle.transfer_commands.specs.Neighbours.{AreAlike, HearsAfter, HearsBefore, IsEdgeLeft, IsLacedEdge, IsNoneFor, IsWholeRange, KeepsLeft, KeepsSome};
+ghost use Rattle.transfer_commands.specs.Neighbours.{AreAlike, EndsAfter, EndsBefore, HearsAfter, HearsBefore, IsEdgeLeft, IsLacedEdge, IsNoneFor, IsWholeRange, KeepsLeft, KeepsSome};
 ghost use Rattle.transfer_commands.specs.Opening.{left_of};
 ghost use Rattle.transfer_commands.specs.Outlining.{IsUnoutlinedLeft, IsUnread};
 ghost use Rattle.transfer_commands.specs.declared.neighbour.NeighbourFault.TheVariants as faults;

@@ -9,7 +9,7 @@ ghost use Rattle.transfer_commands.specs.Opening.{left_of};
 ghost use Rattle.transfer_commands.specs.Playing.{IsEnough};
 ghost use Rattle.transfer_core.specs.Streaming.{part_range};
 ghost use Rattle.wave_core.specs.Heads.{head_of};
-ghost use Rattle.transfer_commands.specs.PartPlaying.{HasSpanInSound, IsFound, IsMark, IsNotInSound, IsUnfound, NamesMark, PlayPartComesTo};
+ghost use Rattle.transfer_commands.specs.PartPlaying.{HasSpanInReport, HasSpanInSound, IsFound, IsMark, IsNotInReport, IsNotInSound, IsUnfound, NamesMark, PlayPartComesTo};
 ghost use Rattle.transfer_commands.specs.declared.fault.CommandFault.TheVariants as commands;
 ghost use Rattle.transfer_commands.specs.declared.parts.PartFault.TheVariants as faults;
 
@@ -17,7 +17,7 @@ use crate::fault::CommandFault;
 use crate::gaps::gaps_around;
 use crate::opened::{OpenedFile, open_prefix};
 use crate::playing::{Source, play_to, read_project};
-use crate::reporting::open_past_sound;
+use crate::reporting::{Reported, open_past_sound};
 use dsd_bits::Sound;
 use folder_core::{FileFault, Folder};
 use place_core::Place;
@@ -177,6 +177,21 @@ fn part_of<'a, F: Folder>(
     ensures refused { IfErr result (IsUnfound project.now input.now (F.view folder.old) span) }
 {
     let reported = open_past_sound(alloc, folder, input)?;
+    part_by(alloc, project, &reported, span)
+}
+
+/// The part that a span names, by a project's text, of what is reported of a file.
+pub(crate) fn part_by<'a>(
+    alloc: Global,
+    project: &'a [u8],
+    reported: &Reported,
+    span: Span,
+) -> Result<Part<'a>, PartFault>
+    ensures project { IfOk result (λ part. part.project.now ≡ project.now) }
+    ensures factor { IfOk result (λ part. IsFactorOf part.project.now part.factor) }
+    ensures found { IfOk result (λ part. HasSpanInReport project.now reported.now span part.start part.stop) }
+    ensures refused { IfErr result (IsNotInReport project.now reported.now span) }
+{
     let rate = reported.description.rate();
     let frames = frames_of(alloc, project, rate, reported.description.count())?;
     let (start, stop) = span_of(span, frames, rate, reported.description.marks())?;

@@ -1,26 +1,24 @@
 //! Plays a file of a folder so that its WAVE file names the loudspeakers of its channels.
 
-ghost use Rattle.std.specs.Prelude.{◌≡◌, ◌++◌, ◌*◌, ◌/◌, ◌≤◌, IfOk, List, Option, ℕ, length};
-ghost use Rattle.sound_core.specs.Files.{LeadsToSound};
+ghost use Rattle.std.specs.Prelude.{◌≡◌, ◌++◌, ◌*◌, ◌/◌, ◌≤◌, IfErr, IfOk, List, Option, ℕ, length};
 ghost use Rattle.dsd_bits.specs.Sounds.{IsSound};
 ghost use Rattle.player_core.specs.Groups.{part_size};
+ghost use Rattle.request_core.specs.declared.fault.Fault.TheVariants.{Memory};
 ghost use Rattle.speaker_core.specs.Reordered.{left_in_order, reordered_known, reordering_groups, reordering_order, reordering_size};
 ghost use Rattle.speaker_core.specs.Reordering.{NamesChannels};
 ghost use Rattle.speaker_core.specs.Speakers.{moved_groups};
 ghost use Rattle.folder_core.specs.Files.{IsGiven, IsReadOf};
 ghost use Rattle.transfer_commands.specs.Opening.{left_of};
-ghost use Rattle.transfer_commands.specs.PartPlaying.{HasSpan, ReportsRead};
+ghost use Rattle.transfer_commands.specs.PartPlaying.{DescribesRead, ReportsRead};
 ghost use Rattle.transfer_commands.specs.Playing.{PlaysTo};
-ghost use Rattle.transfer_commands.specs.Speaking.{IsToBeSpoken, SpeakComesTo, SpeechComesTo, left_spoken, mask_of, order_of, ordered_spoken};
+ghost use Rattle.transfer_commands.specs.Speaking.{IsNotSpoken, IsToBeSpoken, SpeakComesTo, SpeechComesTo, left_spoken, mask_of, order_of, ordered_spoken};
 
 use crate::fault::CommandFault;
 use crate::gaps::neighbours;
-use crate::holding::hold_file;
-use crate::opened::{OpenedFile, open_prefix};
-use crate::outlining::outline_reader;
-use crate::parts::{FoundPart, Part, PartAsked, PartFault};
+use crate::opened::OpenedFile;
+use crate::parts::{FoundPart, PartAsked, PartFault, part_by};
 use crate::playing::{play_reader, read_project};
-use crate::reporting::{Reported, open_past_sound, reported_by};
+use crate::reporting::{Reported, ReportedFile, hold_reported, open_reported};
 use dsd_bits::Sound;
 use folder_core::{Folder, hand_back};
 use form_core::Form;
@@ -28,10 +26,7 @@ use player_core::{WaveHead, WaveRange};
 use speaker_core::{ReorderedFile, Reordering, Speakers};
 use std::alloc::Global;
 use std::io::{Cursor, Read, Write};
-use transfer_core::{Fault, Span, frames_of, span_of};
-
-// No bytes, which a file that was held has left.
-const NOTHING: [u8; 0] = [];
+use transfer_core::Fault;
 
 /// A file that is played by a project's text, with its channels in another order.
 #[derive(Drop)]
@@ -67,8 +62,12 @@ pub struct PlayedSpeakers {
 /// two channels has no place for a mask.
 ///
 /// A recording that can be opened again is read through for its loudspeakers and the part, and opened again to be
-/// played. If it has other channels then, the answer is `ReadFailed`. Any other, as a pipe, is opened once and held
-/// whole. Refusals are as of a part, but that a mark is found in it, too.
+/// played. Any other, as a pipe, is opened once and held whole, so that a mark is found in it, too.
+///
+/// Refusals before the WAVE file is created, in this order: `ReadFailed` of the project; `ReadFailed` and `FileUnread` of
+/// each opening of the recording; `Project`, `NoDecimation`, `RateNotDivided`, `NoMark`, `PartOutside`, `PartReversed`;
+/// `ReadFailed` if the recording has other channels when it is opened again. Then `WriteFailed` if it can't be created,
+/// and those of [`play_stream`](transfer_core::play_stream). Out of memory is always `Memory`.
 pub fn play_speakers_file<F: Folder>(
     alloc: Global,
     folder: &mut F,
@@ -86,12 +85,13 @@ pub fn play_speakers_file<F: Folder>(
         part: asked,
     };
     if folder.reopens(input) {
-        let reported = open_past_sound(alloc, folder, input)?;
-        let opened = open_prefix(alloc, folder, input)?;
+        let file = open_reported(alloc, folder, input)?;
+        let ReportedFile { reported, opened } = file;
         return speak_reported(alloc, folder, asked, &reported, opened);
     }
-    let file = hold_file(alloc, folder, input)?;
-    speak_held(alloc, folder, asked, file)
+    let file = hold_reported(alloc, folder, input)?;
+    let ReportedFile { reported, opened } = file;
+    speak_reported(alloc, folder, asked, &reported, opened)
 }
 
 // What is asked for: the project's text, the name of the WAVE file, and the part.
@@ -100,27 +100,6 @@ struct Asked<'a> {
     project: &'a [u8],
     output: &'a str,
     part: PartAsked,
-}
-
-// Plays a file that was read whole.
-fn speak_held<F: Folder>(
-    alloc: Global,
-    folder: &mut F,
-    asked: Asked<'_>,
-    file: Vec<u8>,
-) -> Result<PlayedSpeakers, PartFault>
-    ensures { (project input : List ℕ) → IsReadOf (F.view folder.old) project asked.entry.project.now
-        → IsReadOf (F.view folder.old) input file.items
-        → SpeakComesTo asked.entry.part.is_wide project input asked.entry.output.now asked.entry.part.span (F.view folder.old) (F.view folder.new) result }
-{
-    let outline = outline_reader(alloc, file.as_slice())?;
-    let opened = OpenedFile {
-        sound: outline.sound,
-        prefix: file,
-        file: NOTHING.as_slice(),
-    };
-    let reported = reported_by(outline);
-    speak_reported(alloc, folder, asked, &reported, opened)
 }
 
 // Plays a file that was opened, by what is reported of it.
@@ -133,8 +112,8 @@ fn speak_reported<F: Folder, R: Read + Drop>(
 ) -> Result<PlayedSpeakers, PartFault>
     requires sound { IsSound opened.sound }
     requires within { opened.sound.start ≤ length opened.prefix.items }
-    ensures { (project input prefix : List ℕ) → IsReadOf (F.view folder.old) project asked.entry.project.now
-        → ReportsRead input (F.view folder.old) reported.now → LeadsToSound prefix opened.sound
+    ensures { (project input : List ℕ) → IsReadOf (F.view folder.old) project asked.entry.project.now
+        → ReportsRead input (F.view folder.old) reported.now → DescribesRead input (F.view folder.old) opened.sound
         → IsGiven (F.view folder.old) input (left_of R.remaining opened)
         → SpeakComesTo asked.entry.part.is_wide project input asked.entry.output.now asked.entry.part.span (F.view folder.old) (F.view folder.new) result }
 {
@@ -147,33 +126,12 @@ fn speak_reported<F: Folder, R: Read + Drop>(
     Ok(PlayedSpeakers { size, mask })
 }
 
-// The part that a span names, by a project's text, of what is reported of a file.
-fn part_by<'a>(
-    alloc: Global,
-    project: &'a [u8],
-    reported: &Reported,
-    span: Span,
-) -> Result<Part<'a>, PartFault>
-    ensures project { IfOk result (λ part. part.project.now ≡ project.now) }
-    ensures span { IfOk result (λ part. HasSpan project.now span part.start part.stop
-        reported.now.description.rate reported.now.description.count reported.now.description.marks) }
-{
-    let rate = reported.description.rate();
-    let frames = frames_of(alloc, project, rate, reported.description.count())?;
-    let (start, stop) = span_of(span, frames, rate, reported.description.marks())?;
-    Ok(Part {
-        project,
-        factor: frames.factor,
-        start,
-        stop,
-    })
-}
-
 /// The loudspeakers of what is reported of a file.
 pub(crate) fn named_by(alloc: Global, reported: &Reported) -> Result<Speakers, Fault>
     ensures mask { IfOk result (λ s. s.mask ≡ mask_of reported.now) }
     ensures order { IfOk result (λ s. s.order.items ≡ order_of reported.now) }
     ensures channels { IfOk result (λ s. NamesChannels s.order.items) }
+    ensures fault { IfErr result (λ fault. fault ≡ Memory) }
 {
     let speakers = match reported.form {
         Form::Dsdiff => Speakers::of_ids(alloc, reported.description.ids()),
@@ -195,6 +153,7 @@ fn spoken_of<'a, R: Drop>(
     ensures spoken { IfOk result (IsToBeSpoken found.entry.part.project.now found.entry.part.start found.entry.part.stop
         speakers is_wide found.entry.opened.sound) }
     ensures left { IfOk result (λ s. (left : R → Option (List ℕ)) → left_spoken left s ≡ left_of left found.entry.opened) }
+    ensures refused { IfErr result (IsNotSpoken speakers found.entry.opened.sound) }
 {
     let FoundPart { part, opened } = found;
     let OpenedFile {
@@ -234,6 +193,7 @@ pub(crate) fn reordering_of(
     ensures size { IfOk result (λ r. reordering_size r ≡ part_size sound.now.interleaving) }
     ensures groups { IfOk result (λ r. reordering_groups r ≡ moved_groups speakers.order.items
         (sound.now.size / (sound.now.channels * part_size sound.now.interleaving))) }
+    ensures fault { IfErr result (λ fault. fault ≡ Memory) }
 {
     let size = neighbours(sound) as usize;
     let groups = speakers.moved_groups(sound.size / (sound.channels * size));
@@ -245,6 +205,7 @@ pub(crate) fn split(alloc: Global, bytes: Vec<u8>, at: usize) -> Result<(Vec<u8>
     requires { at ≤ length bytes.items }
     ensures parts { IfOk result (λ p. p.0.items ++ p.1.items ≡ bytes.items) }
     ensures first { IfOk result (λ p. length p.0.items ≡ at) }
+    ensures fault { IfErr result (λ fault. fault ≡ Memory) }
 {
     let mut rest = Vec::new(alloc);
     rest.extend_from_slice(&bytes[at..])?;

@@ -5,11 +5,10 @@ use Rattle.folder_core.specs.Files.{IsGiven, View}
 use Rattle.request_core.specs.Projects.{SaysDecimator}
 use Rattle.wave_core.specs.Heads.{head_of}
 use Rattle.transfer_commands.specs.BetweenPlaying.{IsNotOpened, PlayBetweenComesTo}
-use Rattle.transfer_commands.specs.Neighbours.{AreHeard, AreUnheard, edge_channels}
+use Rattle.transfer_commands.specs.Neighbours.{AreHeard, AreUnheard}
 use Rattle.transfer_commands.specs.Opening.{left_of}
 use Rattle.transfer_commands.specs.PartPlaying.{DescribesRead}
 use Rattle.transfer_commands.proofs.BetweenLaws.{between_ends, between_fails, between_unheard, between_unopened}
-use Rattle.transfer_commands.proofs.EdgeLaws.{AreWhole, whole_around}
 use Rattle.transfer_commands.proofs.SkippedLaws.{limits_said}
 use Rattle.transfer_commands.proofs.between.play_between_file.Given.{Over}
 use Rattle.transfer_commands.proofs.between.play_between_file.Goals as goal
@@ -55,15 +54,11 @@ unchanged g c = c.protect.ensures.same ∙ c.edges_of.ensures.same ∙ c.open_wh
 given : (g : Over) (c : After-join_to g) → IsGiven (g.F.Folder.view c.protect.new.self) c.args.input.now (left_of g.F.In.Read.remaining c.in_ok-opened.opened)
 given g c = subst (λ (v : View). IsGiven v c.args.input.now (left_of g.F.In.Read.remaining c.in_ok-opened.opened)) (sym (c.protect.ensures.same ∙ c.edges_of.ensures.same ∙ c.open_whole.ensures.same)) c.in_ok-opened.ensures.given
 
-whole : (g : Over) (c : After-join_to g) → (let e = c.in_ok-edges.edges in AreWhole c.args.asked.around (g.F.Folder.view c.args.folder.now) e.rate c.in_ok-taps.taps (edge_channels e e.before.items) (edge_channels e e.after.items))
-whole g c =
-    let view = g.F.Folder.view in
-    let taps = c.in_ok-taps.taps in
-    let sound = c.in_ok-opened.opened.sound in
-    let text = c.in_ok-project.project.items in
-    let own = subst (λ text. SaysDecimator text taps) c.deref.ensures.value c.in_ok-taps.ensures.found in
-    whole_around c.args.asked.around (view c.args.folder.now) sound taps (limits_said text taps own) c.in_ok-edges.edges
-    (subst (λ (v : View). AreHeard c.args.asked.around v sound taps c.in_ok-edges.edges) (c.open_whole.ensures.same ∙ c.read_project.ensures.same) c.in_ok-edges.ensures.heard)
+described : (g : Over) (c : After-join_to g) → DescribesRead c.args.input.now (g.F.Folder.view c.args.folder.now) c.in_ok-opened.opened.sound
+described g c = subst (λ (v : View). DescribesRead c.args.input.now v c.in_ok-opened.opened.sound) c.read_project.ensures.same c.in_ok-opened.ensures.described
+
+heard : (g : Over) (c : After-join_to g) → AreHeard c.args.asked.around (g.F.Folder.view c.args.folder.now) c.in_ok-opened.opened.sound c.in_ok-taps.taps c.in_ok-edges.edges
+heard g c = subst (λ (v : View). AreHeard c.args.asked.around v c.in_ok-opened.opened.sound c.in_ok-taps.taps c.in_ok-edges.edges) (c.open_whole.ensures.same ∙ c.read_project.ensures.same) c.in_ok-edges.ensures.heard
 
 pub returns-in_err-join_to : goal.returns-in_err-join_to
 returns-in_err-join_to g c =
@@ -74,8 +69,8 @@ returns-in_err-join_to g c =
     let edges = c.in_ok-edges.edges in
     let own = subst (λ text. SaysDecimator text c.in_ok-taps.taps) c.deref.ensures.value c.in_ok-taps.ensures.found in
     subst (PlayBetweenComesTo (head_of c.args.asked.is_wide 0) c.args.project.now c.args.input.now c.args.output.now c.args.asked.around (view c.args.folder.now) (view c.join_to.new.folder)) (sym (e.1 ∙ ap Err e.2))
-    (between_fails (head_of c.args.asked.is_wide 0) c.args.project.now c.args.input.now c.args.output.now c.in_ok-project.project.items c.args.asked.around (view c.args.folder.now) (view c.protect.new.self) (view c.join_to.new.folder) c.in_ok-taps.taps edges.rate (edge_channels edges edges.before.items) (edge_channels edges edges.after.items) c.in_ok-project.ensures.bytes own
-    (whole g at) (unchanged g at) fault (c.in_err-join_to.ensures c.args.input.now (given g at)))
+    (between_fails (head_of c.args.asked.is_wide 0) c.args.project.now c.args.input.now c.args.output.now c.in_ok-project.project.items c.args.asked.around (view c.args.folder.now) (view c.protect.new.self) (view c.join_to.new.folder) c.in_ok-taps.taps edges c.in_ok-project.ensures.bytes own
+    c.in_ok-opened.opened.sound (described g at) (heard g at) (unchanged g at) fault (c.in_err-join_to.ensures c.args.input.now (given g at)))
 
 pub returns : goal.returns
 returns g c =
@@ -83,5 +78,5 @@ returns g c =
     let view = g.F.Folder.view in
     let edges = c.in_ok-edges.edges in
     let own = subst (λ text. SaysDecimator text c.in_ok-taps.taps) c.deref.ensures.value c.in_ok-taps.ensures.found in
-    between_ends (head_of c.args.asked.is_wide 0) c.args.project.now c.args.input.now c.args.output.now c.in_ok-project.project.items c.args.asked.around (view c.args.folder.now) (view c.protect.new.self) (view c.join_to.new.folder) c.in_ok-taps.taps edges.rate (edge_channels edges edges.before.items) (edge_channels edges edges.after.items) c.in_ok-project.ensures.bytes own
-    (whole g at) (unchanged g at) c.in_ok-join_to.field-0 (c.in_ok-join_to.ensures c.args.input.now (given g at))
+    between_ends (head_of c.args.asked.is_wide 0) c.args.project.now c.args.input.now c.args.output.now c.in_ok-project.project.items c.args.asked.around (view c.args.folder.now) (view c.protect.new.self) (view c.join_to.new.folder) c.in_ok-taps.taps edges c.in_ok-project.ensures.bytes own
+    c.in_ok-opened.opened.sound (described g at) (heard g at) (unchanged g at) c.in_ok-join_to.field-0 (c.in_ok-join_to.ensures c.args.input.now (given g at))

@@ -1,7 +1,7 @@
 use Rattle.std.proofs.Common.{ap, subst, ◌∙◌}
 use Rattle.std.specs.Io.KnownBytes.{prepend_known}
 use Rattle.speaker_core.specs.Reordered.{reordered_known, reordering_groups, reordering_order, reordering_size}
-use Rattle.transfer_commands.specs.Neighbours.{JoinsTo}
+use Rattle.transfer_commands.specs.BetweenPlaying.{JoinsTo}
 use Rattle.transfer_commands.proofs.SpeakLaws.{after_bytes}
 use Rattle.transfer_commands.proofs.between_speakers.speak.Goals as goal
 

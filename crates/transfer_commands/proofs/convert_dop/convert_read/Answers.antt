@@ -1,9 +1,11 @@
-use Rattle.std.proofs.Common.{◌∙◌, Err, ap, subst, sym}
+use Rattle.std.proofs.Common.{◌∙◌, Err, ap, inl, refl, subst, sym}
 use Rattle.std.proofs.lemmas.Result.{err_from_is_err_and}
-use Rattle.folder_core.specs.Files.{IsPutInPart}
+use Rattle.folder_core.specs.Files.{IsPut, IsPutInPart}
+use Rattle.form_core.specs.Writing.{IsWriteFault}
 use Rattle.transfer_commands.specs.DopConverting.{ConvertDopComesTo}
 use Rattle.transfer_commands.proofs.ConvertLaws.{kept_by}
 use Rattle.transfer_commands.proofs.DopLaws.{dop_unwritten}
+use Rattle.transfer_commands.proofs.RefusalLaws.{dop_refused}
 use Rattle.transfer_commands.proofs.convert_dop.convert_read.Goals as goal
 
 pub returns-in_err-write_file : goal.returns-in_err-write_file
@@ -23,3 +25,30 @@ returns-in_err-write_file g c = λ input read.
       kept = kept_by output old new _ c.in_err-write_file.ensures.refused;
       others = c.in_err-write_file.ensures.others;
     }))
+
+pub returns-in-Err : goal.returns-in-Err
+returns-in-Err g c = λ input read. dop_refused c.args.form input c.args.output.now (g.F.Folder.view c.args.folder.now) c.args.file.now c.in-Err.fault c.refusal_of.result read c.in-Err.ensures.exact c.refusal_of.ensures
+
+pub returns-in-Err-NotWholeBytes : goal.returns-in-Err-NotWholeBytes
+returns-in-Err-NotWholeBytes g c = λ input read. (
+  refl,
+  record {
+    recording = c.in-Ok.recording;
+    reads = record { file = c.args.file.now; file_read = read; has = c.in-Ok.ensures.exact };
+    none = subst (IsWriteFault c.args.form c.in-Ok.recording) c.in-Err-NotWholeBytes.field-0-is c.in-Err-NotWholeBytes.ensures.refused;
+  },
+)
+
+pub returns-in-Err-Memory : goal.returns-in-Err-Memory
+returns-in-Err-Memory g c = λ input read. inl refl
+
+pub returns : goal.returns
+returns g c = λ input read. record {
+  recording = c.in-Ok.recording;
+  reads = record { file = c.args.file.now; file_read = read; has = c.in-Ok.ensures.exact };
+  bytes = c.in-Ok-write_in.bytes.items;
+  text = c.in-Ok-write_in.ensures.text;
+  sound = c.in-Ok-write_in.ensures.read_again;
+  output_put = subst (IsPut (g.F.Folder.view c.write_file.new.folder) c.args.output.now) c.deref.ensures.value c.in_ok-write_file.ensures.bytes;
+  others = c.in_ok-write_file.ensures.others;
+}

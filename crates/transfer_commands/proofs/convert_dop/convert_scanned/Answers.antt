@@ -87,3 +87,6 @@ returns-in-Err-Memory g c = λ found. inr (prefix g (goal.at.returns-in-Err-Memo
 
 pub returns-in-Err : goal.returns-in-Err
 returns-in-Err g c = λ found. inr (prefix g (goal.at.returns-in-Err g c).After-hand_back-handed _ c.in-Err.is found)
+
+pub convert_dop_between-came-requires : goal.convert_dop_between-came-requires
+convert_dop_between-came-requires g c = record { outline = c.requires.outline; fits = subst (FitsIn c.args.form) c.count.ensures (c.if-not-fits_in.ensures.0 refl) }

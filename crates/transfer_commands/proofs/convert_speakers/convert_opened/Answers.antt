@@ -96,3 +96,12 @@ returns-in-Err-Memory g c = λ form input found renaming given. inr (prefix g (g
 
 pub returns-in-Err : goal.returns-in-Err
 returns-in-Err g c = λ form input found renaming given. inr (prefix g (goal.at.returns-in-Err g c).After-hand_back-handed _ c.in-Err.is form input found renaming given)
+
+pub parts_of-requires : goal.parts_of-requires
+parts_of-requires g c = record { within = c.requires.within }
+
+pub relay_renamed-came-requires-clause-stated : goal.relay_renamed-came-requires-clause-stated
+relay_renamed-came-requires-clause-stated g c = c.requires.stated
+
+pub relay_renamed-came-requires-clause-fits : goal.relay_renamed-came-requires-clause-fits
+relay_renamed-came-requires-clause-fits g c = c.requires.fits

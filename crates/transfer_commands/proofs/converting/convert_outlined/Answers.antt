@@ -95,3 +95,6 @@ returns-in-Err-Memory g c = λ found. inr (prefix g (goal.at.returns-in-Err-Memo
 
 pub returns-in-Err : goal.returns-in-Err
 returns-in-Err g c = λ found. inr (prefix g (goal.at.returns-in-Err g c).After-hand_back-handed _ c.in-Err.is found)
+
+pub convert_between-came-requires : goal.convert_between-came-requires
+convert_between-came-requires g c = record { reported = c.requires.reported }

@@ -1,5 +1,6 @@
 use Rattle.std.proofs.Common.{◌∙◌, Err, ap, arith, inl, inr, refl}
 use Rattle.std.proofs.lemmas.Result.{err_from_is_err_and}
+use Rattle.dsd_bits.proofs.ExitLaws.{no_value}
 use Rattle.transfer_commands.specs.Opening.{left_of}
 use Rattle.transfer_commands.proofs.BetweenLaws.{described_read}
 use Rattle.transfer_commands.proofs.EdgeLaws.{hears_after}
@@ -19,12 +20,28 @@ returns-then-stop-ne0-clause-refused g c = λ input other.
       ],
     )
 
-pub returns-in_err-edge_of-clause-refused : goal.returns-in_err-edge_of-clause-refused
-returns-in_err-edge_of-clause-refused g c =
+pub returns-in_err-opened : goal.returns-in_err-opened
+returns-in_err-opened g c =
+    let r = c.from_residual.result in
+    let is = c.from_residual.ensures.1 in
+    let e = err_from_is_err_and r is in
+    record {
+      same = c.open_like.ensures.same;
+      heard = no_value _ _ r is;
+      refused = err_says r _ _ (e.1 ∙ ap Err e.2) c.in_err-opened.ensures.refused_after;
+    }
+
+pub returns-in_err-edge_of : goal.returns-in_err-edge_of
+returns-in_err-edge_of g c =
     let r = c.from_residual-in_err-edge_of.result in
-    let e = err_from_is_err_and r c.from_residual-in_err-edge_of.ensures.1 in
+    let is = c.from_residual-in_err-edge_of.ensures.1 in
+    let e = err_from_is_err_and r is in
     let left = left_of g.F.In.Read.remaining c.in_ok-opened.opened in
-    err_says r _ _ (e.1 ∙ ap Err e.2) (λ input other. unoutlined_left (g.F.Folder.view c.args.folder.now) c.args.name.now left c.in_ok-opened.ensures.given c.in_err-edge_of.field-0.0 c.in_err-edge_of.ensures.fault)
+    record {
+      same = c.open_like.ensures.same;
+      heard = no_value _ _ r is;
+      refused = err_says r _ _ (e.1 ∙ ap Err e.2) (λ input other. unoutlined_left (g.F.Folder.view c.args.folder.now) c.args.name.now left c.in_ok-opened.ensures.given c.in_err-edge_of.field-0.0 c.in_err-edge_of.ensures.fault);
+    }
 
 pub returns-clause-heard : goal.returns-clause-heard
 returns-clause-heard g c =

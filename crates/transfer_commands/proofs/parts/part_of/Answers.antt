@@ -1,32 +1,22 @@
-use Rattle.std.proofs.Common.{◌∙◌, Err, ap, inl, inr, map, refl, subst}
-use Rattle.std.proofs.lemmas.Result.{err_from_is_err_and}
-use Rattle.dsd_bits.specs.Contents.{mark_content}
-use Rattle.transfer_core.specs.Spans.{AreFramesOf, FramesRefused, IsSpanOf, SpanRefused}
+use Rattle.std.proofs.Common.{◌∙◌, Err, ap}
+use Rattle.std.proofs.lemmas.Result.{IfErr-weaker, err_from_is_err_and}
+use Rattle.transfer_commands.specs.PartPlaying.{ReportsRead}
 use Rattle.transfer_commands.proofs.ExcerptLaws.{err_says}
-use Rattle.transfer_commands.proofs.FindingLaws.{lacking, unreported_unfound}
-use Rattle.transfer_commands.proofs.SkippedLaws.{factor_said}
+use Rattle.transfer_commands.proofs.FindingLaws.{found_in_report, unfound_in_report, unreported_unfound}
 use Rattle.transfer_commands.proofs.parts.part_of.Goals as goal
 
 pub returns-clause-found : goal.returns-clause-found
 returns-clause-found g c =
     let states = c.in_ok-reported.ensures in
-    let reported = c.in_ok-reported.reported in
-    let frames = c.in_ok-frames.frames in
-    let rate = c.rate-rate.ensures.value in
-    let start = c.in_ok-start.start in
-    let stop = c.in_ok-start.stop in (
-      refl,
-      factor_said c.args.project.now c.rate-rate.result c.count.result frames c.in_ok-frames.ensures.found,
-      inl (
-        reported,
-        record { file = states.file; file_read = states.file_read; is_known = states.is_known },
-        record {
-          frames = frames;
-          frames_are = subst (λ n. AreFramesOf c.args.project.now reported.description.rate n frames) c.count.ensures.value (subst (λ n. AreFramesOf c.args.project.now n c.count.result frames) rate c.in_ok-frames.ensures.found);
-          span_is = subst (λ ms. IsSpanOf frames reported.description.rate ms c.args.span start stop) c.marks.ensures (subst (λ n. IsSpanOf frames n (map mark_content c.marks.result.now) c.args.span start stop) rate c.in_ok-start.ensures.found);
-        },
-      ),
-    )
+    let reports : ReportsRead c.args.input.now (g.F.Folder.view c.args.folder.now) c.in_ok-reported.reported = record { file = states.file; file_read = states.file_read; is_known = states.is_known } in
+    let by = c.part_by.ensures in
+    found_in_report c.args.project.now c.args.input.now (g.F.Folder.view c.args.folder.now) c.in_ok-reported.reported c.args.span reports c.part_by.result by.project by.factor by.found
+
+pub returns-clause-refused : goal.returns-clause-refused
+returns-clause-refused g c =
+    let states = c.in_ok-reported.ensures in
+    let reports : ReportsRead c.args.input.now (g.F.Folder.view c.args.folder.now) c.in_ok-reported.reported = record { file = states.file; file_read = states.file_read; is_known = states.is_known } in
+    IfErr-weaker c.part_by.result _ _ (unfound_in_report c.args.project.now c.args.input.now (g.F.Folder.view c.args.folder.now) c.in_ok-reported.reported c.args.span reports) c.part_by.ensures.refused
 
 pub returns-in_err-reported-clause-refused : goal.returns-in_err-reported-clause-refused
 returns-in_err-reported-clause-refused g c =
@@ -34,32 +24,3 @@ returns-in_err-reported-clause-refused g c =
     let r = c.from_residual.result in
     let e = err_from_is_err_and r c.from_residual.ensures.1 in
     err_says r _ _ (e.1 ∙ ap Err e.2) (unreported_unfound c.args.project.now c.args.input.now (view c.args.folder.now) (view c.open_past_sound.new.folder) c.args.span c.in_err-reported.field-0.0 c.in_err-reported.ensures)
-
-pub returns-in_err-frames-clause-refused : goal.returns-in_err-frames-clause-refused
-returns-in_err-frames-clause-refused g c =
-    let states = c.in_ok-reported.ensures in
-    let r = c.from_residual-in_err-frames.result in
-    let e = err_from_is_err_and r c.from_residual-in_err-frames.ensures.1 in
-    err_says r _ _ (e.1 ∙ ap Err e.2) (inr (inr (inl (
-      c.in_ok-reported.reported,
-      record { file = states.file; file_read = states.file_read; is_known = states.is_known },
-      subst (λ n. FramesRefused c.args.project.now n c.in_err-frames.field-0.0) c.rate-rate.ensures.value c.in_err-frames.ensures.refused,
-    ))))
-
-pub returns-in_err-start-clause-refused : goal.returns-in_err-start-clause-refused
-returns-in_err-start-clause-refused g c =
-    let states = c.in_ok-reported.ensures in
-    let reported = c.in_ok-reported.reported in
-    let description = reported.description in
-    let frames = c.in_ok-frames.frames in
-    let rate = c.rate-rate.ensures.value in
-    let fault = c.in_err-start.field-0.0 in
-    let r = c.from_residual-in_err-start.result in
-    let e = err_from_is_err_and r c.from_residual-in_err-start.ensures.1 in
-    let are = subst (λ n. AreFramesOf c.args.project.now description.rate n frames) c.count.ensures.value (subst (λ n. AreFramesOf c.args.project.now n c.count.result frames) rate c.in_ok-frames.ensures.found) in
-    let refused = subst (λ ms. SpanRefused frames description.rate ms c.args.span fault) c.marks.ensures (subst (λ n. SpanRefused frames n (map mark_content c.marks.result.now) c.args.span fault) rate c.in_err-start.ensures.refused) in
-    err_says r _ _ (e.1 ∙ ap Err e.2) (inl (
-      reported,
-      record { file = states.file; file_read = states.file_read; is_known = states.is_known },
-      lacking c.args.project.now c.args.span fault description.rate description.count description.marks frames are refused,
-    ))

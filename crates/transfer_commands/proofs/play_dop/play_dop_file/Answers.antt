@@ -1,4 +1,4 @@
-use Rattle.std.proofs.Common.{◌≡◌, ◌∙◌, [], IsTrue, Some, ap, false, subst, sym, true}
+use Rattle.std.proofs.Common.{◌≡◌, ◌∙◌, [], IsTrue, Some, ap, false, refl, subst, sym, true}
 use Rattle.std.specs.Prelude.{is_ok}
 use Rattle.folder_core.specs.Files.{IsGiven, View}
 use Rattle.folder_core.proofs.FileLaws.{given_up, not_kept}
@@ -7,6 +7,25 @@ use Rattle.transfer_commands.proofs.DopLaws.{dop_ended, dop_played}
 use Rattle.transfer_commands.proofs.PlayLaws.{named_read}
 use Rattle.transfer_commands.proofs.ReadLaws.{opened_read}
 use Rattle.transfer_commands.proofs.play_dop.play_dop_file.Goals as goal
+
+pub returns-in_default : goal.returns-in_default
+returns-in_default g c = c.open.ensures.same
+
+pub returns-in_default-create : goal.returns-in_default-create
+returns-in_default-create g c =
+    let view = g.F.Folder.view in
+    let input = c.args.input.now in
+    let output = c.args.output.now in
+    let old = view c.args.folder.now in
+    let new = view c.create.new.self in
+    let same : new ≡ old = c.in_default-create.ensures.same ∙ c.in-Ok.ensures.same in
+    let read = opened_read old input (g.F.In.Read.remaining c.in-Ok.file) c.in-Ok.ensures.bytes in
+    record {
+      file = read.0;
+      file_read = read.1;
+      same = ap (λ (v : View). v.file output) same;
+      others = rw same (record { others = λ other differs. refl; same_known = refl; same_keeping = refl });
+    }
 
 pub returns-in-Ok-handed : goal.returns-in-Ok-handed
 returns-in-Ok-handed g c =

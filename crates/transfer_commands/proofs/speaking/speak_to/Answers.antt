@@ -39,6 +39,7 @@ returns-in-Err g c = λ input given.
     let in_part : is_ok c.speak-played.result.0 ≡ false = ap is_ok c.in-Err.is in
     let stops : PlaysTo g.F.Out.Write.contents spoken.project.now spoken.range (ordered_spoken left spoken) c.in-Ok.wave c.speak-played.result.1 (Err fault) = rw c.in-Err.is at c.speak-played.ensures in
     let given_then = subst (λ (v : View). IsGiven v input (left_spoken left spoken)) (sym same) given in
+    let empty = subst (λ (v : View). IsTrue v.is_known → held ≡ Some []) (sym same) c.in-Ok.ensures.empty in
     subst (λ (v : View). SpokenComesTo spoken.project.now spoken.range order input c.args.output.now v new (Err (Call fault))) same
-    (spoken_stopped left spoken input c.args.output.now old new given_then c.hand_back-handed.ensures.others written
-    (λ reported. given_up c.args.output.now old new (is_ok c.speak-played.result.0) written c.hand_back-handed.result in_part c.hand_back-handed.ensures.whole c.hand_back-handed.ensures.refused reported) fault stops.stands stops.outside)
+    (spoken_stopped left spoken input c.args.output.now old new given_then c.hand_back-handed.ensures.others held written empty
+    (λ reported. given_up c.args.output.now old new (is_ok c.speak-played.result.0) written c.hand_back-handed.result in_part c.hand_back-handed.ensures.whole c.hand_back-handed.ensures.refused reported) fault stops)

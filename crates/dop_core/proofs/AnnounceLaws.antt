@@ -1,7 +1,6 @@
 -- What the bytes before the first sample announce of each file that begins so.
-use Rattle.std.proofs.Common.{◌≡◌, ◌≢◌, ℕ, ◌+◌, ◌-◌, ◌*◌, ◌/◌, ◌<◌, ◌≤◌, inl, inr, Bool, ◌&&◌, cond, eqb, ltb, List, ◌++◌, length, Result, Ok, Err, refl, sym, ◌∙◌, length-append, ne_eqb, arith}
+use Rattle.std.proofs.Common.{◌≡◌, ◌≢◌, ℕ, ◌+◌, ◌-◌, ◌*◌, ◌/◌, ◌≤◌, inl, inr, Bool, ◌&&◌, cond, eqb, ltb, List, ◌++◌, length, Result, Ok, Err, refl, sym, ◌∙◌, length-append, ne_eqb, arith}
 use Rattle.std.proofs.lemmas.Bool.{cases_eq, cases_lt, le-ltb, lt-ltb}
-use Rattle.chunk_core.specs.Steps.{◌>>=◌}
 use Rattle.dop_core.specs.declared.fault.DopFault.{DopFault}
 use Rattle.dop_core.specs.declared.fault.DopFault.TheVariants.{NoSize}
 use Rattle.dop_core.specs.declared.head.DopHead.{DopHead}

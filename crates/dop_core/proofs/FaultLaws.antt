@@ -1,7 +1,7 @@
 -- What holds of an answer.
 use Rattle.std.proofs.Common.{◌≡◌, ℕ, ◌+◌, IfErr, IsErrAnd, OnErr, OnOk, Result, Ok, Err, refl, subst, arith}
 use Rattle.form_core.specs.Steps.{map_err}
-use Rattle.sound_core.specs.Faults.{IsWritingFault, failed_reads, failed_writes}
+use Rattle.sound_core.specs.Faults.{IsBeforeWriting, IsWritingFault, failed_reads, failed_writes}
 use Rattle.sound_core.specs.Naming.{IsExact, IsExactUnless, plain}
 use Rattle.sound_core.specs.declared.fault.StreamFault.{StreamFault}
 use Rattle.sound_core.specs.declared.fault.StreamFault.TheVariants.{FileRefused, RateNotDivided, TooLarge, ReadFailed, WriteFailed, TurnLimit, Memory}
@@ -24,6 +24,10 @@ never_lacks (answers.Stream f) never h = λ same. never (h (rw same refl))
 
 pub writing_exact : (f : StreamFault) → IsWritingFault f → IsExact (answers.Stream f)
 writing_exact f h = λ same. subst IsWritingFault same h
+
+-- a fault of writing comes after the first write
+pub not_before : {P : Type 0} (f : StreamFault) → IsWritingFault f → IsBeforeWriting f → P
+not_before {P} f h = by_writing (λ e. IsBeforeWriting e → P) (λ early. absurd early) (λ early. absurd early) f h
 
 -- what is written counts no failed read
 pub no_reads : (f : StreamFault) → IsWritingFault f → failed_reads {X = ℕ} (Err f) ≡ 0

@@ -1,5 +1,5 @@
 -- The chunks of a file that begins with some bytes, or ends with some.
-use Rattle.std.proofs.Common.{◌≡◌, ◌≢◌, ℕ, zero, suc, ◌+◌, ◌-◌, ◌*◌, ◌%◌, ◌&&◌, ◌||◌, ◌<◌, ◌≤◌, ◌⊎◌, inl, inr, cond, eqb, ltb, Bool, true, false, List, ◌++◌, take, drop, length, Option, None, Some, refl, sym, ap, subst, ◌∙◌, length-append, arith}
+use Rattle.std.proofs.Common.{◌≡◌, ℕ, zero, suc, ◌+◌, ◌%◌, ◌&&◌, ◌||◌, ◌<◌, ◌≤◌, ◌⊎◌, inl, inr, cond, eqb, ltb, Bool, true, false, List, ◌++◌, take, drop, length, Option, None, Some, refl, sym, ap, subst, ◌∙◌, length-append, arith}
 use Rattle.std.proofs.lemmas.Bool.{cases_lt, le-ltb, lt-ltb, ltb-false}
 use Rattle.std.proofs.lemmas.List.{drop-append-le, drop-drop, drop_at, length-drop, take-append-le}
 use Rattle.byteorder.specs.Endian.{little_number}
@@ -7,7 +7,6 @@ use Rattle.byteorder.specs.Numbers.{little_from-take}
 use Rattle.chunk_core.proofs.Steps.{chosen}
 use Rattle.chunk_core.specs.declared.numbers.Order.TheVariants.{Little}
 use Rattle.chunk_core.specs.Numbers.{id_at, number_at}
-use Rattle.chunk_core.specs.Steps.{◌>>=◌}
 use Rattle.dsd_bits.specs.Ids.{same_id}
 use Rattle.dop_core.specs.Fields.{FMT, chunk_for, chunk_from, has_integers, is_integer, is_pcm_24, next_of, size_at}
 use Rattle.dop_core.specs.Markers.{plus}

@@ -2,8 +2,9 @@
 use Rattle.std.proofs.Common.{◌≡◌, ℕ, zero, suc, ◌+◌, ◌-◌, ◌*◌, ◌/◌, ◌<◌, ◌≤◌, ◌≢◌, inl, inr, cond, eqb, List, ◌++◌, Option, None, Some, length, slice_index, refl, sym, ap, ap₂, ◌∙◌, ne_eqb, eq-eqb, zero-mul, arith}
 use Rattle.std.proofs.lemmas.Bool.{cases_eq}
 use Rattle.std.proofs.lemmas.List.{get_or-append-add, get_or_append_left}
-use Rattle.std.proofs.lemmas.Nat.{div-mul-add}
+use Rattle.std.proofs.lemmas.Nat.{div-mul-add, mul-le}
 use Rattle.std.proofs.Math.Nat.{add-mul, mul-add-div_right, zero-div}
+use Rattle.std.specs.Int.{div_ceil}
 use Rattle.native_core.specs.Native.{marker}
 use Rattle.dop_core.specs.Markers.{plus}
 use Rattle.dop_core.specs.Reading.{broken_from, phase}
@@ -25,6 +26,16 @@ module _ (channels first : ℕ) (sound : List ℕ) where
 
   pub no_samples : (samples : ℕ) → samples ≡ 0 → broken_from channels first sound 0 samples ≡ None
   no_samples samples none = none_left 0 samples none
+
+-- samples of some frames
+pub few_samples : (frames n : ℕ) → frames ≤ 4294967296 → n ≤ 6 → frames * n ≤ 4294967296 * 6
+few_samples frames n few six = mul-le frames n 4294967296 6 few six
+
+-- as many bits need no more frames than that
+pub piece_holds : (count frames n : ℕ) (given piece : List ℕ) → count ≤ 16 * frames → given ≡ piece → length piece ≡ 3 * (frames * n) → 3 * (div_ceil count 16 * n) ≤ length given
+piece_holds count frames n given piece few same long =
+    let least : div_ceil count 16 ≤ frames = omega (arith, few) in
+    omega (arith, mul-le (div_ceil count 16) n frames n least (omega arith), ap length same, long)
 
 -- ---- a frame
 

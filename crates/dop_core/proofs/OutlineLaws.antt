@@ -1,12 +1,11 @@
 -- A file of an outline and some samples.
-use Rattle.std.proofs.Common.{◌≡◌, ◌≢◌, ℕ, ◌+◌, ◌-◌, ◌*◌, ◌%◌, ◌^◌, ◌<◌, ◌≤◌, inl, inr, Bool, cond, eqb, List, [], ◌++◌, length, Option, None, Some, IfOk, IfSome, Result, Ok, Err, slice_index, refl, sym, ap, subst, ◌∙◌, append_assoc, mul_comm, length-append, arith}
+use Rattle.std.proofs.Common.{◌≡◌, ℕ, ◌+◌, ◌-◌, ◌*◌, ◌%◌, ◌≤◌, inl, inr, cond, eqb, List, [], ◌++◌, length, Option, None, Some, IfOk, IfSome, Result, Ok, Err, slice_index, refl, sym, ap, subst, ◌∙◌, append_assoc, mul_comm, length-append, arith}
 use Rattle.std.specs.Int.{div_ceil}
 use Rattle.std.proofs.Math.Nat.{add-mul}
 use Rattle.std.proofs.lemmas.Bool.{cases_eq}
 use Rattle.std.proofs.lemmas.List.{drop_at, get_or_append_left}
 use Rattle.std.proofs.lemmas.Nat.{mul-le}
 use Rattle.chunk_core.specs.Inlets.{PullsBytes, inlet_reader}
-use Rattle.chunk_core.specs.Steps.{◌>>=◌}
 use Rattle.chunk_core.specs.declared.inlet.Inlet.{Inlet}
 use Rattle.dop_core.specs.declared.fault.DopFault.{DopFault}
 use Rattle.dop_core.specs.declared.head.DopHead.{DopHead}

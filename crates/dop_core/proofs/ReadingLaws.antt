@@ -1,11 +1,10 @@
 -- What bytes that were read of a file say of it.
-use Rattle.std.proofs.Common.{◌≡◌, ℕ, ◌+◌, ◌<◌, ◌≤◌, Bool, true, false, List, [], ◌++◌, length, Option, None, Some, IfSome, Ok, Err, append-nil, append_assoc, refl, sym, ap, subst, ◌∙◌, length-append, arith}
+use Rattle.std.proofs.Common.{◌≡◌, ℕ, ◌+◌, ◌<◌, ◌≤◌, Bool, true, false, List, [], ◌++◌, length, Option, None, Some, IfSome, IfErr, IsErrAnd, Result, Ok, Err, append-nil, append_assoc, refl, sym, ap, subst, ◌∙◌, length-append, arith}
 use Rattle.std.specs.Io.KnownBytes.{IsAtEnd}
 use Rattle.std.proofs.KnownBytes.{Consumes-trans}
 use Rattle.std.proofs.lemmas.Bool.{le-ltb, lt-ltb}
 use Rattle.chunk_core.specs.Inlets.{PullsBytes, inlet_reader}
 use Rattle.chunk_core.specs.Numbers.{id_at}
-use Rattle.chunk_core.specs.Steps.{◌>>=◌}
 use Rattle.chunk_core.specs.declared.inlet.Inlet.{Inlet}
 use Rattle.dsd_bits.specs.Ids.{same_id}
 use Rattle.dop_core.specs.declared.fault.DopFault.{DopFault}
@@ -14,7 +13,7 @@ use Rattle.dop_core.specs.declared.stop.DopStop.{DopStop}
 use Rattle.dop_core.specs.declared.stop.DopStop.TheVariants as stops
 use Rattle.dop_core.specs.Fields.{DATA, chunk_from, is_wave, next_of}
 use Rattle.dop_core.specs.Fronts.{IsFront}
-use Rattle.dop_core.specs.Pieces.{NamesAfter}
+use Rattle.dop_core.specs.Pieces.{HoldsMore, IfRefused, IsOutside, NamesAfter}
 use Rattle.dop_core.specs.Reading.{data_of, head_of, recording_of}
 use Rattle.dop_core.proofs.ChunkLaws.{IsWalking, walk_ends, walk_finds, walk_on}
 use Rattle.dop_core.proofs.FrontLaws.{id_in, next_in}
@@ -54,6 +53,39 @@ module _ {R : Type 0} (left : R → Option (List ℕ)) where
     now = subst (λ xs. recording_of (before ++ xs) ≡ Err e) (append-nil read) (is []);
     later = if_any (λ rest. recording_of (before ++ (read ++ rest)) ≡ Err e) (left (inlet_reader b)) is;
   }
+
+-- ---- a fault from outside
+
+names_none : (f : DopStop) (P : DopFault → Type 0) → IsOutside f → IfRefused f P
+names_none (stops.Refused fault) P h = absurd h
+names_none stops.ReadFailed P h = tt
+names_none stops.WriteFailed P h = tt
+names_none stops.Changed P h = tt
+names_none stops.Memory P h = tt
+
+pub outside : {X : Type 0} (r : Result X DopStop) (f : DopStop) → IsErrAnd r (λ g. g ≡ f) → IsOutside f → IfErr r IsOutside
+outside (Ok x) f same h = absurd same
+outside (Err g) f same h = subst IsOutside (sym same) h
+
+pub outside_named : {X : Type 0} (r : Result X DopStop) (f : DopStop) (P : DopFault → Type 0) → IsErrAnd r (λ g. g ≡ f) → IsOutside f → IfErr r (λ stop. IfRefused stop P)
+outside_named (Ok x) f P same h = absurd same
+outside_named (Err g) f P same h = names_none g P (subst IsOutside (sym same) h)
+
+-- ---- what is held grows by a piece
+
+pub grown : (before held now read more piece : List ℕ) → held ≡ before ++ read → now ≡ held ++ more → more ≡ piece → now ≡ before ++ (read ++ piece)
+grown before held now read more piece was is same = is ∙ ap (λ xs. held ++ xs) same ∙ ap (λ xs. xs ++ piece) was ∙ append_assoc before read piece
+
+-- the piece ends the file
+pub held_to_end : {R : Type 0} (left : R → Option (List ℕ)) (a b : Inlet R) (before now read : List ℕ) (wanted : ℕ) → PullsBytes left a b read → now ≡ before ++ read → length now < wanted → IsAtEnd (left (inlet_reader b)) → HoldsMore left a b before now wanted false
+held_to_end left a b before now read wanted pulled is less end = record {
+  read = read;
+  pulled = pulled;
+  appended = is;
+  whole = λ all. absurd cc;
+  short = λ part. less;
+  at_end = λ part. end;
+}
 
 -- no list in memory is that long
 pub not_whole : (b : Bool) (n : ℕ) → (b ≡ true → n ≡ 18446744073709551615) → n < 9223372036854775808 → b ≡ false

@@ -1,17 +1,15 @@
 -- Why a file that begins with some bytes is refused.
-use Rattle.std.proofs.Common.{◌≡◌, ◌≢◌, ℕ, ◌+◌, ◌*◌, ◌/◌, ◌%◌, ◌<◌, ◌≤◌, inl, inr, cond, eqb, ◌&&◌, List, ◌++◌, drop, length, None, Some, Ok, Err, slice_index, refl, sym, ap, ◌∙◌, eq-eqb, mul_comm, ne_eqb, length-append, arith}
+use Rattle.std.proofs.Common.{◌≡◌, ◌≢◌, ℕ, ◌+◌, ◌*◌, ◌%◌, ◌<◌, ◌≤◌, inl, inr, cond, eqb, List, ◌++◌, drop, length, None, Some, Ok, Err, slice_index, refl, sym, ap, ◌∙◌, eq-eqb, mul_comm, ne_eqb, length-append, arith}
 use Rattle.std.proofs.Math.Nat.{add-mul, mul-add-mod_self_right, zero-mod}
 use Rattle.std.proofs.lemmas.Bool.{cases_eq, le-ltb, lt-ltb}
 use Rattle.std.proofs.lemmas.List.{drop_at, get_or_append_left}
 use Rattle.std.proofs.lemmas.Nat.{div-add-mod'}
-use Rattle.chunk_core.specs.Steps.{◌>>=◌}
-use Rattle.dop_core.specs.declared.fault.DopFault.{DopFault}
 use Rattle.dop_core.specs.declared.fault.DopFault.TheVariants.{BadMarker, DataCut, NoSize, PartFrame}
 use Rattle.dop_core.specs.declared.shape.Announced.{Announced}
 use Rattle.dop_core.specs.declared.markers.Marks.{Marks}
 use Rattle.dop_core.specs.Fronts.{Announces}
 use Rattle.dop_core.specs.Markers.{AreMarks}
-use Rattle.dop_core.specs.Reading.{broken, broken_from, head_of, phase, recording_of}
+use Rattle.dop_core.specs.Reading.{broken_from, head_of, phase, recording_of}
 use Rattle.dop_core.specs.Sounds.{sound_long}
 use Rattle.dop_core.proofs.MarkerLaws.{broken_in, no_samples, nothing_times}
 

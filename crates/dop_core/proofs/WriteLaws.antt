@@ -1,5 +1,5 @@
 -- What is before the samples.
-use Rattle.std.proofs.Common.{◌≡◌, ℕ, ◌≤◌, List, ◌++◌, drop, length, refl, arith, append_assoc, length-append}
+use Rattle.std.proofs.Common.{◌≡◌, ℕ, ◌≤◌, List, [], ◌++◌, drop, length, refl, ap, ◌∙◌, arith, append_assoc, length-append}
 use Rattle.wave_core.specs.Sizes.{data_size, riff_size}
 use Rattle.wave_core.specs.Texts.{data_head, format_chunk, header, masked_header, riff_head}
 
@@ -20,3 +20,7 @@ four a r s w x = simp append_assoc
 
 pub three : (a r s w : List ℕ) → ((a ++ r) ++ s) ++ w ≡ a ++ (r ++ (s ++ w))
 three a r s w = simp append_assoc
+
+-- the bytes that stand in an emptied list
+pub head_made : {empty made out head : List ℕ} → empty ≡ [] → made ≡ empty ++ head → out ≡ made → out ≡ head
+head_made {empty} {made} {out} {head} none is same = same ∙ is ∙ ap (λ xs. xs ++ head) none

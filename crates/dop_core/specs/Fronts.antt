@@ -1,5 +1,5 @@
 -- The bytes of a file before its first sample.
-use Rattle.std.specs.Prelude.{◌≡◌, ◌≢◌, ◌≤◌, ◌<◌, ℕ, ◌+◌, ◌-◌, ◌*◌, ◌/◌, ◌%◌, ◌&&◌, ◌^◌, List, ◌++◌, length, Option, Result, Ok, Err, nat_eq, nat_lt, not, if◌then◌else◌}
+use Rattle.std.specs.Prelude.{◌≡◌, ◌≤◌, ◌<◌, ℕ, ◌+◌, ◌-◌, ◌*◌, ◌/◌, ◌%◌, ◌&&◌, ◌^◌, List, ◌++◌, length, Option, Result, Ok, Err, nat_eq, nat_lt, not, if◌then◌else◌}
 use Rattle.chunk_core.specs.Inlets.{PullsBytes}
 use Rattle.chunk_core.specs.declared.inlet.Inlet.{Inlet}
 use Rattle.dop_core.specs.Fields.{size_at}

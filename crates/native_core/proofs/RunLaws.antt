@@ -1,9 +1,9 @@
 -- Bits that are given group by group.
-use Rattle.std.proofs.Common.{◌≡◌, inl, inr, ℕ, zero, suc, ◌+◌, ◌-◌, ◌*◌, ◌/◌, ◌<◌, ◌≤◌, min, List, [], ◌∷◌, ◌++◌, length, take, drop, sym, ap, ap₂, ◌∙◌, arith, length-take, zero-mul}
+use Rattle.std.proofs.Common.{◌≡◌, inl, inr, eqb, false, ℕ, zero, suc, ◌+◌, ◌-◌, ◌*◌, ◌/◌, ◌<◌, ◌≤◌, min, List, [], ◌∷◌, ◌++◌, length, take, drop, sym, ap, ap₂, ◌∙◌, arith, length-take, zero-mul}
 use Rattle.std.specs.Int.{div_ceil}
 use Rattle.std.proofs.Math.Nat.{add-mul, div-mul-le_self, mul-le-mul_right, mul_assoc, mul_comm}
 use Rattle.std.proofs.Math.Seq.{take-add, take-append_seam}
-use Rattle.std.proofs.lemmas.Bool.{cases_lt}
+use Rattle.std.proofs.lemmas.Bool.{cases_lt, eqb-false}
 use Rattle.std.proofs.lemmas.List.{drop-append-le, drop_all, take-append-le}
 use Rattle.dsd_bits.specs.declared.interleaving.Interleaving.{Interleaving}
 use Rattle.dsd_bits.specs.declared.interleaving.Interleaving.TheVariants.{Bytes, Blocks}
@@ -133,3 +133,10 @@ module _ (layout : Layout) (s : Sound) (sound : IsSound s) (start g : ℕ) (came
       ap₂ (λ (xs : List ℕ) (k : ℕ). xs ++ drop k made) given_is left
       ∙ sym (drop_both (frames_size layout s start) (group_frames layout s came g) made)
       ∙ ap (drop (frames_size layout s start)) (sym (frames_on b few))
+
+-- a sound whose bytes have not all come
+pub not_yet : (fed more size came : ℕ) {all : ℕ} → all + more ≤ size → eqb (fed + more) size ≡ false → fed ≡ all → came ≡ all + more → came < size
+not_yet fed more size came few other same is = elim (cases_lt (fed + more) size) [
+  | inl less ↦ omega (arith, less, same, is)
+  | inr all_came ↦ absurd (eqb-false (fed + more) size other (omega (arith, few, same, all_came)))
+]

@@ -1,4 +1,5 @@
 pub mod ChannelLaws
 pub mod GroupLaws
+mod ListLaws
 pub mod ReadingLaws
 pub mod SpeakerLaws

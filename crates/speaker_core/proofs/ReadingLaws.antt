@@ -1,5 +1,5 @@
 -- What a file whose channels are reordered has left.
-use Rattle.std.proofs.Common.{◌⊎◌, ◌≡◌, ℕ, suc, ◌+◌, ◌-◌, ◌*◌, ◌<◌, ◌≤◌, Bool, true, false, IsTrue, IsFalse, OnOk, OnErr, Result, Ok, Err, List, [], ◌∷◌, ◌++◌, All, flat_map, length, take, drop, Option, None, Some, option_map, inl, inr, refl, sym, ap, ap₂, subst, ◌∙◌, append_assoc, append-nil, arith, length-append, length-drop, take-append-drop}
+use Rattle.std.proofs.Common.{◌⊎◌, ◌≡◌, ℕ, suc, ◌+◌, ◌-◌, ◌*◌, ◌<◌, ◌≤◌, Bool, true, false, IsTrue, IsFalse, OnOk, OnErr, Result, Ok, Err, List, [], ◌∷◌, ◌++◌, All, flat_map, length, min, take, drop, Option, None, Some, inl, inr, refl, sym, ap, ap₂, subst, ◌∙◌, append_assoc, append-nil, arith, length-append, length-drop, take-append-drop}
 use Rattle.std.specs.Io.KnownBytes.{Consumes, IsAtEnd, Keeps, ReadConsumes, prepend_known}
 use lib.Seq.{drop-drop, length-take-le}
 use Rattle.std.proofs.KnownBytes.{Keeps-trans}
@@ -127,6 +127,10 @@ has_next order size own_groups batch groups later filled wanted given2 groups2 r
 
 pub times_le : (a b n : ℕ) → a ≤ b → a * n ≤ b * n
 times_le a b n few = grind arith
+
+-- what is wanted fits where it is read to
+pub fits_room : (batch most groups number n size room : ℕ) → batch ≡ min most groups → number ≡ n → most * (n * size) ≤ room → batch * (number * size) ≤ room
+fits_room batch most groups number n size room least same fits = omega (arith, ap (λ m. batch * (m * size)) same, times_le batch most (n * size) (omega (arith, least)), fits)
 
 -- ---- results
 pub on_either : {X E : Type 0} (r : Result X E) {P Q K : Type 0} → OnOk r P → OnErr r Q → (P → K) → (Q → K) → K

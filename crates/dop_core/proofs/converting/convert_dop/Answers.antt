@@ -1,4 +1,4 @@
-use Rattle.std.proofs.Common.{◌≡◌, ◌+◌, ◌^◌, ◌≤◌, [], ◌++◌, append-nil, ap, length, subst, ◌∙◌, refl, arith}
+use Rattle.std.proofs.Common.{◌+◌, ◌^◌, ◌≤◌, [], ◌++◌, append-nil, ap, length, subst, ◌∙◌, refl, arith}
 use Rattle.std.proofs.KnownBytes.{Appends-trans}
 use Rattle.chunk_core.specs.Inlets.{PullsBytes}
 use Rattle.chunk_core.specs.Outlets.{Puts, PutsPrefix, outlet_writer}

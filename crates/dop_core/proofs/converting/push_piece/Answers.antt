@@ -1,4 +1,4 @@
-use Rattle.std.proofs.Common.{◌≤◌, length, ap, subst, sym, ◌∙◌, arith}
+use Rattle.std.proofs.Common.{length, ap, subst, sym, ◌∙◌, arith}
 use Rattle.dsd_bits.specs.Channels.{IsLevel}
 use Rattle.dop_core.proofs.BitLaws.{level_is, number_is}
 use Rattle.dop_core.proofs.converting.push_piece.Goals as goal

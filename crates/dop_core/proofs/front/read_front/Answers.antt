@@ -4,7 +4,7 @@ use Rattle.chunk_core.specs.Numbers.{id_at}
 use Rattle.dsd_bits.specs.Ids.{same_id}
 use Rattle.dop_core.specs.Fields.{DATA, is_wave, next_of}
 use Rattle.dop_core.proofs.ChunkLaws.{walk_begins}
-use Rattle.dop_core.proofs.ReadingLaws.{Walks, names_any, names_end, not_wave, pulls_grown, short_wave, walk_found, walk_grown, walk_next, walk_none, wave_grown, wave_in}
+use Rattle.dop_core.proofs.ReadingLaws.{Walks, names_any, names_end, not_wave, outside_named, pulls_grown, short_wave, walk_found, walk_grown, walk_next, walk_none, wave_grown, wave_in}
 use Rattle.dop_core.proofs.front.read_front.Goals as goal
 use Rattle.dop_core.proofs.front.read_front.Given.{Over}
 use Rattle.dop_core.proofs.front.read_front.Goals.{In_ok-is_long, then-not-is_long-via-then-not-is_long, then-not-is_long-via-else-not-is_long+then-not-is_wave}
@@ -103,3 +103,12 @@ loop-front-preserved g c =
       long = omega (arith, place, long, inv.long);
       walks = subst (Walks all) place (walk_grown front next.read all (next_of front (length before)) next.appended walks);
     }
+
+pub returns-in_err-is_long-clause-named : goal.returns-in_err-is_long-clause-named
+returns-in_err-is_long-clause-named g c = outside_named c.from_residual.result _ _ c.from_residual.ensures.1 c.in_err-is_long.ensures.fault
+
+pub returns-in_err-hold_until-clause-named : goal.returns-in_err-hold_until-clause-named
+returns-in_err-hold_until-clause-named g c = outside_named c.from_residual-in_err-hold_until.result _ _ c.from_residual-in_err-hold_until.ensures.1 c.in_err-hold_until.ensures.fault
+
+pub returns-in_err-hold_until-2-clause-named : goal.returns-in_err-hold_until-2-clause-named
+returns-in_err-hold_until-2-clause-named g c = outside_named c.from_residual-in_err-hold_until-2.result _ _ c.from_residual-in_err-hold_until-2.ensures.1 c.in_err-hold_until-2.ensures.fault

@@ -1,4 +1,4 @@
-use Rattle.std.proofs.Common.{◌≡◌, ◌*◌, ap, sym, ◌∙◌}
+use Rattle.std.proofs.Common.{ap, sym}
 use Rattle.dop_core.specs.Reading.{as_fault, phase}
 use Rattle.dop_core.proofs.MarkerLaws.{no_samples, nothing_times}
 use Rattle.dop_core.proofs.markers.check_markers.Goals as goal

@@ -1,4 +1,4 @@
-use Rattle.std.proofs.Common.{◌≡◌, ◌+◌, ◌*◌, ◌%◌, ◌<◌, ◌≤◌, ◌^◌, true, false, List, ℕ, ◌++◌, Ok, Err, length, length-append, ap, subst, sym, ◌∙◌, arith}
+use Rattle.std.proofs.Common.{◌≡◌, ◌%◌, false, List, ℕ, ◌++◌, Ok, Err, length, length-append, ap, subst, sym, ◌∙◌, arith}
 use Rattle.chunk_core.specs.Inlets.{PullsBytes}
 use Rattle.dop_core.specs.declared.shape.Announced.{Announced}
 use Rattle.dop_core.specs.Fields.{COUNT, chunk_from}

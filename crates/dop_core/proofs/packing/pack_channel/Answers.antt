@@ -1,4 +1,4 @@
-use Rattle.std.proofs.Common.{◌≡◌, ◌+◌, ◌*◌, ◌<◌, ◌≤◌, arith, length}
+use Rattle.std.proofs.Common.{◌+◌, ◌*◌, ◌≤◌, arith, length}
 use Rattle.std.proofs.lemmas.Nat.{mul-le}
 use Rattle.dop_core.proofs.PackLaws.{others_on, own_on, size_on}
 use Rattle.dop_core.proofs.packing.pack_channel.Goals as goal

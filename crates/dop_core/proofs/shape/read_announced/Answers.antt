@@ -1,4 +1,4 @@
-use Rattle.std.proofs.Common.{◌≡◌, ◌+◌, ◌-◌, ◌≤◌, ◌++◌, length, ap, subst, sym, ◌∙◌, refl, Ok, arith}
+use Rattle.std.proofs.Common.{◌≡◌, ◌-◌, ◌≤◌, ◌++◌, length, ap, subst, sym, ◌∙◌, refl, Ok, arith}
 use Rattle.dop_core.specs.Fields.{channel_number, frame_rate, size_at}
 use Rattle.dop_core.specs.Fronts.{Announces}
 use Rattle.dop_core.specs.Reading.{checked, format_of}

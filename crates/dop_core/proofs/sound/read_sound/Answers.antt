@@ -1,10 +1,11 @@
-use Rattle.std.proofs.Common.{◌≡◌, ◌+◌, ◌*◌, ◌<◌, ◌≤◌, List, ℕ, ◌++◌, Err, length, length-append, append-nil, append_assoc, ap, subst, sym, ◌∙◌, arith}
+use Rattle.std.proofs.Common.{◌≡◌, ◌+◌, ◌<◌, List, ℕ, ◌++◌, Err, length, length-append, append-nil, append_assoc, ap, subst, sym, ◌∙◌, arith}
 use Rattle.std.proofs.lemmas.List.{nil_from_length}
 use Rattle.chunk_core.specs.Inlets.{PullsBytes}
 use Rattle.dop_core.specs.declared.fault.DopFault.TheVariants.{BadMarker, DataCut}
 use Rattle.dop_core.specs.Reading.{recording_of}
 use Rattle.dop_core.specs.Sounds.{sound_long}
-use Rattle.dop_core.proofs.ReadingLaws.{names_any, names_end, pulls_on}
+use Rattle.dsd_bits.proofs.ExitLaws.{no_value}
+use Rattle.dop_core.proofs.ReadingLaws.{names_any, names_end, outside_named, pulls_on}
 use Rattle.dop_core.proofs.RefusalLaws.{cut_refused, marker_refused, marks_break, part_refused, within}
 use Rattle.dop_core.proofs.sound.read_sound.Goals as goal
 
@@ -75,3 +76,24 @@ returns-in-None-clause-ok g c =
       begins = marks.first;
       marked = sym marks.broken ∙ c.in-None.is;
     }
+
+pub returns-in_err-scanned-clause-ok : goal.returns-in_err-scanned-clause-ok
+returns-in_err-scanned-clause-ok g c = no_value _ _ c.from_residual.result c.from_residual.ensures.1
+
+pub returns-in_err-scanned-clause-named : goal.returns-in_err-scanned-clause-named
+returns-in_err-scanned-clause-named g c = outside_named c.from_residual.result _ _ c.from_residual.ensures.1 c.in_err-scanned.ensures.fault
+
+pub returns-in_err-read_piece-clause-ok : goal.returns-in_err-read_piece-clause-ok
+returns-in_err-read_piece-clause-ok g c = no_value _ _ c.from_residual-in_err-read_piece.result c.from_residual-in_err-read_piece.ensures.1
+
+pub returns-in_err-read_piece-clause-named : goal.returns-in_err-read_piece-clause-named
+returns-in_err-read_piece-clause-named g c = outside_named c.from_residual-in_err-read_piece.result _ _ c.from_residual-in_err-read_piece.ensures.1 c.in_err-read_piece.ensures.fault
+
+pub overflow_mul-whole : goal.overflow_mul-whole
+overflow_mul-whole g c = omega (arith, within c.args.front.now c.args.said.now c.requires, c.requires.few)
+
+pub overflow_mul-whole-2 : goal.overflow_mul-whole-2
+overflow_mul-whole-2 g c = omega (arith, within c.args.front.now c.args.said.now c.requires, c.requires.few)
+
+pub overflow_add-whole : goal.overflow_add-whole
+overflow_add-whole g c = omega (arith, within c.args.front.now c.args.said.now c.requires, c.requires.few, c.read_piece.new.piece.small, c.len.ensures)

@@ -1,11 +1,12 @@
-use Rattle.std.proofs.Common.{◌≡◌, ◌+◌, ◌*◌, ◌<◌, ◌≤◌, [], ◌++◌, List, ℕ, length, length-append, subst, sym, ◌∙◌, refl, arith}
+use Rattle.std.proofs.Common.{◌+◌, ◌*◌, ◌<◌, ◌≤◌, [], ◌++◌, List, ℕ, length, length-append, subst, sym, refl, arith}
 use Rattle.std.proofs.KnownBytes.{Consumes-nil}
 use Rattle.std.proofs.Math.Nat.{add-mul}
 use Rattle.std.proofs.lemmas.Nat.{mul-le}
 use Rattle.chunk_core.specs.Inlets.{inlet_reader}
+use Rattle.dsd_bits.proofs.ExitLaws.{no_value}
 use Rattle.dop_core.specs.Markers.{AreMarks}
-use Rattle.dop_core.proofs.MarkerLaws.{no_samples, nothing_times}
-use Rattle.dop_core.proofs.ReadingLaws.{pulls_on}
+use Rattle.dop_core.proofs.MarkerLaws.{few_samples, no_samples, nothing_times}
+use Rattle.dop_core.proofs.ReadingLaws.{outside, pulls_on}
 use Rattle.dop_core.proofs.sound.scan_frames.Goals as goal
 
 pub loop-done-init : goal.loop-done-init
@@ -53,3 +54,30 @@ loop-done-preserved g c =
       either = c.marks_on-marks.ensures.either;
       marks = subst (λ (xs : List ℕ). AreMarks n c.marks_on-marks.result (c.loop-done.done + c.min-frames.result) (inv.sound ++ xs)) c.deref.ensures.value (c.marks_on-marks.ensures.marks inv.sound inv.marks inv.long);
     }
+
+pub returns-in_err-read_piece-clause-ok : goal.returns-in_err-read_piece-clause-ok
+returns-in_err-read_piece-clause-ok g c = no_value _ _ c.from_residual.result c.from_residual.ensures.1
+
+pub returns-in_err-read_piece-clause-fault : goal.returns-in_err-read_piece-clause-fault
+returns-in_err-read_piece-clause-fault g c = outside c.from_residual.result _ c.from_residual.ensures.1 c.in_err-read_piece.ensures.fault
+
+pub overflow_mul-frames : goal.overflow_mul-frames
+overflow_mul-frames g c = omega (arith, few_samples c.min-frames.result c.args.head.now.channels (omega (arith, c.min-frames.ensures)) c.requires.six)
+
+pub overflow_mul-frames-in-loop-done : goal.overflow_mul-frames-in-loop-done
+overflow_mul-frames-in-loop-done g c = omega (arith, few_samples c.min-frames.result c.args.head.now.channels (omega (arith, c.min-frames.ensures)) c.requires.six)
+
+pub overflow_mul-there : goal.overflow_mul-there
+overflow_mul-there g c = omega (arith, few_samples c.loop-done.done c.args.head.now.channels (omega (arith, c.loop-done.invariant.within, c.requires.few)) c.requires.six)
+
+pub overflow_mul-there-then-not-branch : goal.overflow_mul-there-then-not-branch
+overflow_mul-there-then-not-branch g c = omega (arith, few_samples c.loop-done.done c.args.head.now.channels (omega (arith, c.loop-done.invariant.within, c.requires.few)) c.requires.six)
+
+pub overflow_add-there : goal.overflow_add-there
+overflow_add-there g c = omega (arith, few_samples c.loop-done.done c.args.head.now.channels (omega (arith, c.loop-done.invariant.within, c.requires.few)) c.requires.six, c.read_piece.new.piece.small, c.len.ensures)
+
+pub overflow_mul-there-2 : goal.overflow_mul-there-2
+overflow_mul-there-2 g c = omega (arith, few_samples c.loop-done.done c.args.head.now.channels (omega (arith, c.loop-done.invariant.within, c.requires.few)) c.requires.six)
+
+pub overflow_mul-there-3 : goal.overflow_mul-there-3
+overflow_mul-there-3 g c = omega (arith, few_samples c.loop-done.done c.args.head.now.channels (omega (arith, c.loop-done.invariant.within, c.requires.few)) c.requires.six)

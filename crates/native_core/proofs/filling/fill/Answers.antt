@@ -1,5 +1,6 @@
 use Rattle.std.proofs.Common.{◌≡◌, ◌+◌, ◌-◌, ◌*◌, Bool, List, [], ◌∷◌, ◌++◌, length, sym, ap, ap₂, ◌∙◌, arith, append_assoc, length-append}
 use Rattle.std.proofs.lemmas.List.FromFn.{length-map-range_with_len, map-range_with_len_more}
+use Rattle.dsd_bits.proofs.ExitLaws.{no_value}
 use Rattle.native_core.specs.Native.{silence, silence_bit}
 use Rattle.native_core.proofs.FillLaws.{units_fit}
 use Rattle.native_core.proofs.filling.fill.Goals as goal
@@ -26,3 +27,9 @@ loop-i-preserved c =
       made = c.in_ok-push_bit.ensures.ok ∙ ap₂ (λ (xs : List Bool) (b : Bool). xs ++ b ∷ []) c.loop-i.invariant.made c.silence_at.ensures ∙ append_assoc channel (silence count (i - count)) (silence_bit i ∷ []) ∙ ap (λ s. channel ++ s) (sym more);
       from = omega (arith, from);
     }
+
+pub returns-in_err-push_range : goal.returns-in_err-push_range
+returns-in_err-push_range c = no_value _ _ c.from_residual.result c.from_residual.ensures.1
+
+pub returns-in_err-push_bit : goal.returns-in_err-push_bit
+returns-in_err-push_bit c = no_value _ _ c.from_residual-in_err-push_bit.result c.from_residual-in_err-push_bit.ensures.1

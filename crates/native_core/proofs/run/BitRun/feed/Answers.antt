@@ -1,11 +1,32 @@
 use Rattle.std.proofs.Common.{◌≡◌, ℕ, ◌+◌, ◌-◌, ◌*◌, ◌/◌, ◌<◌, ◌≤◌, List, ◌++◌, length, take, drop, refl, ap, ap₂, ◌∙◌, arith, length-append}
+use Rattle.std.proofs.lemmas.Bool.{eqb-true}
 use Rattle.dsd_bits.specs.Sounds.{sound_size}
+use Rattle.dsd_bits.proofs.ExitLaws.{no_value}
 use Rattle.native_core.specs.Native.{native_of}
 use Rattle.native_core.specs.Runs.{group_size, run_fed}
 use Rattle.native_core.proofs.FeedLaws.{gives_groups, gives_last, groups_whole, last_whole, made_of}
-use Rattle.native_core.proofs.RunLaws.{left_out}
+use Rattle.native_core.proofs.RunLaws.{left_out, not_yet}
 use Rattle.native_core.proofs.run.BitRun.feed.Goals as goal
-use Rattle.native_core.proofs.run.BitRun.feed.Goals.{After-drop_after}
+use Rattle.native_core.proofs.run.BitRun.feed.Goals.{After-drop_after, After-len}
+
+-- how many bytes there are now
+held_is : (c : After-len) → c.len.result ≡ length c.args.self.part.items + length c.args.bytes.now
+held_is c = omega (arith, c.len.ensures, c.extend_from_slice.new.self.ok.0, ap length c.in_ok-extend_from_slice.ensures.items, length-append c.args.self.part.items c.args.bytes.now)
+
+pub bits_due-count-requires-clause-last : goal.bits_due-count-requires-clause-last
+bits_due-count-requires-clause-last c ends = omega (arith, eqb-true _ _ ends, c.fed.ensures, held_is c)
+
+pub bits_due-count-requires-clause-more : goal.bits_due-count-requires-clause-more
+bits_due-count-requires-clause-more c goes_on = not_yet c.fed.result (length c.args.bytes.now) c.args.self.sound.size _ c.requires.few goes_on c.fed.ensures (omega (arith, held_is c))
+
+pub segment_size-size-requires-clause-in_limit : goal.segment_size-size-requires-clause-in_limit
+segment_size-size-requires-clause-in_limit c = omega (arith, c.bits_due-count.ensures.inside, c.requires.ready.sound.in_limit)
+
+pub split_at-requires : goal.split_at-requires
+split_at-requires c = omega (arith, c.segment_size-size.ensures, c.bits_due-count.ensures.held, c.len.ensures, c.deref.ensures.len)
+
+pub push_native-requires-clause-size : goal.push_native-requires-clause-size
+push_native-requires-clause-size c = c.split_at.ensures.front_len ∙ c.segment_size-size.ensures
 
 -- what was appended before bytes were left out
 out_is : (c : After-drop_after) → c.push_native.new.out.items ≡ c.args.out.now.items ++ made_of c.args.self c.requires.ready c.args.bytes.now c.bits_due-count.result
@@ -70,3 +91,9 @@ returns c =
       frames = groups_whole r ready bytes k few;
       gives = gives_groups r ready bytes k few more (record { layout = r.layout; sound = s; group = r.group + c.bits_due-count.result / 32768; part = c.drop_after-2.new.held; skip = c.saturating_sub.result }) inside (omega (arith, c.bits_due-count.ensures.inside, bits)) refl group rest (omega (arith, c.saturating_sub.ensures, added));
     }
+
+pub returns-in_err-extend_from_slice : goal.returns-in_err-extend_from_slice
+returns-in_err-extend_from_slice c = no_value _ _ c.from_residual.result c.from_residual.ensures.1
+
+pub returns-in_err-push_native : goal.returns-in_err-push_native
+returns-in_err-push_native c = no_value _ _ c.from_residual-in_err-push_native.result c.from_residual-in_err-push_native.ensures.1

@@ -423,7 +423,7 @@ const NO_SPEAKERS: &str =
     "; no loudspeakers: an ID is none of theirs, or two channels have the same";
 
 const NO_MASK: &str =
-    "; with 16 bits and one or two channels a WAVE file names no loudspeakers, which are the usual ones";
+    "; with 16 bits and one or two channels a WAVE file can't name loudspeakers: players take the usual ones";
 
 const REST: &str = " has {c0} bits per channel, {n1} more than whole bytes: ";
 

@@ -23,10 +23,12 @@ pub(crate) const RECORDING: &str = "a recording";
 pub(crate) const CERTIFICATE: &str = "a certificate";
 
 // The first bytes of other kinds of files, from a place on.
-const KINDS: [(usize, &[u8], &str); 14] = [
+const KINDS: [(usize, &[u8], &str); 16] = [
     (0, b"DSD ", RECORDING),
     (0, b"DSPC", CERTIFICATE),
     (0, b"fLaC", "a FLAC file"),
+    (0, b"RF64", "an RF64 file"),
+    (0, b"BW64", "a BW64 file"),
     (8, b"WAVE", "a WAVE file"),
     (8, b"AIF", "an AIFF file"),
     (0, b"OggS", "an Ogg file"),
@@ -125,7 +127,9 @@ impl Line {
         let id = id_at(bytes, 0);
         self.say_id("it begins with {i0}", id, NONE);
         match kind_in(bytes) {
-            _ if id == *b"FRM8" => self.say_id(OTHER_FORM, id_at(bytes, 12), NONE),
+            _ if id == *b"FRM8" && !is_dsdiff(bytes) => {
+                self.say_id(OTHER_FORM, id_at(bytes, 12), NONE)
+            }
             "" => self.quote(", which no ", wanted, " does"),
             kind => {
                 self.quote(": ", kind, ", not a ");
@@ -135,9 +139,14 @@ impl Line {
     }
 }
 
+// Whether a file that begins with these bytes is a form of DSDIFF.
+fn is_dsdiff(front: &[u8; FRONT]) -> bool {
+    front.starts_with(b"FRM8") && front.ends_with(b"DSD ")
+}
+
 // The kind of a file that begins with these bytes, if it is known.
 fn kind_in(front: &[u8; FRONT]) -> &'static str {
-    if front.starts_with(b"FRM8") && front.ends_with(b"DSD ") {
+    if is_dsdiff(front) {
         return RECORDING;
     }
     for (place, bytes, kind) in &KINDS {

@@ -71,12 +71,12 @@ def keep(name: str) -> None:
 
 
 @contextlib.contextmanager
-def scratch(beside: str | None = None) -> Iterator[str]:
+def scratch(beside: str | None = None, prefix: str = ".dsdarc-script-") -> Iterator[str]:
     """A folder for the time of a block: in that for temporary files, or in another one."""
     folder = ""
     try:
         with unstopped():
-            folder = tempfile.mkdtemp(prefix=".dsdarc-script-", dir=beside)
+            folder = tempfile.mkdtemp(prefix=prefix, dir=beside)
             note(shutil.rmtree, folder)
         yield folder
     finally:

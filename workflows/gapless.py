@@ -96,23 +96,25 @@ def meet(one: channels.Sound | None, other: channels.Sound | None) -> bool:
     return (one.rate, one.count) == (other.rate, other.count) and (len(named) < 2 or named[0] == named[1])
 
 
-def folders_of(files: Iterable[tuple[str, dict[str, Any]]]) -> dict[str, list[tuple[str, str]]]:
+def folders_of(named: Iterable[tuple[str, str]]) -> list[list[tuple[str, str]]]:
     """Name and key of the files of each folder, in the order of their names."""
     found = dict[str, list[tuple[str, str]]]()
-    for key, entry in files:
-        found.setdefault(os.path.dirname(entry["name"]), []).append((entry["name"], key))
-    return {folder: sorted(named) for folder, named in found.items()}
+    for name, key in named:
+        found.setdefault(os.path.dirname(name), []).append((name, key))
+    return [sorted(it) for it in found.values()]
 
 
-def all_joined(archive: str, files: dict[str, dict[str, Any]]) -> tuple[dict[str, tuple[Joined, int]], list[str]]:
+def all_joined(
+    archive: str, files: dict[str, dict[str, Any]], refused: Iterable[str] = ()
+) -> tuple[dict[str, tuple[Joined, int]], list[str]]:
     """The recording that each file is a part of, by its key, and its number there; and the names of files that can't be
-    joined to the one before them."""
+    joined to the one before them. Those that are refused by their names alone have no key."""
     parts, apart = dict[str, tuple[Joined, int]](), []
-    for named in folders_of(files.items()).values():
+    for named in folders_of([*((it["name"], key) for key, it in files.items()), *((name, "") for name in refused)]):
         joined, last = Joined(), None
         for at, (name, key) in enumerate(named):
             path = os.path.join(archive, name)
-            sound = sound_of(path)
+            sound = sound_of(path) if key else None
             if at > 0 and not meet(last, sound):
                 apart.append(name)
                 joined = Joined()

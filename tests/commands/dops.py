@@ -69,6 +69,8 @@ REFUSED: tuple[tuple[bytes, str, str], ...] = (
     (b"", "NotWave", "it is empty"),
     (TWO[:11], "NotWave", "it has only 11 bytes"),
     (LEAST, "NotWave", 'it begins with "DSD ": a recording, not a WAVE file'),
+    (dsdiff(RATE, 1, b"\xff"), "NotWave", 'it begins with "FRM8": a recording, not a WAVE file'),
+    (b"RF64" + TWO[4:], "NotWave", 'it begins with "RF64": an RF64 file, not a WAVE file'),
     (TWO[:60], "NoData", 'it has no chunk "data": fetch it again'),
     (TWO[:67], "NoData", 'it has no chunk "data": fetch it again'),
     (TWO[:12] + TWO[60:], "NoFormat", NO_FORMAT),

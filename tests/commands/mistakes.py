@@ -721,7 +721,7 @@ IS_WAVE = (
     " is a WAVE file, whatever its name: play writes no other, but a pipe from OUT - to another program makes them"
 )
 NO_SPEAKERS = "; no loudspeakers: an ID is none of theirs, or two channels have the same"
-NO_MASK = "; with 16 bits and one or two channels a WAVE file names no loudspeakers, which are the usual ones"
+NO_MASK = "; with 16 bits and one or two channels a WAVE file can't name loudspeakers: players take the usual ones"
 PLAYED: tuple[Any, ...] = (
     ({}, "play p.toml in.dff out", ONE_FRAME),
     ({}, "play p.toml in.dff out.wav", ONE_FRAME),
